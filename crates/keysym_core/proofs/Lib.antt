@@ -1,0 +1,11 @@
+mod Examples
+pub mod Characters
+pub mod Digits
+pub mod Forms
+pub mod Headers
+pub mod Index
+pub mod Lines
+pub mod NextOf
+pub mod Rows
+pub mod Texts
+pub mod LineParts

@@ -1,0 +1,142 @@
+-- A header of names (the lines of keysymdef.h; which comments give a character is this project's profile).
+use Rattle.std.specs.Prelude.{◌≡◌, ℕ, ◌+◌, Bool, false, ◌&&◌, ◌||◌, not, ◌==◌, nat_le, nat_lt, if◌then◌else◌, List, [], ◌∷◌, ◌++◌, length, take, drop, Option, Some, None, is_some, Result, Ok, Err, bytes_eq, codes}
+use Rattle.std.specs.List.{position_or_len}
+use Rattle.std.specs.Option.{option_map, option_map_or}
+use Rattle.std.specs.Str.{is_utf8}
+use Rattle.keysym_core.specs.Keysym.{is_between, is_keysym}
+use Rattle.keysym_core.specs.Lines.{lines_of}
+use Rattle.keysym_core.specs.Names.{KeysymNames, row_value, value, is_hexadecimal_digit, is_hexadecimal, hexadecimal, is_control, is_surrogate}
+use Rattle.keysym_core.specs.Given.{with_character}
+use Rattle.keysym_core.specs.Core.{core_names}
+use Rattle.keysym_core.specs.declared.fault.NameFault.{NameFault}
+use Rattle.keysym_core.specs.declared.fault.NameFault.TheVariants.{NotUtf8, BadLine, ValueTooLarge, NameConflict, TooManyNames, NoMemory}
+
+-- ---- a line
+
+-- space, tab and carriage return
+abbrev pub is_blank : ℕ → Bool
+is_blank b = b == 32 || b == 9 || b == 13
+
+-- ASCII letters, digits and the underscore
+abbrev pub is_name_byte : ℕ → Bool
+is_name_byte b = is_between 97 122 b || is_between 65 90 b || is_between 48 57 b || b == 95
+
+-- how many bytes pass, up to the first that doesn't
+abbrev pub run_length : (ℕ → Bool) → List ℕ → ℕ
+run_length p bytes = position_or_len (λ b. not (p b)) bytes
+
+-- these bytes, and those behind them
+abbrev pub run : (ℕ → Bool) → List ℕ → List ℕ
+run p bytes = take (run_length p bytes) bytes
+
+abbrev pub behind_run : (ℕ → Bool) → List ℕ → List ℕ
+behind_run p bytes = drop (run_length p bytes) bytes
+
+abbrev pub begins_with : List ℕ → List ℕ → Bool
+begins_with start bytes = bytes_eq (take (length start) bytes) start
+
+-- what a line defines: `#define XK_`, the name, its value, and the character that its comment gives
+pub record Entry : Type 0 where
+  pub name : List ℕ
+  pub value : ℕ
+  pub character : Option ℕ
+
+-- a character that is no control
+abbrev pub graphic_character : ℕ → Option ℕ
+graphic_character c = if is_control c || is_surrogate c || nat_lt 0x10ffff c then None else Some c
+
+-- four to six digits behind `U+`, as many as there are
+abbrev pub numbered_character : List ℕ → Option ℕ
+numbered_character bytes =
+    let digits = run is_hexadecimal_digit (drop 2 bytes) in
+    if begins_with (codes "U+") bytes && is_hexadecimal 4 6 digits then graphic_character (hexadecimal digits) else None
+
+-- without one opening parenthesis (code 40)
+abbrev pub unparenthesized : List ℕ → List ℕ
+unparenthesized [] = []
+unparenthesized (b ∷ bytes) = if b == 40 then bytes else b ∷ bytes
+
+-- the character that the text of a comment gives
+abbrev pub noted_character : List ℕ → Option ℕ
+noted_character text = numbered_character (unparenthesized (behind_run is_blank text))
+
+-- the text of the comment that ends a line, empty where there is none
+abbrev pub comment_text : List ℕ → Option (List ℕ)
+comment_text rest = if length rest == 0 then Some [] else if begins_with (codes "/*") rest then Some (drop 2 rest) else None
+
+-- the value and what follows: `0x`, one to eight digits, blanks, and perhaps a comment
+abbrev pub valued : List ℕ → List ℕ → Option Entry
+valued name number =
+    let digits = run is_hexadecimal_digit (drop 2 number) in
+    let rest = behind_run is_hexadecimal_digit (drop 2 number) in
+    if begins_with (codes "0x") number && is_hexadecimal 1 8 digits
+    then option_map (λ text. record { name = name; value = hexadecimal digits; character = noted_character text }) (comment_text (behind_run is_blank rest))
+    else None
+
+-- the definition behind `#define XK_`: a name, blanks, and its value
+abbrev pub entry_of : List ℕ → Option Entry
+entry_of bytes =
+    let blanks = behind_run is_name_byte bytes in
+    if run_length is_name_byte bytes == 0 || run_length is_blank blanks == 0 then None else valued (run is_name_byte bytes) (behind_run is_blank blanks)
+
+-- ---- the names that lines give
+
+abbrev pub max_names : ℕ
+max_names = 16384
+
+-- the name looks up as another keysym already
+abbrev pub is_conflict : KeysymNames → List ℕ → ℕ → Bool
+is_conflict names name v = option_map_or (λ known. not (known == v)) (value names name) false
+
+-- the names with a name that the line n defines
+abbrev pub with_name : KeysymNames → ℕ → List ℕ → ℕ → Result KeysymNames NameFault
+with_name names n name v =
+    if is_conflict names name v then Err (NameConflict n) else
+    if is_some (row_value names.names name) then Ok names else
+    if nat_le max_names (length names.names) then Err TooManyNames else
+    Ok (record names { names = names.names ++ record { name = name; value = v } ∷ [] })
+
+-- and with the character that it gives
+abbrev pub with_noted : Result KeysymNames NameFault → ℕ → Option ℕ → Result KeysymNames NameFault
+with_noted (Err fault) v noted = Err fault
+with_noted (Ok names) v None = Ok names
+with_noted (Ok names) v (Some c) = Ok (record names { characters = with_character names.characters v c })
+
+-- the names with what the line n defines
+abbrev pub with_entry : KeysymNames → ℕ → Option Entry → Result KeysymNames NameFault
+with_entry names n None = Err (BadLine n)
+with_entry names n (Some entry) = if is_keysym entry.value then with_noted (with_name names n entry.name entry.value) entry.value entry.character else Err (ValueTooLarge n)
+
+abbrev pub define : List ℕ
+define = codes "#define XK_"
+
+-- the names with the text of the line n, which is skipped where it defines no keysym's name
+abbrev pub with_text : KeysymNames → ℕ → List ℕ → Result KeysymNames NameFault
+with_text names n line = if begins_with define line then with_entry names n (entry_of (drop (length define) line)) else Ok names
+
+-- the names with the line n
+abbrev pub with_line : KeysymNames → ℕ → List ℕ → Result KeysymNames NameFault
+with_line names n line = if is_utf8 line then with_text names n line else Err (NotUtf8 n)
+
+-- one line after another from the line n on, up to the first fault
+abbrev pub with_lines : Result KeysymNames NameFault → ℕ → List (List ℕ) → Result KeysymNames NameFault
+with_lines (Err fault) n lines = Err fault
+with_lines (Ok names) n [] = Ok names
+with_lines (Ok names) n (line ∷ lines) = with_lines (with_line names n line) (n + 1) lines
+
+-- the core names and those of a header, or the fault of its first faulty line
+abbrev pub names_of : List ℕ → Result KeysymNames NameFault
+names_of header = with_lines (Ok core_names) 1 (lines_of header)
+
+-- ---- what a call gives, want of memory aside
+
+abbrev pub NamesGives : Result KeysymNames NameFault → Result KeysymNames NameFault → Type 0
+NamesGives (Ok names) said = said ≡ Ok names
+NamesGives (Err NoMemory) said = Unit {0}
+NamesGives (Err fault) said = said ≡ Err fault
+
+-- the same of a call that changes the names
+abbrev pub ChangeGives : {A : Type 0} → Result A NameFault → KeysymNames → Result KeysymNames NameFault → Type 0
+ChangeGives (Ok x) after said = said ≡ Ok after
+ChangeGives (Err NoMemory) after said = Unit {0}
+ChangeGives (Err fault) after said = said ≡ Err fault

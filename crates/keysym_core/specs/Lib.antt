@@ -1,0 +1,9 @@
+pub mod Keysym
+pub mod Lines
+pub mod Names
+pub mod Core
+pub mod Printed
+pub mod Given
+pub mod Header
+pub mod Next
+pub mod Table

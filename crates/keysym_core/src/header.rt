@@ -1,0 +1,177 @@
+//! The lines of a header: what each of them defines.
+ghost use Rattle.std.specs.Prelude.{◌≡◌, ◌<◌, ◌≤◌, ◌∷◌, length, option_copied, position, not, ◌==◌, IfSome};
+ghost use Rattle.keysym_core.specs.Names.{is_hexadecimal_digit};
+ghost use Rattle.keysym_core.specs.Lines.{lines_of};
+ghost use Rattle.keysym_core.specs.Header as words;
+ghost use Rattle.keysym_core.specs.Header.{is_blank, is_name_byte, run_length};
+
+use crate::form::number_between;
+use std::marker::Model;
+use std::str;
+
+/// What a line defines: a name with its value, and the character that its comment gives.
+#[derive(Drop)]
+pub(crate) struct Entry<'a> {
+    pub name: &'a str,
+    pub value: u32,
+    pub character: Option<char>,
+}
+
+impl<'a> Model for Entry<'a> {
+    ghost use Rattle.keysym_core.specs.Header as words;
+
+    ghost Value = { words.Entry };
+
+    ghost view = { λ e. record { name = e.name.now; value = e.value; character = e.character } };
+}
+
+/// The first line, and what is behind its newline.
+pub(crate) fn first_line(bytes: &[u8]) -> (&[u8], &[u8])
+    requires { 0 < length bytes.now }
+    ensures lines { lines_of bytes.now ≡ result.0.now ∷ lines_of result.1.now }
+    ensures shorter { length result.1.now < length bytes.now }
+{
+    match newline_in(bytes) {
+        Some(end) => (&bytes[..end], &bytes[end + 1..]),
+        None => (bytes, &bytes[bytes.len()..]),
+    }
+}
+
+/// Where the first newline stands.
+fn newline_in(bytes: &[u8]) -> Option<usize>
+    ensures same { result ≡ position (λ b. b == 10) bytes.now }
+    ensures within { IfSome result (λ end. end < length bytes.now) }
+{
+    bytes.iter().position(|byte| *byte == b'\n')
+}
+
+/// The definition that stands behind `#define XK_`, if it is one. O(n) in the bytes.
+pub(crate) fn entry_of(bytes: &[u8]) -> Option<Entry<'_>>
+    ensures { result ≡ words.entry_of bytes.now }
+{
+    let name_length = name_length(bytes);
+    let (name, others) = bytes.split_at(name_length);
+    let blank_length = blank_length(others);
+    if name_length == 0 || blank_length == 0 {
+        return None;
+    }
+    valued(str::from_utf8(name).unwrap(), &others[blank_length..])
+}
+
+/// The value of a name and the character of the comment behind it.
+fn valued<'a>(name: &'a str, number: &[u8]) -> Option<Entry<'a>>
+    ensures { result ≡ words.valued name.now number.now }
+{
+    let digits_on = number.strip_prefix(b"0x")?;
+    let (digits, rest) = digits_on.split_at(digit_length(digits_on));
+    let value = number_between(1, 8, digits)?;
+    let text = comment_text(&rest[blank_length(rest)..])?;
+    Some(Entry {
+        name,
+        value,
+        character: noted_character(text),
+    })
+}
+
+/// The text of the comment that ends a line; empty without one, and none where something else stands there.
+fn comment_text(rest: &[u8]) -> Option<&[u8]>
+    ensures { option_copied result ≡ words.comment_text rest.now }
+{
+    if rest.is_empty() {
+        return Some(rest);
+    }
+    rest.strip_prefix(b"/*")
+}
+
+/// The character that the text of a comment gives, as in ` U+03B1 GREEK SMALL LETTER ALPHA `.
+fn noted_character(text: &[u8]) -> Option<char>
+    ensures { result ≡ words.noted_character text.now }
+{
+    let text = &text[blank_length(text)..];
+    numbered_character(text.strip_prefix(b"(").unwrap_or(text))
+}
+
+/// The character of four to six digits behind `U+`.
+fn numbered_character(bytes: &[u8]) -> Option<char>
+    ensures { result ≡ words.numbered_character bytes.now }
+{
+    let digits_on = bytes.strip_prefix(b"U+")?;
+    let digits = &digits_on[..digit_length(digits_on)];
+    graphic_character(number_between(4, 6, digits)?)
+}
+
+/// The character of a number; none for controls, surrogates and numbers above 10FFFF.
+fn graphic_character(number: u32) -> Option<char>
+    ensures { result ≡ words.graphic_character number }
+{
+    match number {
+        0..=0x1f | 0x7f..=0x9f => None,
+        _ => char::from_u32(number),
+    }
+}
+
+/// How many bytes of a name stand first.
+fn name_length(bytes: &[u8]) -> usize
+    ensures same { result ≡ run_length is_name_byte bytes.now }
+    ensures within { result ≤ length bytes.now }
+{
+    name_end(bytes).unwrap_or(bytes.len())
+}
+
+/// Where the first other byte stands.
+fn name_end(bytes: &[u8]) -> Option<usize>
+    ensures same { result ≡ position (λ b. not (is_name_byte b)) bytes.now }
+    ensures within { IfSome result (λ end. end < length bytes.now) }
+{
+    bytes.iter().position(|byte| !is_name_byte(*byte))
+}
+
+/// How many blanks stand first.
+fn blank_length(bytes: &[u8]) -> usize
+    ensures same { result ≡ run_length is_blank bytes.now }
+    ensures within { result ≤ length bytes.now }
+{
+    blank_end(bytes).unwrap_or(bytes.len())
+}
+
+/// Where the first other byte stands.
+fn blank_end(bytes: &[u8]) -> Option<usize>
+    ensures same { result ≡ position (λ b. not (is_blank b)) bytes.now }
+    ensures within { IfSome result (λ end. end < length bytes.now) }
+{
+    bytes.iter().position(|byte| !is_blank(*byte))
+}
+
+/// How many hexadecimal digits stand first.
+fn digit_length(bytes: &[u8]) -> usize
+    ensures same { result ≡ run_length is_hexadecimal_digit bytes.now }
+    ensures within { result ≤ length bytes.now }
+{
+    digit_end(bytes).unwrap_or(bytes.len())
+}
+
+/// Where the first other byte stands.
+fn digit_end(bytes: &[u8]) -> Option<usize>
+    ensures same { result ≡ position (λ b. not (is_hexadecimal_digit b)) bytes.now }
+    ensures within { IfSome result (λ end. end < length bytes.now) }
+{
+    bytes.iter().position(|byte| !is_hexadecimal_digit(*byte))
+}
+
+fn is_name_byte(byte: u8) -> bool
+    ensures { result ≡ is_name_byte byte }
+{
+    matches!(byte, b'a'..=b'z' | b'A'..=b'Z' | b'0'..=b'9' | b'_')
+}
+
+fn is_blank(byte: u8) -> bool
+    ensures { result ≡ is_blank byte }
+{
+    matches!(byte, b' ' | b'\t' | b'\r')
+}
+
+fn is_hexadecimal_digit(byte: u8) -> bool
+    ensures { result ≡ is_hexadecimal_digit byte }
+{
+    byte.is_ascii_hexdigit()
+}

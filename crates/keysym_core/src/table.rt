@@ -1,0 +1,177 @@
+//! The rows of names and characters, with an index by value.
+ghost use Rattle.std.specs.Prelude.{◌≡◌, ◌∷◌, [], ◌++◌, map, OnOk, IfOk, IsTrue, Some, None, List, ℕ, IfSome, option_copied, option_map, slice_get, true, filter, length};
+ghost use Rattle.keysym_core.specs.Names.{row_value, first_character, value, form_value};
+ghost use Rattle.keysym_core.specs.Given.{HasCountingRows, AreKeysyms, counts, is_fixed, with_character};
+ghost use Rattle.keysym_core.specs.Printed.{first_name};
+ghost use Rattle.keysym_core.specs.Table.{character_rows, is_addable, are_addable, place_from, FirstNamesLookUp, agrees_with_form};
+ghost use Rattle.std.specs.List.{list_all};
+
+use crate::character_index::CharacterEntry;
+use crate::keysym::Keysym;
+use indexmap::IndexMap;
+use std::alloc::{AllocError, Global};
+use std::marker::Model;
+
+/// Names with their values and keysyms with the characters given to them, each in the order in which they came.
+#[derive(Drop)]
+pub(crate) struct NameTable {
+    names: IndexMap<String, Keysym>,
+    /// The place in `names` of the first name of each value.
+    places: IndexMap<Keysym, usize>,
+    characters: IndexMap<Keysym, char>,
+}
+
+impl Model for NameTable {
+    ghost use Rattle.keysym_core.specs.Names.{KeysymNames};
+    ghost use Rattle.keysym_core.specs.Table.{name_rows, character_rows, IsTable};
+
+    ghost Value = { KeysymNames };
+
+    ghost view = { λ t. record { names = name_rows t.names.entries; characters = character_rows t.characters.entries } };
+
+    ghost invariant = { λ t. IsTable t.places.entries (name_rows t.names.entries) (character_rows t.characters.entries) };
+}
+
+impl NameTable {
+    /// The most names.
+    pub(crate) const MOST: usize = 16384;
+
+    /// How many names there are. O(1).
+    pub(crate) fn count(&self) -> usize
+        ensures { result ≡ length self.now.names }
+    {
+        self.names.len()
+    }
+
+    /// No names. Takes no memory.
+    fn new(alloc: Global) -> NameTable
+        ensures { result ≡ record { names = []; characters = [] } }
+    {
+        NameTable {
+            names: IndexMap::new(alloc),
+            places: IndexMap::new(alloc),
+            characters: IndexMap::new(alloc),
+        }
+    }
+
+    /// These names with their values. O(n) in the names.
+    pub(crate) fn of_rows(alloc: Global, rows: &[(&str, u32)]) -> Result<NameTable, AllocError>
+        requires { IsTrue (are_addable [] (map (λ r. record { name = r.0.now; value = r.1 }) rows.now)) }
+        ensures { IfOk result (λ table. table ≡ record { names = map (λ r. record { name = r.0.now; value = r.1 }) rows.now; characters = [] }) }
+    {
+        let mut table = NameTable::new(alloc);
+        for (name, value) in rows {
+            let keysym = Keysym::new(*value).unwrap();
+            table.add_name(name, keysym)?;
+        }
+        Ok(table)
+    }
+
+    /// The value of the row with this name. O(1).
+    pub(crate) fn row_value(&self, name: &str) -> Option<Keysym>
+        ensures { result ≡ row_value self.now.names name.now }
+    {
+        self.names.get(name).copied()
+    }
+
+    /// The character that is given to a keysym. O(1).
+    pub(crate) fn given_character(&self, keysym: Keysym) -> Option<char>
+        ensures { result ≡ first_character self.now.characters keysym }
+    {
+        self.characters.get(&keysym).copied()
+    }
+
+    /// The first name in the order of the rows with this value. It looks up as that value; where there is none, a form of the keysym does. O(1).
+    pub(crate) fn first_name(&self, keysym: Keysym) -> Option<&str>
+        ensures same { option_copied result ≡ first_name self.now.names keysym }
+        ensures found { IfSome result (λ name. value self.now name.now ≡ Some keysym) }
+        ensures forms { (n : List ℕ) → form_value n ≡ Some keysym → value self.now n ≡ Some keysym }
+    {
+        let place = self.first_place(keysym)?;
+        self.name_at(place)
+    }
+
+    /// The place of the first row with this value. O(1).
+    fn first_place(&self, keysym: Keysym) -> Option<usize>
+        ensures same { result ≡ place_from keysym 0 self.now.names }
+        ensures first_names { FirstNamesLookUp self.now.names }
+        ensures agree { list_all agrees_with_form self.now.names ≡ true }
+    {
+        self.places.get(&keysym).copied()
+    }
+
+    /// The name of the row at a place. O(1).
+    fn name_at(&self, place: usize) -> Option<&str>
+        ensures { option_copied result ≡ option_map (λ row. row.name) (slice_get self.now.names place) }
+    {
+        let (name, _) = self.names.get_index(place)?;
+        Some(name.as_str())
+    }
+
+    /// The rows that count for texts. O(n) in the rows.
+    pub(crate) fn counting_entries(&self, alloc: Global) -> Result<Vec<CharacterEntry>, AllocError>
+        ensures counting { IfOk result (λ entries. HasCountingRows entries.items self.now.characters) }
+        ensures keysyms { IfOk result (λ entries. AreKeysyms entries.items) }
+    {
+        counting_rows(alloc, &self.characters)
+    }
+
+    /// Gives a keysym a character, if it has none yet. O(1).
+    pub(crate) fn give_character(
+        &mut self,
+        keysym: Keysym,
+        character: char,
+    ) -> Result<(), AllocError>
+        ensures { OnOk result (self.new ≡ record self.old { characters = with_character self.old.characters keysym character }) }
+    {
+        if self.given_character(keysym).is_some() {
+            return Ok(());
+        }
+        prove!(keysym.value() <= Keysym::GREATEST);
+        self.characters.insert(keysym, character)?;
+        Ok(())
+    }
+
+    /// Puts a new name behind the others. O(1).
+    pub(crate) fn add_name(&mut self, name: &str, value: Keysym) -> Result<(), AllocError>
+        requires { IsTrue (is_addable self.old.names (record { name = name.now; value = value })) }
+        ensures { OnOk result (self.new ≡ record self.old { names = self.old.names ++ record { name = name.now; value = value } ∷ [] }) }
+    {
+        let alloc = *self.names.allocator();
+        let place = self.names.len();
+        let kept = String::from_str(alloc, name)?;
+        self.places.reserve(1)?;
+        self.names.insert(kept, value)?;
+        if self.places.get(&value).is_none() {
+            self.places.insert(value, place)?;
+        }
+        Ok(())
+    }
+}
+
+/// The rows that count for texts.
+fn counting_rows(
+    alloc: Global,
+    characters: &IndexMap<Keysym, char>,
+) -> Result<Vec<CharacterEntry>, AllocError>
+    ensures { IfOk result (λ entries. entries.items ≡ filter counts (character_rows characters.now.entries)) }
+{
+    characters
+        .iter()
+        .map(|(value, character)| CharacterEntry {
+            value: *value,
+            character: *character,
+        })
+        .filter(|entry| !is_fixed(entry.value))
+        .collect(alloc)
+}
+
+/// Whether a keysym's text is fixed, whatever a header gives it.
+fn is_fixed(keysym: Keysym) -> bool
+    ensures { result ≡ is_fixed keysym }
+{
+    matches!(
+        keysym.value(),
+        0x20..=0x7e | 0xa0..=0xff | 0x0100_0100..=0x0110_ffff | 0xffb0..=0xffb9
+    )
+}
