@@ -1,0 +1,63 @@
+-- A loop that reads the events behind the first one: the events so far stand before those of the rest.
+use Rattle.std.proofs.Common.{◌≡◌, ℕ, suc, zero, ◌+◌, ◌-◌, ◌<◌, ◌≤◌, List, [], ◌∷◌, ◌++◌, refl, sym, ◌∙◌, ap, arith}
+use Rattle.std.specs.Prelude.{Result, Ok, Err}
+use Rattle.std.proofs.lemmas.List.{append_assoc}
+use Rattle.compose_lex.specs.Fault.{◌>>=◌, skip_blanks, colon_or, event_at, events_at}
+use Rattle.compose_lex.specs.Steps.{with_front}
+use Rattle.compose_lex.specs.declared.LexFault.{LexFault}
+use Rattle.compose_lex.specs.declared.LexFault.TheVariants.{TooManyKeysyms}
+
+abbrev Reads : Type 0
+Reads = List ℕ → Result (List (List ℕ) × List ℕ) LexFault
+
+-- the colon ends the events
+pub events_end : (n left : ℕ) (rest behind : List ℕ) → ((event : Reads) → colon_or n (skip_blanks rest) event ≡ Ok ([], behind)) → events_at n left rest ≡ Ok ([], behind)
+unfolding events_at
+events_end n zero rest behind h = h (λ _. Err TooManyKeysyms)
+events_end n (suc left) rest behind h = h (λ rest. event_at n rest >>= λ event. events_at n left event.1 >>= λ more. Ok (event.0 ∷ more.0, more.1))
+
+-- neither the colon nor a further event
+pub events_fault : (n left : ℕ) (rest : List ℕ) (fault : LexFault) → ((event : Reads) → colon_or n (skip_blanks rest) event ≡ Err fault) → events_at n left rest ≡ Err fault
+unfolding events_at
+events_fault n zero rest fault h = h (λ _. Err TooManyKeysyms)
+events_fault n (suc left) rest fault h = h (λ rest. event_at n rest >>= λ event. events_at n left event.1 >>= λ more. Ok (event.0 ∷ more.0, more.1))
+
+-- an event too many
+pub events_full : (n : ℕ) (rest behind : List ℕ) → ((event : Reads) → colon_or n (skip_blanks rest) event ≡ event behind) → events_at n 0 rest ≡ Err TooManyKeysyms
+unfolding events_at
+events_full n rest behind h = h (λ _. Err TooManyKeysyms)
+
+-- a further event that is none
+pub events_broken : (n left : ℕ) (rest behind : List ℕ) (fault : LexFault) → ((event : Reads) → colon_or n (skip_blanks rest) event ≡ event behind) → event_at n behind ≡ Err fault → events_at n (suc left) rest ≡ Err fault
+unfolding events_at
+events_broken n left rest behind fault h e = h (λ rest. event_at n rest >>= λ event. events_at n left event.1 >>= λ more. Ok (event.0 ∷ more.0, more.1))
+    ∙ ap (λ r. r >>= λ event. events_at n left event.1 >>= λ more. Ok (event.0 ∷ more.0, more.1)) e
+
+put_event : (front : List (List ℕ)) (name : List ℕ) (r : Result (List (List ℕ) × List ℕ) LexFault) → with_front front (r >>= λ more. Ok (name ∷ more.0, more.1)) ≡ with_front (front ++ name ∷ []) r
+put_event front name (Ok more) = ap (λ x. let r : Result (List (List ℕ) × List ℕ) LexFault = Ok (x, more.1) in r) (sym (append_assoc front (name ∷ []) more.0))
+put_event front name (Err e) = refl
+
+-- a further event
+pub events_more : (n left : ℕ) (front : List (List ℕ)) (rest behind name after : List ℕ) → ((event : Reads) → colon_or n (skip_blanks rest) event ≡ event behind) → event_at n behind ≡ Ok (name, after)
+    → with_front front (events_at n (suc left) rest) ≡ with_front (front ++ name ∷ []) (events_at n left after)
+unfolding events_at
+events_more n left front rest behind name after h e =
+    ap (with_front front) (h (λ rest. event_at n rest >>= λ event. events_at n left event.1 >>= λ more. Ok (event.0 ∷ more.0, more.1))
+    ∙ ap (λ r. r >>= λ event. events_at n left event.1 >>= λ more. Ok (event.0 ∷ more.0, more.1)) e) ∙ put_event front name (events_at n left after)
+
+-- the same, with the number of events that may still come
+pub one_more : (n count : ℕ) (front : List (List ℕ)) (rest behind name after : List ℕ) → count < 32 → ((event : Reads) → colon_or n (skip_blanks rest) event ≡ event behind) → event_at n behind ≡ Ok (name, after)
+    → with_front front (events_at n (32 - count) rest) ≡ with_front (front ++ name ∷ []) (events_at n (32 - (count + 1)) after)
+one_more n count front rest behind name after few h e =
+    let left : 32 - count ≡ suc (32 - (count + 1)) = omega arith in
+    ap (λ x. with_front front (events_at n x rest)) left ∙ events_more n (32 - (count + 1)) front rest behind name after h e
+
+pub one_broken : (n count : ℕ) (rest behind : List ℕ) (fault : LexFault) → count < 32 → ((event : Reads) → colon_or n (skip_blanks rest) event ≡ event behind) → event_at n behind ≡ Err fault → events_at n (32 - count) rest ≡ Err fault
+one_broken n count rest behind fault few h e =
+    let left : 32 - count ≡ suc (32 - (count + 1)) = omega arith in
+    ap (λ x. events_at n x rest) left ∙ events_broken n (32 - (count + 1)) rest behind fault h e
+
+pub one_too_many : (n count : ℕ) (rest behind : List ℕ) → 32 ≤ count → ((event : Reads) → colon_or n (skip_blanks rest) event ≡ event behind) → events_at n (32 - count) rest ≡ Err TooManyKeysyms
+one_too_many n count rest behind many h =
+    let left : 32 - count ≡ 0 = omega arith in
+    ap (λ x. events_at n x rest) left ∙ events_full n rest behind h

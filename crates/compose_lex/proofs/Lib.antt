@@ -1,0 +1,15 @@
+pub mod Examples
+pub mod Runs
+pub mod Scans
+pub mod Firsts
+pub mod Strings
+pub mod Events
+pub mod Codes
+pub mod EscapeRead
+pub mod Decodes
+pub mod TextChecks
+pub mod QuoteRuns
+pub mod LineRead
+pub mod LineSaid
+pub mod IncludeWord
+pub mod TextRead

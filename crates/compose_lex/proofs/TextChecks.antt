@@ -1,0 +1,67 @@
+-- The bytes of a raw text, checked for being a text.
+use Rattle.std.proofs.Common.{◌≡◌, ℕ, ◌+◌, ◌≤◌, List, [], ◌∷◌, length, Bool, true, false, cond, nat_lt, refl, sym, ◌∙◌, ap, subst, arith}
+use Rattle.std.specs.Prelude.{◌==◌, Result, Ok, Err, IfOk}
+use Rattle.std.specs.List.{list_any}
+use Rattle.std.specs.Str.{IsUtf8, is_utf8}
+use Rattle.std.proofs.lemmas.Bool.{or_parts, false_from_ne_true}
+use Rattle.std.proofs.lemmas.Str.{is_utf8-from_IsUtf8, IsUtf8-from_is_utf8}
+use Rattle.std.proofs.lemmas.List.{take_all}
+use Rattle.compose_lex.specs.Escape.{bytes_from, text_or, text_of, Unescapes, IsText}
+use Rattle.compose_lex.specs.Lexed.{Is}
+use Rattle.compose_lex.specs.Steps.{len_check, IsDecoded}
+use Rattle.compose_lex.specs.declared.LexFault.{LexFault}
+use Rattle.compose_lex.specs.declared.LexFault.TheVariants.{EmptyText, TextTooLong, TextNotUtf8}
+use Rattle.compose_lex.proofs.TextRead.{text_said}
+
+-- bytes without a backslash stand for themselves
+pub no_escape : (at : ℕ) (raw : List ℕ) → list_any (λ b. b == 92) raw ≡ false → bytes_from at 0 raw ≡ Ok raw
+no_escape at [] h = refl
+no_escape at (b ∷ rest) h =
+    let parts = or_parts (b == 92) (list_any (λ b. b == 92) rest) h in
+    rw (parts.0, no_escape (1 + at) rest parts.1) refl
+
+-- ---- the length is looked at first, and UTF-8 then
+
+by_length : (bytes : List ℕ) (r : Result (Unit {0}) LexFault) → len_check (length bytes) ≡ r → text_or (Ok bytes) ≡ (elim r as (λ _. Result (List ℕ) LexFault) [ Ok x ↦ cond (is_utf8 bytes) (Ok bytes) (Err TextNotUtf8) | Err e ↦ Err e ])
+by_length bytes r h = go (length bytes == 0) (nat_lt 255 (length bytes)) r h
+  where
+    go : (x y : Bool) (r : Result (Unit {0}) LexFault) → cond {A = Result (Unit {0}) LexFault} x (Err EmptyText) (cond {A = Result (Unit {0}) LexFault} y (Err TextTooLong) (Ok tt)) ≡ r
+        → cond {A = Result (List ℕ) LexFault} x (Err EmptyText) (cond {A = Result (List ℕ) LexFault} y (Err TextTooLong) (cond (is_utf8 bytes) (Ok bytes) (Err TextNotUtf8))) ≡ (elim r as (λ _. Result (List ℕ) LexFault) [ Ok x ↦ cond (is_utf8 bytes) (Ok bytes) (Err TextNotUtf8) | Err e ↦ Err e ])
+    go true y (Ok u) h = cc
+    go true y (Err e) h = let same : EmptyText ≡ e = cc in ap (λ f. let r : Result (List ℕ) LexFault = Err f in r) same
+    go false true (Ok u) h = cc
+    go false true (Err e) h = let same : TextTooLong ≡ e = cc in ap (λ f. let r : Result (List ℕ) LexFault = Err f in r) same
+    go false false (Ok u) h = refl
+    go false false (Err e) h = cc
+
+pub bad_length : (bytes : List ℕ) (e : LexFault) → len_check (length bytes) ≡ Err e → text_or (Ok bytes) ≡ Err e
+bad_length bytes e h = by_length bytes (Err e) h
+
+pub right_text : (bytes : List ℕ) (u : Unit {0}) → len_check (length bytes) ≡ Ok u → IsUtf8 bytes → text_or (Ok bytes) ≡ Ok bytes
+right_text bytes u h t = by_length bytes (Ok u) h ∙ ap (λ b. cond {A = Result (List ℕ) LexFault} b (Ok bytes) (Err TextNotUtf8)) (is_utf8-from_IsUtf8 bytes t)
+
+pub not_text : (bytes : List ℕ) (u : Unit {0}) → len_check (length bytes) ≡ Ok u → (IsUtf8 bytes → ⊥) → text_or (Ok bytes) ≡ Err TextNotUtf8
+not_text bytes u h t = by_length bytes (Ok u) h ∙ ap (λ b. cond {A = Result (List ℕ) LexFault} b (Ok bytes) (Err TextNotUtf8)) (false_from_ne_true (is_utf8 bytes) (λ e. t (IsUtf8-from_is_utf8 bytes e)))
+
+-- ---- what was decoded
+
+pub decoded_fault : (raw items bytes : List ℕ) (len : ℕ) (e : LexFault) → items ≡ raw → bytes_from 0 0 items ≡ Ok bytes → len ≡ length bytes → len_check len ≡ Err e → text_of raw ≡ Err e
+decoded_fault raw items bytes len e same read is h = ap text_of (sym same) ∙ ap text_or read ∙ bad_length bytes e (ap len_check (sym is) ∙ h)
+
+all_kept : (kept bytes : List ℕ) (len : ℕ) → IsDecoded kept len bytes → len ≤ 255 → kept ≡ bytes
+all_kept kept bytes len d few = d.0 ∙ take_all 255 bytes (let l = d.1 in omega arith)
+
+pub decoded_text : (raw items bytes kept : List ℕ) (len : ℕ) (u : Unit {0}) → items ≡ raw → bytes_from 0 0 items ≡ Ok bytes → IsDecoded kept len bytes → len_check len ≡ Ok u → len ≤ 255 → IsUtf8 kept → text_of raw ≡ Ok kept
+decoded_text raw items bytes kept len u same read d h few t =
+    let all = all_kept kept bytes len d few in
+    ap text_of (sym same) ∙ ap text_or read ∙ right_text bytes u (ap len_check (sym d.1) ∙ h) (subst IsUtf8 all t) ∙ ap (λ x. let r : Result (List ℕ) LexFault = Ok x in r) (sym all)
+
+pub decoded_other : (raw items bytes kept : List ℕ) (len : ℕ) (u : Unit {0}) → items ≡ raw → bytes_from 0 0 items ≡ Ok bytes → IsDecoded kept len bytes → len_check len ≡ Ok u → len ≤ 255 → (IsUtf8 kept → ⊥) → text_of raw ≡ Err TextNotUtf8
+decoded_other raw items bytes kept len u same read d h few t =
+    let all = all_kept kept bytes len d few in
+    ap text_of (sym same) ∙ ap text_or read ∙ not_text bytes u (ap len_check (sym d.1) ∙ h) (λ v. t (subst IsUtf8 (sym all) v))
+
+-- what is given is what the raw text stands for
+pub found_text : {X : Type 0} (view : X → List ℕ) (r : Result X LexFault) (raw : List ℕ) → Is view r (text_of raw) → IfOk r (λ x. Unescapes raw (view x) × IsText (view x))
+found_text view (Ok x) raw h = text_said raw (view x) h
+found_text view (Err e) raw h = tt

@@ -1,0 +1,5 @@
+pub mod Line
+pub mod Fault
+pub mod Escape
+pub mod Lexed
+pub mod Steps

@@ -1,0 +1,49 @@
+-- What the steps of the lexer give: values of the code beside the parts of the fault's definition.
+use Rattle.std.specs.Prelude.{◌≡◌, ◌==◌, nat_lt, if◌then◌else◌, ℕ, List, [], ◌∷◌, ◌++◌, length, take, drop, Option, Some, None, Result, Ok, Err}
+use Rattle.compose_lex.specs.Fault.{colon_or}
+use Rattle.compose_lex.specs.Escape.{escape, escape_len, piece, first_len}
+use Rattle.compose_lex.specs.declared.LexFault.{LexFault}
+use Rattle.compose_lex.specs.declared.LexFault.TheVariants.{EmptyText, TextTooLong}
+use Rattle.compose_lex.specs.declared.lexer.Next.{Next}
+use Rattle.compose_lex.specs.declared.lexer.Next.TheVariants.{Colon, Event}
+
+-- events put before those that a reading gives
+abbrev pub with_front : List (List ℕ) → Result (List (List ℕ) × List ℕ) LexFault → Result (List (List ℕ) × List ℕ) LexFault
+with_front front (Ok x) = Ok (front ++ x.0, x.1)
+with_front front (Err e) = Err e
+
+-- how a reading goes on behind an event: it ends at the colon, or the next event is read
+abbrev pub follow : Next → (List ℕ → Result (List (List ℕ) × List ℕ) LexFault) → Result (List (List ℕ) × List ℕ) LexFault
+follow (Colon rest) event = Ok ([], rest.now)
+follow (Event rest) event = event rest.now
+
+-- what stands next is what the definition finds next, whichever way events are read
+abbrev pub IsNext : Result Next LexFault → ℕ → List ℕ → Type 0
+IsNext (Ok next) n rest = (event : List ℕ → Result (List (List ℕ) × List ℕ) LexFault) → colon_or n rest event ≡ follow next event
+IsNext (Err e) n rest = (event : List ℕ → Result (List (List ℕ) × List ℕ) LexFault) → colon_or n rest event ≡ Err e
+
+-- bytes put before those that a reading gives
+abbrev pub with_bytes : List ℕ → Result (List ℕ) LexFault → Result (List ℕ) LexFault
+with_bytes done (Ok bytes) = Ok (done ++ bytes)
+with_bytes done (Err e) = Err e
+
+-- the first 255 of these bytes, and how many they are
+abbrev pub IsDecoded : List ℕ → ℕ → List ℕ → Type 0
+IsDecoded kept len bytes = (kept ≡ take 255 bytes) × (len ≡ length bytes)
+
+-- what the bytes of an escape stand for, behind its backslash
+abbrev pub escape_byte : List ℕ → Option ℕ
+escape_byte rest = escape (take (escape_len rest) rest) (drop (escape_len rest) rest)
+
+-- what the piece of this first byte stands for
+abbrev pub piece_byte : ℕ → List ℕ → Option ℕ
+piece_byte b rest = let len = first_len (b ∷ rest) in piece (b ∷ take len rest) (drop len rest)
+
+-- the answer is the byte there is with the bytes that it took, or the fault where there is none
+abbrev pub IsByte : Option ℕ → ℕ → LexFault → Result (ℕ × ℕ) LexFault → Type 0
+IsByte byte len fault (Ok x) = (byte ≡ Some x.0) × (x.1 ≡ len)
+IsByte byte len fault (Err e) = (byte ≡ None) × (e ≡ fault)
+
+-- a text has 1 to 255 bytes
+abbrev pub len_check : ℕ → Result (Unit {0}) LexFault
+len_check len = if len == 0 then Err EmptyText else if nat_lt 255 len then Err TextTooLong else Ok tt

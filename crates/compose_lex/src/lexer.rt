@@ -1,0 +1,168 @@
+//! A line, read token by token from the left; the first place where no needed token begins is its fault.
+ghost use Rattle.std.specs.Prelude.{◌≡◌, ◌∷◌, ℕ, List, [], map, option_copied, drop, false, true, IfOk, MatchOption};
+ghost use Rattle.std.specs.Char.{is_ascii_alphabetic};
+ghost use Rattle.compose_lex.specs.Line.{IsLine};
+ghost use Rattle.compose_lex.specs.Fault as fault;
+ghost use Rattle.compose_lex.specs.Lexed.{reading, Is};
+ghost use Rattle.compose_lex.specs.Steps.{with_front, IsNext};
+
+use crate::token::{byte_at, end_at, name_at, offset, skip_blanks, split_name, string_at};
+use crate::{LexFault, Line, law_right_reading};
+use arrayvec::ArrayVec;
+
+/// What stands behind an event: the colon, or the `<` of a further event; with what stands behind it.
+#[derive(Clone, Copy, Debug, Drop)]
+pub(crate) enum Next<'a> {
+    Colon(&'a str),
+    Event(&'a str),
+}
+
+/// The events of a production, and what stands behind its colon.
+type Events<'a> = (ArrayVec<&'a str, 32>, &'a str);
+
+/// The result of a production: its raw text, the name of its keysym, and what stands behind them.
+type Outcome<'a> = (Option<&'a str>, Option<&'a str>, &'a str);
+
+/// Where an event may begin and none does: `!`, `~` or a letter begins a modifier list.
+fn event_fault(line_len: usize, rest: &str) -> LexFault
+    ensures { result ≡ fault.event_fault line_len rest.now }
+{
+    let at = offset(line_len, rest);
+    match rest.as_bytes().first() {
+        Some(byte) if *byte == b'!' || *byte == b'~' || byte.is_ascii_alphabetic() => {
+            LexFault::ModifierList { at }
+        }
+        _ => LexFault::BadToken { at },
+    }
+}
+
+/// A name and `>`, behind a `<`; and what stands behind them.
+fn event_at(line_len: usize, rest: &str) -> Result<(&str, &str), LexFault>
+    ensures { Is (λ x. (x.0.now, x.1.now)) result (fault.event_at line_len rest.now) }
+{
+    let (name, rest) = name_at(line_len, skip_blanks(rest))?;
+    let rest = byte_at(line_len, b'>', skip_blanks(rest))?;
+    Ok((name, rest))
+}
+
+/// The colon or a further event.
+fn next_at(line_len: usize, rest: &str) -> Result<Next<'_>, LexFault>
+    ensures { IsNext result line_len rest.now }
+{
+    match rest.as_bytes().first() {
+        Some(b':') => Ok(Next::Colon(&rest[1..])),
+        Some(b'<') => Ok(Next::Event(&rest[1..])),
+        Some(_) => Err(event_fault(line_len, rest)),
+        None => Err(LexFault::BadToken { at: line_len }),
+    }
+}
+
+/// The events behind the first one, up to the colon. O(bytes).
+fn events_at<'a>(
+    line_len: usize,
+    first: &'a str,
+    behind_first: &'a str,
+) -> Result<Events<'a>, LexFault>
+    ensures { Is (λ x. (map (λ e. e.now) x.0.items, x.1.now)) result (with_front (first.now ∷ []) (fault.events_at line_len 31 behind_first.now)) }
+{
+    let mut events = ArrayVec::new();
+    events.push(first);
+    let mut rest = behind_first;
+    loop {
+        match next_at(line_len, skip_blanks(rest))? {
+            Next::Colon(behind) => return Ok((events, behind)),
+            Next::Event(_) if events.is_full() => return Err(LexFault::TooManyKeysyms),
+            Next::Event(behind) => {
+                let (name, behind) = event_at(line_len, behind)?;
+                events.push(name);
+                rest = behind;
+            }
+        }
+    }
+}
+
+/// Perhaps a name, and what stands behind it.
+fn name_if(rest: &str) -> (Option<&str>, &str)
+    ensures name { option_copied result.0 ≡ (fault.name_if rest.now).0 }
+    ensures rest { result.1.now ≡ (fault.name_if rest.now).1 }
+{
+    let (name, behind) = split_name(rest);
+    if name.is_empty() {
+        return (None, rest);
+    }
+    (Some(name), behind)
+}
+
+/// A string, a name, or a string and a name.
+fn result_at(line_len: usize, rest: &str) -> Result<Outcome<'_>, LexFault>
+    ensures { Is (λ x. (option_copied x.0, option_copied x.1, x.2.now)) result (fault.result_at line_len rest.now) }
+{
+    match rest.as_bytes().first() {
+        None | Some(b'#') => Err(LexFault::NoResult),
+        Some(b'"') => {
+            let (raw, rest) = string_at(line_len, &rest[1..])?;
+            let (name, rest) = name_if(skip_blanks(rest));
+            Ok((Some(raw), name, rest))
+        }
+        Some(_) => {
+            let (name, rest) = name_at(line_len, rest)?;
+            Ok((None, Some(name), rest))
+        }
+    }
+}
+
+/// A production, behind its first `<`.
+fn production_at(line_len: usize, rest: &str) -> Result<Line<'_>, LexFault>
+    ensures { Is reading result (fault.production_at line_len rest.now) }
+{
+    let (first, rest) = event_at(line_len, rest)?;
+    let (events, rest) = events_at(line_len, first, rest)?;
+    let (raw_text, result_name, rest) = result_at(line_len, skip_blanks(rest))?;
+    end_at(line_len, skip_blanks(rest))?;
+    Ok(Line::Production {
+        events,
+        raw_text,
+        result_name,
+    })
+}
+
+/// An include, behind its word.
+fn include_at(line_len: usize, rest: &str) -> Result<Line<'_>, LexFault>
+    ensures { Is reading result (fault.include_at line_len rest.now) }
+{
+    let rest = byte_at(line_len, b'"', skip_blanks(rest))?;
+    let (raw, rest) = string_at(line_len, rest)?;
+    end_at(line_len, skip_blanks(rest))?;
+    Ok(Line::Include(raw))
+}
+
+/// What stands behind the word `include` at the front, which no letter, digit or underscore follows.
+fn behind_include(rest: &str) -> Option<&str>
+    ensures { MatchOption result (fault.is_include rest.now ≡ false) (λ behind. (fault.is_include rest.now ≡ true) × (behind.now ≡ drop 7 rest.now)) }
+{
+    let (word, behind) = split_name(rest);
+    (word == "include").then_some(behind)
+}
+
+/// A line, behind its first blanks.
+fn reading_at(line_len: usize, rest: &str) -> Result<Line<'_>, LexFault>
+    ensures { Is reading result (fault.reading_at line_len rest.now) }
+{
+    match rest.as_bytes().first() {
+        None | Some(b'#') => Ok(Line::Blank),
+        Some(b'<') => production_at(line_len, &rest[1..]),
+        Some(_) => match behind_include(rest) {
+            Some(behind) => include_at(line_len, behind),
+            None => Err(event_fault(line_len, rest)),
+        },
+    }
+}
+
+/// What the line says, or its fault; its tokens are slices of the line. Takes no memory. O(bytes).
+pub fn lex_line<'a>(line: &'a str) -> Result<Line<'a>, LexFault>
+    ensures exact { Is reading result (fault.reading_of line.now) }
+    ensures found { IfOk result (λ said. IsLine line.now (reading said)) }
+{
+    law_right_reading();
+    reading_at(line.len(), skip_blanks(line))
+}

@@ -1,0 +1,124 @@
+//! One line of a Compose file, the escapes of its texts, and quoting.
+//!
+//! `lex_line` gives what a line says by the grammar, each token a slice of the line, or the fault of the first place
+//! from the left where no needed token begins; it takes no memory. So
+//! `<Multi_key> <apostrophe> <e> : "é" eacute # e acute` is a production of three events with the raw text `é` and the
+//! result name `eacute`, and `Ctrl<a> : "x"` is a modifier list at 0. A raw text is the string as it stands; `unescape`
+//! and, without memory, `read_text` give the text that it stands for, or the leftmost bad escape. `quote` prints a text
+//! in quotes, and what stands between these stands for the text.
+//!
+//! The grammar is a relation between a line and what it says (`specs/Line.antt`), apart from the reader that gives the
+//! faults (`specs/Fault.antt`); the laws below say that the two agree on every line.
+#![tactic(auto)]
+
+ghost use Rattle.std.specs.Prelude.{◌≡◌, ℕ, nat_lt, List, Ok, Err, IsTrue};
+ghost use Rattle.std.specs.List.{list_all};
+ghost use Rattle.compose_lex.specs.Line.{Reading, IsLine};
+ghost use Rattle.compose_lex.specs.Fault.{reading_of};
+ghost use Rattle.compose_lex.specs.Escape.{Unescapes, IsText, text_of, quote_inside};
+ghost use Rattle.compose_lex.specs.declared.LexFault.{LexFault};
+ghost use Rattle.compose_lex.specs.declared.LexFault.TheVariants as faults;
+
+mod escapes;
+mod lexer;
+mod quotes;
+mod texts;
+mod token;
+
+use arrayvec::ArrayVec;
+pub use lexer::lex_line;
+pub use quotes::quote;
+use std::alloc::AllocError;
+pub use texts::{Text, read_text, unescape};
+use thiserror::Error;
+
+/// What is wrong with a line, or with the text of a string. `at` is an offset in bytes in the text that the call was handed.
+#[derive(Debug, PartialEq, Eq, Drop, Error)]
+pub enum LexFault {
+    /// Something else than the needed token, or the end of the line.
+    #[error("1 BadToken at={at}")]
+    BadToken { at: usize },
+    /// A modifier list, which is not read, where an event may begin.
+    #[error("2 ModifierList at={at}")]
+    ModifierList { at: usize },
+    /// A string without its closing quote; at its opening quote.
+    #[error("3 UnclosedString at={at}")]
+    UnclosedString { at: usize },
+    /// A backslash with none of the known escapes behind it.
+    #[error("4 UnknownEscape at={at}")]
+    UnknownEscape { at: usize },
+    /// A code without a digit, code 0, or an octal code above 255; at its backslash.
+    #[error("5 BadCode at={at}")]
+    BadCode { at: usize },
+    /// A colon with neither a string nor a name behind it.
+    #[error("6 NoResult")]
+    NoResult,
+    /// A 33rd event.
+    #[error("7 TooManyKeysyms")]
+    TooManyKeysyms,
+    /// A text without a byte.
+    #[error("8 EmptyText")]
+    EmptyText,
+    /// A text of more than 255 bytes.
+    #[error("9 TextTooLong")]
+    TextTooLong,
+    /// A text whose bytes are not UTF-8.
+    #[error("10 TextNotUtf8")]
+    TextNotUtf8,
+    /// Memory was refused in this call.
+    #[error("11 NoMemory")]
+    NoMemory,
+}
+
+impl From<AllocError> for LexFault {
+    ghost from_gives = { λ _ fault. fault ≡ faults.NoMemory };
+
+    fn from(_: AllocError) -> LexFault {
+        LexFault::NoMemory
+    }
+}
+
+/// What a line says; its tokens are slices of the line.
+#[derive(Debug, PartialEq, Eq, Drop)]
+pub enum Line<'a> {
+    /// Nothing but blanks and perhaps a comment.
+    Blank,
+    /// An include, with the raw text of its string.
+    Include(&'a str),
+    /// The names of 1 to 32 events, then the raw text of the string, the name of the result keysym, or both.
+    Production {
+        /// The name between `<` and `>` of each event.
+        events: ArrayVec<&'a str, 32>,
+        /// What stands between the quotes of the string, escapes and all.
+        raw_text: Option<&'a str>,
+        /// The name of the result keysym, not looked up.
+        result_name: Option<&'a str>,
+    },
+}
+
+/// A line says one thing at most: what is read of it.
+pub fn law_one_reading()
+    ensures read { (line : List ℕ) (reading : Reading) → IsLine line reading → reading_of line ≡ Ok reading }
+    ensures one { (line : List ℕ) (a b : Reading) → IsLine line a → IsLine line b → a ≡ b }
+    ensures faultless { (line : List ℕ) (reading : Reading) (fault : LexFault) → IsLine line reading → reading_of line ≡ Err fault → ⊥ }
+{}
+
+/// What is read of a line is what the line says: a line without a fault is a line of the grammar.
+pub fn law_right_reading()
+    ensures { (line : List ℕ) (reading : Reading) → reading_of line ≡ Ok reading → IsLine line reading }
+{}
+
+/// A raw text stands for one list of bytes at most; where this is a text, it is what is read.
+pub fn law_one_text()
+    ensures one { (raw a b : List ℕ) → Unescapes raw a → Unescapes raw b → a ≡ b }
+    ensures read { (raw bytes : List ℕ) → Unescapes raw bytes → IsText bytes → text_of raw ≡ Ok bytes }
+    ensures said { (raw bytes : List ℕ) → text_of raw ≡ Ok bytes → Unescapes raw bytes × IsText bytes }
+{}
+
+/// What stands between the quotes of a quoted text stands for the text.
+pub fn law_quote()
+    ensures { (text : List ℕ) → IsText text → IsTrue (list_all (λ b. nat_lt 0 b) text) → Unescapes (quote_inside text) text × (text_of (quote_inside text) ≡ Ok text) }
+{}
+
+#[cfg(test)]
+mod tests;

@@ -1,0 +1,131 @@
+//! Worked lines and texts, and the printed faults.
+use crate::{LexFault, Line, lex_line, quote, read_text, unescape};
+use arrayvec::ArrayVec;
+use std::alloc::{AllocError, Global};
+use std::test::Fail;
+
+/// The printed fault of a line.
+fn line_fault(alloc: Global, line: &str) -> Result<String, AllocError> {
+    match lex_line(line) {
+        Ok(_) => String::from_str(alloc, "none"),
+        Err(fault) => format!(in alloc; "{fault}"),
+    }
+}
+
+/// The printed fault of a raw text.
+fn text_fault(alloc: Global, raw: &str) -> Result<String, AllocError> {
+    match unescape(alloc, raw) {
+        Ok(_) => String::from_str(alloc, "none"),
+        Err(fault) => format!(in alloc; "{fault}"),
+    }
+}
+
+/// So many events, and a result.
+fn events(alloc: Global, count: usize) -> Result<String, AllocError> {
+    let mut line = String::new(alloc);
+    for _ in 0..count {
+        line.push_str("<a>")?;
+    }
+    line.push_str(":b")?;
+    Ok(line)
+}
+
+#[test]
+fn reads_lines(rt: HostRuntime) -> Result<(), Fail> {
+    let mut events = ArrayVec::new();
+    events.push("Multi_key");
+    events.push("apostrophe");
+    events.push("e");
+    let said = Line::Production {
+        events,
+        raw_text: Some("é"),
+        result_name: Some("eacute"),
+    };
+    let line = "<Multi_key> <apostrophe> <e> : \"é\" eacute # e acute";
+    assert_eq!(rt; lex_line(line)?, said);
+    assert_eq!(rt; lex_line(" \t# <a>")?, Line::Blank);
+    assert_eq!(rt; lex_line("include \"%L\"\r")?, Line::Include("%L"));
+    Ok(())
+}
+
+#[test]
+fn finds_line_faults(rt: HostRuntime) -> Result<(), Fail> {
+    let rows = [
+        ("Ctrl<a> : \"x\"", "2 ModifierList at=0"),
+        ("<a> :", "6 NoResult"),
+        ("<a> : \"x", "3 UnclosedString at=6"),
+        ("<a> \"x\"", "1 BadToken at=4"),
+        ("include<a>", "1 BadToken at=7"),
+        ("includes \"x\"", "2 ModifierList at=0"),
+        ("<a", "1 BadToken at=2"),
+        ("<a> <b> ~<c> : \"x\"", "2 ModifierList at=8"),
+        ("<a> : b # c", "none"),
+    ];
+    for (line, fault) in rows {
+        assert_eq!(rt; line_fault(rt.alloc(), line)?.as_str(), fault, "{line}");
+    }
+    let full = events(rt.alloc(), 32)?;
+    assert_eq!(rt; line_fault(rt.alloc(), full.as_str())?.as_str(), "none");
+    let over = events(rt.alloc(), 33)?;
+    assert_eq!(rt;
+        line_fault(rt.alloc(), over.as_str())?.as_str(),
+        "7 TooManyKeysyms"
+    );
+    Ok(())
+}
+
+#[test]
+fn reads_texts(rt: HostRuntime) -> Result<(), Fail> {
+    let rows = [
+        ("\\303\\251", "é"),
+        ("\\xc3\\xa9", "é"),
+        ("é", "é"),
+        ("\\1234", "S4"),
+        ("\\x414", "A4"),
+        ("a\\n", "a\n"),
+        ("\\\\\\\"", "\\\""),
+    ];
+    for (raw, text) in rows {
+        assert_eq!(rt; unescape(rt.alloc(), raw)?.as_str(), text);
+        match read_text(raw) {
+            Ok(found) => assert_eq!(rt; found.as_str(), text),
+            Err(_) => assert!(rt; false, "{raw}"),
+        }
+    }
+    assert_eq!(rt;
+        quote(rt.alloc(), "a\"b\\\n\u{7f}é")?.as_str(),
+        "\"a\\\"b\\\\\\012\\177é\""
+    );
+    Ok(())
+}
+
+#[test]
+fn finds_text_faults(rt: HostRuntime) -> Result<(), Fail> {
+    let rows = [
+        ("\\xff", "10 TextNotUtf8"),
+        ("\\400", "5 BadCode at=0"),
+        ("\\0", "5 BadCode at=0"),
+        ("a\\q", "4 UnknownEscape at=1"),
+        ("a\\", "4 UnknownEscape at=1"),
+        ("\\x", "5 BadCode at=0"),
+        ("", "8 EmptyText"),
+    ];
+    for (raw, fault) in rows {
+        assert_eq!(rt; text_fault(rt.alloc(), raw)?.as_str(), fault, "{raw}");
+    }
+    let mut letters = String::new(rt.alloc());
+    for _ in 0..255 {
+        letters.push('a')?;
+    }
+    assert_eq!(rt; text_fault(rt.alloc(), letters.as_str())?.as_str(), "none");
+    letters.push('a')?;
+    assert_eq!(rt;
+        text_fault(rt.alloc(), letters.as_str())?.as_str(),
+        "9 TextTooLong"
+    );
+    assert_eq!(rt;
+        format!(in rt.alloc(); "{}", LexFault::NoMemory)?.as_str(),
+        "11 NoMemory"
+    );
+    Ok(())
+}

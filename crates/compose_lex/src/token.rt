@@ -1,0 +1,111 @@
+//! The tokens of a line, each read from the front of what is left of the line. A function takes the length of the
+//! whole line, for the offset of a fault, and the part that is left.
+ghost use Rattle.std.specs.Prelude.{◌≡◌, ◌-◌, ◌<◌, ℕ, length};
+ghost use Rattle.compose_lex.specs.Line as line;
+ghost use Rattle.compose_lex.specs.Fault as fault;
+ghost use Rattle.compose_lex.specs.Lexed.{Is};
+
+use crate::LexFault;
+
+/// Space, tab and carriage return.
+fn is_blank(byte: u8) -> bool
+    ensures { result ≡ line.is_blank byte }
+{
+    byte == b' ' || byte == b'\t' || byte == b'\r'
+}
+
+/// ASCII letters, digits and the underscore.
+fn is_name_byte(byte: u8) -> bool
+    ensures { result ≡ line.is_name_byte byte }
+{
+    byte.is_ascii_alphanumeric() || byte == b'_'
+}
+
+/// Where in the line the rest begins.
+pub(crate) fn offset(line_len: usize, rest: &str) -> usize
+    ensures { result ≡ line_len - length rest.now }
+{
+    line_len.saturating_sub(rest.len())
+}
+
+/// What stands behind the blanks at the front. O(blanks).
+pub(crate) fn skip_blanks(text: &str) -> &str
+    ensures { result.now ≡ fault.skip_blanks text.now }
+{
+    for (at, byte) in text.as_bytes().iter().enumerate() {
+        if !is_blank(*byte) {
+            return &text[at..];
+        }
+    }
+    &text[text.len()..]
+}
+
+/// The bytes of a name at the front, perhaps none, and what stands behind them. O(bytes of the name).
+pub(crate) fn split_name(text: &str) -> (&str, &str)
+    ensures name { result.0.now ≡ fault.front line.is_name_byte text.now }
+    ensures rest { result.1.now ≡ fault.behind line.is_name_byte text.now }
+{
+    for (at, byte) in text.as_bytes().iter().enumerate() {
+        if !is_name_byte(*byte) {
+            return (&text[..at], &text[at..]);
+        }
+    }
+    (text, &text[text.len()..])
+}
+
+/// A name, and what stands behind it.
+pub(crate) fn name_at(line_len: usize, rest: &str) -> Result<(&str, &str), LexFault>
+    ensures { Is (λ x. (x.0.now, x.1.now)) result (fault.name_at line_len rest.now) }
+{
+    let (name, behind) = split_name(rest);
+    if name.is_empty() {
+        return Err(LexFault::BadToken {
+            at: offset(line_len, rest),
+        });
+    }
+    Ok((name, behind))
+}
+
+/// What stands behind this byte, which is ASCII.
+pub(crate) fn byte_at(line_len: usize, wanted: u8, rest: &str) -> Result<&str, LexFault>
+    requires { wanted < 128 }
+    ensures { Is (λ x. x.now) result (fault.byte_at line_len wanted rest.now) }
+{
+    match rest.as_bytes().first() {
+        Some(byte) if *byte == wanted => Ok(&rest[1..]),
+        _ => Err(LexFault::BadToken {
+            at: offset(line_len, rest),
+        }),
+    }
+}
+
+/// Behind an opening quote: the raw text, and what stands behind the closing quote. O(bytes of the string).
+pub(crate) fn string_at(line_len: usize, rest: &str) -> Result<(&str, &str), LexFault>
+    ensures { Is (λ x. (x.0.now, x.1.now)) result (fault.string_at line_len rest.now) }
+{
+    let mut taken = false;
+    for (at, byte) in rest.as_bytes().iter().enumerate() {
+        if taken {
+            taken = false;
+        } else if *byte == b'"' {
+            return Ok((&rest[..at], &rest[at + 1..]));
+        } else {
+            taken = *byte == b'\\';
+        }
+    }
+    Err(LexFault::UnclosedString {
+        at: offset(line_len, rest).saturating_sub(1),
+    })
+}
+
+/// Nothing but a comment.
+pub(crate) fn end_at(line_len: usize, rest: &str) -> Result<(), LexFault>
+    ensures { Is (λ _. tt) result (fault.end_at line_len rest.now) }
+{
+    match rest.as_bytes().first() {
+        None | Some(b'#') => Ok(()),
+        Some(_) => Err(LexFault::BadToken {
+            at: offset(line_len, rest),
+        }),
+    }
+}
