@@ -1,0 +1,50 @@
+-- The place of a name among the sources is its place in the map that keeps them.
+use Rattle.std.proofs.Common.{◌≡◌, ℕ, ◌+◌, List, [], ◌∷◌, cond, not, false, suc, length, refl, sym, ◌∙◌, ap, ap₂, nat_lt}
+use Rattle.std.specs.Prelude.{Option, Some, None, is_some, position, string_bytes, option_map, slice_get}
+use Rattle.std.specs.declared.alloc.Global.{Global}
+use Rattle.std.specs.declared.string.String.{String}
+use Rattle.std.specs.declared.vec.Vec.{Vec}
+use Rattle.std.specs.List.{prefix_len}
+use Rattle.std.specs.Map.{keys_of, values_of, lookup}
+use Rattle.std.specs.Str.{bytes_eq}
+use Rattle.indexmap.proofs.MapLemmas.{some_index}
+use Rattle.std.proofs.lemmas.Option.{slice_get-map, same_Some}
+use Rattle.compose_read.specs.Lines.{Source}
+use Rattle.compose_read.specs.Sources.{sources_of}
+
+abbrev Files : Type 0
+Files = List (String Global × Vec ℕ Global)
+
+module _ (name : List ℕ) where
+  same_prefix : (files : Files)
+      → prefix_len (λ k. not (bytes_eq name (string_bytes k))) (keys_of files) ≡ prefix_len (λ (s : Source). not (bytes_eq name s.name)) (sources_of files)
+  same_prefix [] = refl
+  same_prefix (f ∷ files) = ap (λ n. cond (not (bytes_eq name (string_bytes f.0))) (1 + n) 0) (same_prefix files)
+
+  same_length : (files : Files) → length (keys_of files) ≡ length (sources_of files)
+  same_length [] = refl
+  same_length (f ∷ files) = ap suc (same_length files)
+
+  pub same_place : (files : Files) → position (λ k. bytes_eq name (string_bytes k)) (keys_of files) ≡ position (λ (s : Source). bytes_eq name s.name) (sources_of files)
+  same_place files = ap₂ (λ n m. cond (nat_lt n m) (Some n) None) (same_prefix files) (same_length files)
+
+  none_from : {X : Type 0} (o : Option X) → is_some o ≡ false → o ≡ None
+  none_from None h = refl
+  none_from (Some x) h = cc
+
+  -- a name that no source has is no key of the map
+  pub absent_key : (files : Files) → position (λ (s : Source). bytes_eq name s.name) (sources_of files) ≡ None → lookup (λ k. bytes_eq name (string_bytes k)) files ≡ None
+  absent_key files h =
+      let there = some_index (λ k. bytes_eq name (string_bytes k)) files in
+      none_from (lookup (λ k. bytes_eq name (string_bytes k)) files) (sym there ∙ ap is_some (same_place files ∙ h))
+
+-- the bytes of the source at a place are those that the map keeps there
+pub bytes_at : (files : Files) (i : ℕ) (v : Vec ℕ Global) → slice_get (values_of files) i ≡ Some v → option_map (λ (s : Source). s.bytes) (slice_get (sources_of files) i) ≡ Some v.items
+bytes_at files i v h =
+    ap (option_map (λ (s : Source). s.bytes)) (slice_get-map (λ (f : String Global × Vec ℕ Global). let s : Source = record { name = string_bytes f.0; bytes = f.1.items } in s) files i)
+    ∙ through (slice_get files i) (sym (slice_get-map (λ (f : String Global × Vec ℕ Global). f.1) files i) ∙ h)
+  where
+    through : (o : Option (String Global × Vec ℕ Global)) → option_map (λ f. f.1) o ≡ Some v
+        → option_map (λ (s : Source). s.bytes) (option_map (λ f. let s : Source = record { name = string_bytes f.0; bytes = f.1.items } in s) o) ≡ Some v.items
+    through None e = cc
+    through (Some f) e = ap (λ (w : Vec ℕ Global). Some w.items) (same_Some f.1 v e)

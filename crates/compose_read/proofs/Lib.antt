@@ -1,0 +1,16 @@
+pub mod Examples
+pub mod Settled
+pub mod Files
+pub mod Order
+pub mod SameSettled
+pub mod Neighbours
+pub mod Begins
+pub mod Turns
+pub mod SettledTable
+pub mod Events
+pub mod Faults
+pub mod OneLine
+pub mod Cut
+pub mod ReadOn
+pub mod Visits
+pub mod Overlaps

@@ -1,0 +1,135 @@
+-- The lines visited from a source, one line after another.
+use Rattle.std.proofs.Common.{◌≡◌, ◌<◌, ◌+◌, ◌-◌, ℕ, zero, suc, List, [], ◌∷◌, ◌++◌, Bool, true, false, cond, nat_lt, length, refl, sym, ◌∙◌, ap, append_assoc, arith}
+use Rattle.std.specs.Prelude.{Option, Some, None, Result, Ok, Err, flat_map, option_map, position, slice_get, get_or}
+use Rattle.std.specs.Option.{option_map_or}
+use Rattle.std.proofs.lemmas.Option.{slice_get-get_or, same_Some}
+use Rattle.keysym_core.specs.Lines.{lines_of}
+use Rattle.keysym_core.specs.Names.{KeysymNames}
+use Rattle.compose_read.specs.Lines.{Source, Visit, included, source_named, visits, max_depth, numbered, own_lines, source_lines, visits_below}
+use Rattle.compose_read.specs.Progress.{front, reading_on, ReadsOn}
+use Rattle.compose_read.specs.Read.{read_on, definitions_of}
+use Rattle.compose_read.specs.Given.{ReadGives}
+use Rattle.compose_model.specs.Table.{Definition}
+use Rattle.std.specs.Str.{bytes_eq}
+use Rattle.std.proofs.lemmas.List.{append-nil}
+use Rattle.compose_read.specs.declared.ReadFault.{ReadFault}
+use Rattle.compose_read.specs.declared.ReadFault.TheVariants as faults
+use Rattle.compose_read.specs.declared.reading.Progress.{Progress}
+
+-- a line and, where it includes a source, the lines visited from this one
+abbrev pub below : List Source → ℕ → Visit → List Visit
+below sources zero v = v ∷ []
+below sources (suc left) v = v ∷ option_map_or (visits_below sources left) (included sources v.bytes) []
+
+pub plain_line : (sources : List Source) (left : ℕ) (v : Visit) → included sources v.bytes ≡ None → below sources left v ≡ v ∷ []
+plain_line sources zero v h = refl
+plain_line sources (suc left) v h = ap (λ o. v ∷ option_map_or (visits_below sources left) o []) h
+
+pub include_below : (sources : List Source) (left : ℕ) (v : Visit) (source : ℕ) → 0 < left → included sources v.bytes ≡ Some source → below sources left v ≡ v ∷ visits_below sources (left - 1) source
+include_below sources zero v source l h = absurd (omega arith)
+include_below sources (suc left) v source l h =
+    let one : left ≡ suc left - 1 = omega arith in
+    ap (λ o. v ∷ option_map_or (visits_below sources left) o []) h ∙ ap (λ n. v ∷ visits_below sources n source) one
+
+pub line_first : (sources : List Source) (left : ℕ) (v : Visit) → (more : List Visit) × (below sources left v ≡ v ∷ more)
+line_first sources zero v = ([], refl)
+line_first sources (suc left) v = (option_map_or (visits_below sources left) (included sources v.bytes) [], refl)
+
+-- ---- a source's lines
+
+alone : (sources : List Source) (vs : List Visit) → vs ≡ flat_map (below sources zero) vs
+alone sources [] = refl
+alone sources (v ∷ vs) = ap (λ ws. v ∷ ws) (alone sources vs)
+
+pub visits_are : (sources : List Source) (left source : ℕ) (bytes : List ℕ) → source < length sources → option_map (λ (s : Source). s.bytes) (slice_get sources source) ≡ Some bytes
+    → visits_below sources left source ≡ flat_map (below sources left) (numbered source (8 - left) 1 (source_lines bytes))
+visits_are sources left source bytes l h =
+    by_levels left ∙ ap (λ bs. flat_map (below sources left) (numbered source (8 - left) 1 (source_lines bs))) (same_Some (get_or sources source none).bytes bytes (ap (option_map (λ (s : Source). s.bytes)) (sym (slice_get-get_or sources source none l)) ∙ h))
+  where
+    none : Source
+    none = record { name = []; bytes = [] }
+
+    by_levels : (left : ℕ) → visits_below sources left source ≡ flat_map (below sources left) (numbered source (8 - left) 1 (source_lines (get_or sources source (record { name = []; bytes = [] })).bytes))
+    by_levels zero = alone sources (own_lines sources source max_depth)
+    by_levels (suc left) = refl
+
+-- what is left to visit behind a line of this number
+abbrev pub left_to_visit : List Source → ℕ → ℕ → ℕ → ℕ → List ℕ → List Visit
+left_to_visit sources left source depth line rest = flat_map (below sources left) (numbered source depth (1 + line) (lines_of rest))
+
+module _ (sources : List Source) (left source depth line : ℕ) (rest bytes behind : List ℕ) (lines : lines_of rest ≡ bytes ∷ lines_of behind) where
+  abbrev next : Visit
+  next = record { source = source; line = line + 1; bytes = bytes; depth = depth }
+
+  pub next_line : left_to_visit sources left source depth line rest ≡ below sources left next ++ left_to_visit sources left source depth (line + 1) behind
+  next_line =
+      let one : 1 + line ≡ line + 1 = omega arith in
+      ap (λ ls. flat_map (below sources left) (numbered source depth (1 + line) ls)) lines
+      ∙ ap (λ n. flat_map (below sources left) (numbered source depth n (bytes ∷ lines_of behind))) one
+
+-- ---- reading on
+
+module _ (names : KeysymNames) (sources : List Source) (left source depth line : ℕ) (rest bytes behind : List ℕ) (lines : lines_of rest ≡ bytes ∷ lines_of behind) (p old : Progress) (whole : List Visit)
+    (reads : (ws : List Visit) → reading_on names sources p (left_to_visit sources left source depth line rest ++ ws) ≡ reading_on names sources old (whole ++ ws)) where
+  abbrev v : Visit
+  v = record { source = source; line = line + 1; bytes = bytes; depth = depth }
+
+  abbrev left_behind : List Visit
+  left_behind = left_to_visit sources left source depth (line + 1) behind
+
+  opened : (ws : List Visit) → reading_on names sources p (below sources left v ++ (left_behind ++ ws)) ≡ reading_on names sources old (whole ++ ws)
+  opened ws =
+      ap (reading_on names sources p) (sym (append_assoc (below sources left v) left_behind ws) ∙ ap (λ vs. vs ++ ws) (sym (next_line sources left source depth line rest bytes behind lines)))
+      ∙ reads ws
+
+  -- a line that includes nothing
+  pub plain_turn : (q : Progress) → included sources bytes ≡ None → ((us : List Visit) → reading_on names sources p (v ∷ us) ≡ reading_on names sources q us)
+      → (ws : List Visit) → reading_on names sources q (left_behind ++ ws) ≡ reading_on names sources old (whole ++ ws)
+  plain_turn q h f ws = sym (f (left_behind ++ ws)) ∙ ap (λ vs. reading_on names sources p (vs ++ (left_behind ++ ws))) (sym (plain_line sources left v h)) ∙ opened ws
+
+  -- its fault
+  pub line_refused : (q r : Progress) (fault : ReadFault) → ReadsOn {X = Option ℕ} names sources (v ∷ []) p q (Err fault) → ReadsOn {X = Unit {0}} names sources whole old r (Err fault)
+  line_refused q r faults.NoMemory h = tt
+  line_refused q r fault h = λ ws.
+      let first = line_first sources left v in
+      sym (opened ws) ∙ ap (λ vs. reading_on names sources p (vs ++ (left_behind ++ ws))) first.1 ∙ h (first.0 ++ (left_behind ++ ws))
+
+  module _ (q : Progress) (included_source : ℕ) (deep : 0 < left) (h : included sources bytes ≡ Some included_source) (f : (us : List Visit) → reading_on names sources p (v ∷ us) ≡ reading_on names sources q us) where
+    into_source : (ws : List Visit) → reading_on names sources q (visits_below sources (left - 1) included_source ++ (left_behind ++ ws)) ≡ reading_on names sources old (whole ++ ws)
+    into_source ws =
+        sym (f (visits_below sources (left - 1) included_source ++ (left_behind ++ ws)))
+        ∙ ap (λ vs. reading_on names sources p (vs ++ (left_behind ++ ws))) (sym (include_below sources left v included_source deep h)) ∙ opened ws
+
+    -- a line that includes a source, and the lines of this one
+    pub include_turn : (r : Progress) → ((us : List Visit) → reading_on names sources q (visits_below sources (left - 1) included_source ++ us) ≡ reading_on names sources r us)
+        → (ws : List Visit) → reading_on names sources r (left_behind ++ ws) ≡ reading_on names sources old (whole ++ ws)
+    include_turn r g ws = sym (g (left_behind ++ ws)) ∙ into_source ws
+
+    -- a fault in the included source
+    pub include_refused : (r s : Progress) (fault : ReadFault) → ReadsOn {X = Unit {0}} names sources (visits_below sources (left - 1) included_source) q r (Err fault) → ReadsOn {X = Unit {0}} names sources whole old s (Err fault)
+    include_refused r s faults.NoMemory e = tt
+    include_refused r s fault e = λ ws. sym (into_source ws) ∙ e (left_behind ++ ws)
+
+-- ---- from the root
+
+none_in_front : (r : Result (List Definition) ReadFault) → front [] r ≡ r
+none_in_front (Ok table) = refl
+none_in_front (Err e) = refl
+
+module _ (names : KeysymNames) (sources : List Source) (root : List ℕ) (source : ℕ) (named : position (λ (s : Source). bytes_eq root s.name) sources ≡ Some source) where
+  root_read : definitions_of names sources root ≡ reading_on names sources (record { lines = 0; definitions = [] }) (visits_below sources 8 source ++ [])
+  root_read = go (nat_lt (source_named sources root) (length sources)) named ∙ sym (none_in_front (read_on names sources 0 0 (visits_below sources 8 source))) ∙ ap (λ vs. front [] (read_on names sources 0 0 vs)) (sym (append-nil (visits_below sources 8 source)))
+    where
+      go : (b : Bool) → (let o : Option ℕ = cond b (Some (source_named sources root)) None in o) ≡ Some source
+          → cond b (read_on names sources 0 0 (visits sources (source_named sources root))) (Err faults.MissingRoot) ≡ read_on names sources 0 0 (visits_below sources 8 source)
+      go true h = ap (λ n. read_on names sources 0 0 (visits_below sources 8 n)) (same_Some (source_named sources root) source h)
+      go false h = cc
+
+  pub all_read : (table : List Definition) (q : Progress) → table ≡ [] → ReadsOn {X = Unit {0}} names sources (visits_below sources 8 source) (record { lines = 0; definitions = table }) q (Ok tt) → definitions_of names sources root ≡ Ok q.definitions
+  all_read table q e h =
+      root_read ∙ ap (λ t. let p : Progress = record { lines = 0; definitions = t } in reading_on names sources p (visits_below sources 8 source ++ [])) (sym e) ∙ h [] ∙ ap Ok (append-nil q.definitions)
+
+  pub root_refused : {X : Type 0} (view : X → List Definition) (table : List Definition) (q : Progress) (fault : ReadFault) → table ≡ [] → ReadsOn {X = Unit {0}} names sources (visits_below sources 8 source) (record { lines = 0; definitions = table }) q (Err fault)
+      → ReadGives view (Err fault) (definitions_of names sources root)
+  root_refused view table q faults.NoMemory e h = tt
+  root_refused view table q fault e h = root_read ∙ ap (λ t. let p : Progress = record { lines = 0; definitions = t } in reading_on names sources p (visits_below sources 8 source ++ [])) (sym e) ∙ h []

@@ -1,0 +1,31 @@
+use Rattle.std.proofs.Common.{◌≡◌, ◌∙◌, ◌<◌, ◌+◌, ℕ, Vec, Global, length, sym, ap, subst, rules, arith}
+use Rattle.std.specs.Prelude.{Err}
+use Rattle.keysym_core.specs.declared.keysym.Keysym.{Keysym}
+use Rattle.compose_read.specs.Progress.{visit}
+use Rattle.compose_read.specs.Sequence.{AreFed}
+use Rattle.compose_read.proofs.Events.{sequence_behind, event_taken, event_refused, events_all, fed_push}
+use Rattle.compose_read.proofs.Faults.{passed_fault}
+use Rattle.compose_read.proofs.line.read_sequence.Goals as goal
+
+pub returns-in_err-event_keysym-clause-exact : goal.returns-in_err-event_keysym-clause-exact
+returns-in_err-event_keysym-clause-exact c = λ bytes.
+    let names = c.args.names.now in let events = c.args.events.now in let v = visit c.args.place bytes in let index = c.loop-index.index in
+    let fault = c.in_err-event_keysym.field-0.0 in
+    let is : c.from_residual-in_err-event_keysym.result ≡ Err fault = search rules in
+    let within : index < length events = omega arith in
+    passed_fault (λ (k : ℕ). k) (λ (w : Vec Keysym Global). w.items) fault _ _ _ is
+    (λ h. sym (events_all names v events) ∙ sym (c.loop-index.invariant.exact bytes) ∙ event_refused names v events c.loop-index.sequence.items index _ fault within h)
+    (c.in_err-event_keysym.ensures.exact bytes)
+
+pub loop-index-preserved : goal.loop-index-preserved
+loop-index-preserved c =
+    let names = c.args.names.now in let events = c.args.events.now in let index = c.loop-index.index in
+    let within : index < length events = omega arith in
+    let pushed = c.in_ok-push.ensures.items in record {
+      exact = λ bytes.
+          ap (λ ks. sequence_behind names (visit c.args.place bytes) events ks (index + 1)) pushed
+          ∙ sym (event_taken names (visit c.args.place bytes) events c.loop-index.sequence.items index _ c.in_ok-event_keysym.field-0 within (c.in_ok-event_keysym.ensures.exact bytes))
+          ∙ c.loop-index.invariant.exact bytes;
+      fed = subst AreFed (sym pushed) (fed_push c.loop-index.sequence.items c.in_ok-event_keysym.field-0 c.loop-index.invariant.fed c.in_ok-event_keysym.ensures.fed);
+      count = search rules;
+    }

@@ -1,0 +1,12 @@
+use Rattle.std.proofs.Common.{◌≡◌, ℕ, List, [], length}
+use Rattle.compose_read.specs.Progress.{visit}
+use Rattle.compose_read.specs.Sequence.{AreFed}
+use Rattle.compose_read.proofs.Events.{sequence_behind}
+use Rattle.compose_read.proofs.line.read_sequence.Given as goal
+
+abbrev pub invariant-loop-index : goal.invariant-loop-index
+invariant-loop-index l = record {
+  exact : (bytes : List ℕ) → sequence_behind l.names (visit l.place bytes) l.events l.sequence.items l.index ≡ sequence_behind l.names (visit l.place bytes) l.events [] 0;
+  fed : AreFed l.sequence.items;
+  count : length l.sequence.items ≡ l.index;
+}

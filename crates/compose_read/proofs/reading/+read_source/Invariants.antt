@@ -1,0 +1,17 @@
+use Rattle.std.proofs.Common.{◌≡◌, ◌+◌, ◌≤◌, ◌++◌, List, length}
+use Rattle.compose_read.specs.Lines.{Visit, visits_below}
+use Rattle.compose_read.specs.Progress.{reading_on}
+use Rattle.compose_read.proofs.Visits.{left_to_visit}
+use Rattle.compose_read.proofs.reading.+read_source.Given as goal
+
+abbrev pub decreases-read_source : goal.decreases-read_source
+decreases-read_source l = l.left
+
+abbrev pub invariant-loop-rest : goal.invariant-loop-rest
+invariant-loop-rest l = record {
+  reads : (ws : List Visit) → reading_on l.names l.sources l.progress (left_to_visit l.sources l.left l.source l.depth l.line l.rest ++ ws) ≡ reading_on l.names l.sources l.fn.progress (visits_below l.sources l.left l.source ++ ws);
+  counted : l.line + length l.rest ≤ length l.initial.rest;
+}
+
+abbrev pub decreases-loop-rest : goal.decreases-loop-rest
+decreases-loop-rest l = length l.rest

@@ -1,0 +1,33 @@
+-- Settling rows in rising order, by looking at neighbours.
+use Rattle.std.specs.Prelude.{Bool, true, false, if◌then◌else◌, List, [], ◌∷◌, Result, Ok, Err}
+use Rattle.compose_model.specs.Table.{Definition, same, comes_before, is_proper_prefix}
+use Rattle.compose_model.specs.declared.Rule.{Rule}
+use Rattle.compose_model.specs.declared.Rule.TheVariants.{Refuse, Longest}
+use Rattle.std.specs.List.Sorted.{IsSortedBy}
+use Rattle.compose_read.specs.Settle.{Overlap}
+
+-- a row that begins the next one is refused, or is left out
+abbrev pub begins_next : Rule → Definition → Definition → Result Bool Overlap
+begins_next Refuse d e = Err (record { short = d.sequence; long = e.sequence })
+begins_next Longest d e = Ok false
+
+-- whether a row stays before the next one: not where this has the same sequence, or goes on behind it
+abbrev pub stays_before : Rule → Definition → Definition → Result Bool Overlap
+stays_before rule d e = if same d.sequence e.sequence then Ok false else if is_proper_prefix d.sequence e.sequence then begins_next rule d e else Ok true
+
+-- the row in front of the others, if it stays
+abbrev pub put_if : Definition → Result Bool Overlap → Result (List Definition) Overlap → Result (List Definition) Overlap
+put_if d (Err o) rows = Err o
+put_if d (Ok false) rows = rows
+put_if d (Ok true) (Err o) = Err o
+put_if d (Ok true) (Ok rows) = Ok (d ∷ rows)
+
+-- the rows that stay, each seen beside its next one
+abbrev pub settled_neighbours : Rule → List Definition → Result (List Definition) Overlap
+settled_neighbours rule [] = Ok []
+settled_neighbours rule (d ∷ []) = Ok (d ∷ [])
+settled_neighbours rule (d ∷ e ∷ rows) = put_if d (stays_before rule d e) (settled_neighbours rule (e ∷ rows))
+
+-- no row comes before the one in front of it
+abbrev pub SequencesAscend : List Definition → Type 0
+SequencesAscend rows = IsSortedBy (λ d e. comes_before d.sequence e.sequence) rows

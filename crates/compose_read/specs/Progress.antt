@@ -1,0 +1,62 @@
+-- What is read so far, and what is read on from there. Words for private functions.
+use Rattle.std.specs.Prelude.{◌≡◌, ◌<◌, [], ◌++◌, ℕ, List, length, Option, Some, None, Result, Ok, Err}
+use Rattle.std.specs.Option.{option_map_or}
+use Rattle.keysym_core.specs.Names.{KeysymNames, text}
+use Rattle.compose_lex.specs.declared.LexFault.{LexFault}
+use Rattle.compose_lex.specs.declared.LexFault.TheVariants as lex_faults
+use Rattle.compose_model.specs.Table.{Definition}
+use Rattle.compose_read.specs.Lines.{Source, Visit, included, max_depth}
+use Rattle.compose_read.specs.Read.{read_on, line_gives}
+use Rattle.compose_read.specs.declared.ReadFault.{ReadFault}
+use Rattle.compose_read.specs.declared.ReadFault.TheVariants as faults
+use Rattle.compose_read.specs.declared.line.Place.{Place}
+use Rattle.compose_read.specs.declared.line.Found.{Found}
+use Rattle.compose_read.specs.declared.line.Found.TheVariants as found
+use Rattle.compose_read.specs.declared.reading.Progress.{Progress}
+
+-- ---- one line
+
+-- the line with these bytes at the place
+abbrev pub visit : Place → List ℕ → Visit
+visit place bytes = record { source = place.source; line = place.line; bytes = bytes; depth = place.depth }
+
+-- what a line gives that defines nothing
+abbrev pub no_definition : Option Definition
+no_definition = None
+
+-- a fault of a line's part at the place
+abbrev pub lifted : Place → LexFault → ReadFault
+lifted place lex_faults.NoMemory = faults.NoMemory
+lifted place fault = faults.Lex place.source place.line fault
+
+-- the text of a result keysym, if there is one
+abbrev pub keysym_text : KeysymNames → Option ℕ → List ℕ
+keysym_text names keysym = option_map_or (text names) keysym []
+
+-- what is found on a line is what the line gives, or the source that it includes
+abbrev pub IsFound : KeysymNames → List Source → Visit → Found → Type 0
+IsFound names sources v found.Nothing = (line_gives names sources v ≡ Ok None) × (included sources v.bytes ≡ None)
+IsFound names sources v (found.Include source) = (line_gives names sources v ≡ Ok None) × (included sources v.bytes ≡ Some source) × (v.depth < max_depth) × (source < length sources)
+IsFound names sources v (found.Definition d) = (line_gives names sources v ≡ Ok (Some d)) × (included sources v.bytes ≡ None)
+
+abbrev pub FindsLine : KeysymNames → List Source → Visit → Result Found ReadFault → Type 0
+FindsLine names sources v (Ok f) = IsFound names sources v f
+FindsLine names sources v (Err faults.NoMemory) = Unit {0}
+FindsLine names sources v (Err e) = line_gives names sources v ≡ Err e
+
+-- ---- all lines
+
+-- these definitions in front of those that are read
+abbrev pub front : List Definition → Result (List Definition) ReadFault → Result (List Definition) ReadFault
+front table (Ok more) = Ok (table ++ more)
+front table (Err e) = Err e
+
+-- all definitions, where these lines come behind what is read so far
+abbrev pub reading_on : KeysymNames → List Source → Progress → List Visit → Result (List Definition) ReadFault
+reading_on names sources p vs = front p.definitions (read_on names sources p.lines (length p.definitions) vs)
+
+-- these lines lead from the one to the other, whatever comes behind them, or to the fault
+abbrev pub ReadsOn : {X : Type 0} → KeysymNames → List Source → List Visit → Progress → Progress → Result X ReadFault → Type 0
+ReadsOn names sources vs before after (Ok x) = (ws : List Visit) → reading_on names sources before (vs ++ ws) ≡ reading_on names sources after ws
+ReadsOn names sources vs before after (Err faults.NoMemory) = Unit {0}
+ReadsOn names sources vs before after (Err e) = (ws : List Visit) → reading_on names sources before (vs ++ ws) ≡ Err e

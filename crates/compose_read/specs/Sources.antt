@@ -1,0 +1,20 @@
+-- Sources as they are kept, and why one more is refused.
+use Rattle.std.specs.Prelude.{ℕ, nat_le, nat_lt, if◌then◌else◌, List, length, map, Option, Some, None, string_bytes}
+use Rattle.std.specs.declared.alloc.Global.{Global}
+use Rattle.std.specs.declared.string.String.{String}
+use Rattle.std.specs.declared.vec.Vec.{Vec}
+use Rattle.compose_read.specs.Lines.{Source, source_named}
+use Rattle.compose_read.specs.declared.sources.SourceFault.{SourceFault}
+use Rattle.compose_read.specs.declared.sources.SourceFault.TheVariants.{NameTaken, TooManySources}
+
+abbrev pub sources_of : List (String Global × Vec ℕ Global) → List Source
+sources_of files = map (λ f. record { name = string_bytes f.0; bytes = f.1.items }) files
+
+abbrev pub max_sources : ℕ
+max_sources = 64
+
+-- why a source of this name is not added: the name is taken, else there are as many sources as may be
+abbrev pub add_fault : List Source → List ℕ → Option SourceFault
+add_fault sources name =
+    if nat_lt (source_named sources name) (length sources) then Some NameTaken else
+    if nat_le max_sources (length sources) then Some TooManySources else None

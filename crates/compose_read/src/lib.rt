@@ -1,0 +1,129 @@
+//! What a table says is decided by all its files in order: sources, their includes, definitions and settling.
+//!
+//! [`Sources`] keep files by the names under which includes find them. [`read_definitions`] reads one of them with all that it includes, and gives the [`Definitions`] in reading order, or the fault of the first faulty line. [`settle`] gives [`Sequences`]: in rising order, each once with the text of its last definition, and none that begins another. Typing with these is typing with the definitions as they were read.
+//!
+//! ```text
+//! r:   <Multi_key> <apostrophe> <e> : "x"
+//!      include "%L"
+//! %L:  <Multi_key> <apostrophe> <e> : "é" eacute    # counts, since it is read last
+//! ```
+#![tactic(auto)]
+
+ghost use Rattle.std.specs.Prelude.{◌≡◌, ℕ, List, Ok, Err, IsTrue};
+ghost use Rattle.keysym_core.specs.Names.{KeysymNames};
+ghost use Rattle.compose_model.specs.Table.{Definition, is_prefix_free};
+ghost use Rattle.compose_model.specs.Step.{run};
+ghost use Rattle.compose_read.specs.Settle.{settled, sequences_rise, Overlap, IsLeastOverlap};
+ghost use Rattle.compose_model.specs.declared.Rule as rules;
+ghost use Rattle.compose_model.specs.declared.Rule.TheVariants.{Refuse, Longest};
+ghost use Rattle.compose_read.specs.declared.ReadFault.TheVariants.{NoMemory};
+
+mod definitions;
+mod line;
+mod reading;
+mod sequences;
+mod settling;
+mod sources;
+#[cfg(test)]
+mod tests;
+
+use compose_lex::LexFault;
+pub use definitions::Definitions;
+pub use reading::read_definitions;
+pub use sequences::Sequences;
+pub use settling::{SettleFault, settle};
+pub use sources::{SourceFault, Sources};
+use std::alloc::{AllocError, AllocFailed};
+use thiserror::Error;
+
+/// The first fault of what is read. `source` is the place among the sources, from 0; `line` counts from 1; `index` is the event's place from 0, or the number of events for the result's name.
+#[derive(Debug, PartialEq, Eq, Drop, Error)]
+pub enum ReadFault {
+    /// No source has the root's name.
+    #[error("1 MissingRoot")]
+    MissingRoot,
+    /// A line whose bytes are not UTF-8.
+    #[error("2 NotUtf8 source={source} line={line}")]
+    NotUtf8 {
+        source: usize,
+        line: usize,
+    },
+    /// A line that is in no case of the grammar, or whose string is no text.
+    #[error("3 Lex source={source} line={line}: {fault}")]
+    Lex {
+        source: usize,
+        line: usize,
+        fault: LexFault,
+    },
+    /// A name that no keysym has.
+    #[error("4 UnknownKeysym source={source} line={line} index={index}")]
+    UnknownKeysym {
+        source: usize,
+        line: usize,
+        index: usize,
+    },
+    /// An event whose keysym a compose state passes over.
+    #[error("5 IgnoredKeysym source={source} line={line} index={index}")]
+    IgnoredKeysym {
+        source: usize,
+        line: usize,
+        index: usize,
+    },
+    /// An include of a name that no source has.
+    #[error("6 MissingInclude source={source} line={line}")]
+    MissingInclude {
+        source: usize,
+        line: usize,
+    },
+    /// An include on a line to which eight includes lead.
+    #[error("7 IncludeDepth source={source} line={line}")]
+    IncludeDepth {
+        source: usize,
+        line: usize,
+    },
+    /// The 1,000,001st line.
+    #[error("8 TooManyLines source={source} line={line}")]
+    TooManyLines {
+        source: usize,
+        line: usize,
+    },
+    /// The 100,001st definition.
+    #[error("9 TooManyDefinitions source={source} line={line}")]
+    TooManyDefinitions {
+        source: usize,
+        line: usize,
+    },
+    /// Memory was refused in this call.
+    #[error("10 NoMemory")]
+    NoMemory,
+}
+
+impl From<AllocError> for ReadFault {
+    ghost from_gives = { λ _ e. e ≡ NoMemory };
+
+    fn from(_error: AllocError) -> ReadFault {
+        ReadFault::NoMemory
+    }
+}
+
+impl<T: Drop> From<AllocFailed<T>> for ReadFault {
+    ghost from_gives = { λ _ e. e ≡ NoMemory };
+
+    fn from(_error: AllocFailed<T>) -> ReadFault {
+        ReadFault::NoMemory
+    }
+}
+
+/// Settling by either rule changes no run; its rows rise, each sequence once, and none begins another.
+pub fn law_settle()
+    ensures runs { (names : KeysymNames) (rule : rules.Rule) (table rows : List Definition) (keys : List ℕ) → settled rule table ≡ Ok rows → run names rows keys ≡ run names table keys }
+    ensures prefix_free { (rule : rules.Rule) (table rows : List Definition) → settled rule table ≡ Ok rows → IsTrue (is_prefix_free rows) }
+    ensures rise { (rule : rules.Rule) (table rows : List Definition) → settled rule table ≡ Ok rows → IsTrue (sequences_rise rows) }
+{}
+
+/// What `Refuse` refuses is the least overlap; a table without one is settled, and `Longest` refuses none.
+pub fn law_overlap()
+    ensures least { (table : List Definition) (o : Overlap) → settled Refuse table ≡ Err o → IsLeastOverlap table o }
+    ensures free { (table rows : List Definition) → settled Refuse table ≡ Ok rows → IsTrue (is_prefix_free table) }
+    ensures never { (table : List Definition) (o : Overlap) → settled Longest table ≡ Err o → ⊥ }
+{}

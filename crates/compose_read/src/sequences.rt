@@ -1,0 +1,59 @@
+//! Settled sequences with their texts.
+use crate::definitions::Row;
+use keysym_core::Keysym;
+use std::marker::Model;
+
+/// The settled sequences of a table, in rising order, each once, and none of which begins another.
+#[derive(Drop)]
+pub struct Sequences {
+    rows: Vec<Row>,
+}
+
+impl Model for Sequences {
+    ghost use Rattle.std.specs.Prelude.{List};
+    ghost use Rattle.compose_model.specs.Table.{Definition};
+    ghost use Rattle.compose_read.specs.Settle.{IsSettled};
+
+    ghost Value = { List Definition };
+
+    ghost view = { λ s. s.rows.items };
+
+    ghost invariant = { λ s. IsSettled s.rows.items };
+}
+
+impl Sequences {
+    ghost use Rattle.std.specs.Prelude.{◌≡◌, ◌<◌, ◌≤◌, length, Some, slice_get, option_map};
+    ghost use Rattle.compose_read.specs.Settle.{IsSettled};
+
+    /// The sequences of these rows.
+    pub(crate) fn from_rows(rows: Vec<Row>) -> Sequences
+        requires { IsSettled rows.items }
+        ensures { result ≡ rows.items }
+    {
+        Sequences { rows }
+    }
+
+    /// How many sequences there are. O(1).
+    pub fn len(&self) -> usize
+        ensures count { result ≡ length self.now }
+        ensures settled { IsSettled self.now }
+    {
+        self.rows.len()
+    }
+
+    /// The sequence at this place. O(1).
+    pub fn sequence(&self, index: usize) -> &[Keysym]
+        requires { index < length self.now }
+        ensures { option_map (λ d. d.sequence) (slice_get self.now index) ≡ Some result.now }
+    {
+        self.rows[index].sequence()
+    }
+
+    /// The text of the sequence at this place. O(1).
+    pub fn text(&self, index: usize) -> &str
+        requires { index < length self.now }
+        ensures { option_map (λ d. d.text) (slice_get self.now index) ≡ Some result.now }
+    {
+        self.rows[index].text()
+    }
+}

@@ -1,0 +1,127 @@
+//! The sources that a table may be read from, by name.
+ghost use Rattle.std.specs.Prelude.{◌≡◌, ◌≢◌, ◌<◌, ◌≤◌, ◌++◌, [], ◌∷◌, length, Some, None, IsSome, IfErr, OnOk, OnErr, false, nat_lt, position, bytes_eq, IfSome, slice_get, option_map, option_copied};
+ghost use Rattle.compose_read.specs.Lines.{source_named};
+ghost use Rattle.compose_read.specs.Sources.{add_fault};
+ghost use Rattle.compose_read.specs.declared.sources.SourceFault.TheVariants.{NoMemory};
+
+use indexmap::IndexMap;
+use std::alloc::{AllocError, AllocFailed, Global};
+use std::marker::Model;
+use thiserror::Error;
+
+/// Why a source is not added.
+#[derive(Clone, Copy, Debug, PartialEq, Eq, Drop, Error)]
+pub enum SourceFault {
+    #[error("1 NameTaken")]
+    NameTaken,
+    #[error("2 TooManySources")]
+    TooManySources,
+    #[error("3 NoMemory")]
+    NoMemory,
+}
+
+impl From<AllocError> for SourceFault {
+    ghost from_gives = { λ _ e. e ≡ NoMemory };
+
+    fn from(_error: AllocError) -> SourceFault {
+        SourceFault::NoMemory
+    }
+}
+
+impl<T: Drop> From<AllocFailed<T>> for SourceFault {
+    ghost from_gives = { λ _ e. e ≡ NoMemory };
+
+    fn from(_error: AllocFailed<T>) -> SourceFault {
+        SourceFault::NoMemory
+    }
+}
+
+/// Files by the names under which includes find them, in the order in which they were added; at most 64.
+#[derive(Drop)]
+pub struct Sources {
+    files: IndexMap<String, Vec<u8>>,
+}
+
+impl Model for Sources {
+    ghost use Rattle.std.specs.Prelude.{List};
+    ghost use Rattle.compose_read.specs.Lines.{Source};
+    ghost use Rattle.compose_read.specs.Sources.{sources_of};
+
+    ghost Value = { List Source };
+
+    ghost view = { λ s. sources_of s.files.entries };
+}
+
+impl Sources {
+    /// The most sources.
+    pub const MOST: usize = 64;
+
+    /// No sources. It takes no memory.
+    pub fn new(alloc: Global) -> Sources
+        ensures { result ≡ [] }
+    {
+        Sources {
+            files: IndexMap::new(alloc),
+        }
+    }
+
+    /// How many sources there are. O(1).
+    pub fn count(&self) -> usize
+        ensures { result ≡ length self.now }
+    {
+        self.files.len()
+    }
+
+    /// The name of the source at this place, if there is one. O(1).
+    pub fn name(&self, place: usize) -> Option<&str>
+        ensures { option_copied result ≡ option_map (λ s. s.name) (slice_get self.now place) }
+    {
+        let (name, _) = self.files.get_index(place)?;
+        Some(name.as_str())
+    }
+
+    /// Adds a source behind the others. A refusal changes nothing. O(1) in the sources, beside the copy of the name.
+    pub fn add(&mut self, name: &str, bytes: Vec<u8>) -> Result<(), SourceFault>
+        ensures ok { OnOk result ((add_fault self.old name.now ≡ None) × (self.new ≡ self.old ++ record { name = name.now; bytes = bytes.items } ∷ [])) }
+        ensures err { OnErr result (self.new ≡ self.old) }
+        ensures refused { IfErr result (λ e. e ≢ NoMemory → add_fault self.old name.now ≡ Some e) }
+        ensures fault { IsSome (add_fault self.old name.now) → IfErr result (λ e. add_fault self.old name.now ≡ Some e) }
+    {
+        if self.place(name).is_some() {
+            return Err(SourceFault::NameTaken);
+        }
+        if self.count() >= Sources::MOST {
+            return Err(SourceFault::TooManySources);
+        }
+        self.append(name, bytes)?;
+        Ok(())
+    }
+
+    /// The place of the source with this name, if there is one. O(1).
+    pub(crate) fn place(&self, name: &str) -> Option<usize>
+        ensures place { result ≡ position (λ s. bytes_eq name.now s.name) self.now }
+        ensures within { IfSome result (λ i. i < length self.now) }
+    {
+        self.files.get_index_of(name)
+    }
+
+    /// The bytes of the source at this place. O(1).
+    pub(crate) fn bytes(&self, place: usize) -> &[u8]
+        requires { place < length self.now }
+        ensures { option_map (λ s. s.bytes) (slice_get self.now place) ≡ Some result.now }
+    {
+        self.files[place].as_slice()
+    }
+
+    /// Puts a source with a new name behind the others, if there is memory.
+    fn append(&mut self, name: &str, bytes: Vec<u8>) -> Result<(), AllocError>
+        requires { position (λ s. bytes_eq name.now s.name) self.old ≡ None }
+        ensures ok { OnOk result (self.new ≡ self.old ++ record { name = name.now; bytes = bytes.items } ∷ []) }
+        ensures err { OnErr result (self.new ≡ self.old) }
+    {
+        let alloc = *self.files.allocator();
+        let kept = String::from_str(alloc, name)?;
+        self.files.insert(kept, bytes)?;
+        Ok(())
+    }
+}
