@@ -1,0 +1,11 @@
+pub mod Steps
+pub mod Prefixes
+pub mod OneMore
+pub mod MoreRows
+pub mod NextIn
+pub mod Adding
+pub mod Lookups
+pub mod Unpacking
+pub mod Spelling
+pub mod PackedLookups
+pub mod PackedTexts

@@ -1,0 +1,198 @@
+-- What the rows of a settled table say of its nodes, edges and leaves.
+use Rattle.std.proofs.Common.{◌≡◌, ℕ, zero, suc, ◌<◌, ◌≤◌, List, [], ◌∷◌, ◌++◌, Bool, true, false, cond, not, ◌&&◌, ◌||◌, ◌⊎◌, length, map, get_or, refl, sym, ◌∙◌, ap, arith, inl, inr, eqb-true, eq-eqb, nat_cmp, ltb-true, leb-true}
+use Rattle.std.specs.Prelude.{◌==◌, nat_lt, nat_le, nat_eq, Option, Some, None, is_some, option_map, slice_get}
+use Rattle.std.specs.Option.{option_or}
+use Rattle.std.specs.List.{list_any, list_all, find}
+use Rattle.std.specs.Cmp.Lexicographic.{slice_cmp}
+use Rattle.std.proofs.lemmas.Cmp.{nat_list_cmp_total}
+use Rattle.std.proofs.lemmas.Bool.{and_parts, or_cases, cases_Bool}
+use Rattle.std.proofs.lemmas.List.{get_or-map, length-map}
+use Rattle.std.proofs.lemmas.Option.{slice_get-get_or}
+use Rattle.std.proofs.lemmas.List.Elements.{All-from_recursion}
+use Rattle.std.proofs.lemmas.Map.Keys.{any_passes_from_place}
+use Rattle.std.proofs.lemmas.Map.Views.{length-le_from_below}
+use Rattle.keysym_core.specs.Keysym.{is_keysym, is_ignored}
+use Rattle.compose_model.specs.Table.{Definition, same, is_proper_prefix, is_sequence, is_extended, text_at, is_table, is_definition}
+use Rattle.compose_model.specs.Nodes.{nodes, leaves, is_node, node, number_of, has_edge, edges}
+use Rattle.compose_model.proofs.Tests.{both_at}
+use Rattle.compose_model.proofs.NodeLemmas.{same_is, same_from, node_means, root_first, keysyms_are, edge_key, listed_edge}
+use Rattle.compose_model.proofs.Exact.{sequence_text}
+use Rattle.compose_read.specs.Settle.{sequences_rise, IsSettled}
+use Rattle.compose_tree.specs.declared.edge.Edge.{Edge}
+use Rattle.compose_tree.specs.declared.table.Target.{Target}
+use Rattle.compose_tree.specs.declared.table.Target.TheVariants.{Node, Leaf}
+use Rattle.compose_tree.specs.Targets.{target_of, leaf_number, leaf_text}
+use Rattle.compose_tree.specs.Rows.{NodeRow, where_to, edge_of, row_of, rows_of}
+use Rattle.compose_tree.proofs.Prefixes.{Before, not_before_itself, all_found_keys}
+use Rattle.compose_tree.proofs.OneMore.{edges_sorted, edge_is_listed}
+use Rattle.compose_tree.proofs.NextIn.{head_before, tail_rises}
+use Rattle.compose_tree.proofs.Adding.{leaves_are}
+
+-- ---- what a definition keeps to
+
+pub sequence_few : (d : Definition) → is_definition d ≡ true → length d.sequence ≤ 32
+sequence_few d h =
+    let len = length d.sequence in
+    let keys = list_all (λ k. is_keysym k && not (is_ignored k)) d.sequence in
+    leb-true len 32 (and_parts (nat_lt 0 len) (nat_le len 32) (and_parts (nat_lt 0 len && nat_le len 32) keys (and_parts (nat_lt 0 len && nat_le len 32 && keys) (nat_le (length d.text) 255) h).0).0).1
+
+pub sequence_some : (d : Definition) → is_definition d ≡ true → 0 < length d.sequence
+sequence_some d h =
+    let len = length d.sequence in
+    let keys = list_all (λ k. is_keysym k && not (is_ignored k)) d.sequence in
+    ltb-true 0 len (and_parts (nat_lt 0 len) (nat_le len 32) (and_parts (nat_lt 0 len && nat_le len 32) keys (and_parts (nat_lt 0 len && nat_le len 32 && keys) (nat_le (length d.text) 255) h).0).0).0
+
+keysyms_fit : (d : Definition) → is_definition d ≡ true → list_all (λ k. is_keysym k && not (is_ignored k)) d.sequence ≡ true
+keysyms_fit d h =
+    let len = length d.sequence in
+    let keys = list_all (λ k. is_keysym k && not (is_ignored k)) d.sequence in
+    (and_parts (nat_lt 0 len && nat_le len 32) keys (and_parts (nat_lt 0 len && nat_le len 32 && keys) (nat_le (length d.text) 255) h).0).1
+
+pub text_few : (d : Definition) → is_definition d ≡ true → length d.text ≤ 255
+text_few d h =
+    let len = length d.sequence in
+    let keys = list_all (λ k. is_keysym k && not (is_ignored k)) d.sequence in
+    leb-true (length d.text) 255 (and_parts (nat_lt 0 len && nat_le len 32 && keys) (nat_le (length d.text) 255) h).1
+
+pub definition_at : (table : List Definition) (i : ℕ) (d : Definition) → is_table table ≡ true → i < length table → is_definition (get_or table i d) ≡ true
+definition_at [] i d t h = absurd (omega arith)
+definition_at (e ∷ table) zero d t h = (and_parts (is_definition e) (is_table table) t).0
+definition_at (e ∷ table) (suc i) d t h = definition_at table i d (and_parts (is_definition e) (is_table table) t).1 (omega arith)
+
+-- ---- nodes
+
+pub node_listed : (table : List Definition) (i : ℕ) → i < length (nodes table) → is_node table (node table i) ≡ true
+node_listed table i h = any_passes_from_place (same (node table i)) (nodes table) i (node table i) (slice_get-get_or (nodes table) i [] h) (same_from (node table i) (node table i) refl)
+
+shorter : (p s : List ℕ) → is_proper_prefix p s ≡ true → length p < length s
+shorter p [] h = cc
+shorter [] (k ∷ s) h = omega arith
+shorter (j ∷ p) (k ∷ s) h = let l = shorter p s (and_parts (j == k) (is_proper_prefix p s) h).1 in omega arith
+
+-- a node has at most 31 keysyms
+pub node_few : (table : List Definition) (p : List ℕ) → is_table table ≡ true → is_node table p ≡ true → length p ≤ 31
+node_few table p t h = elim (or_cases (same p []) (is_extended table p) (sym (node_means table p) ∙ h)) [
+  | inl e ↦ (let n : length p ≡ 0 = ap length (same_is p [] e) in omega arith)
+  | inr e ↦ (let d = both_at is_definition (λ (d : Definition). is_proper_prefix p d.sequence) table t e in
+      let l = shorter p d.0.sequence d.2 in
+      let m = sequence_few d.0 d.1 in omega arith)
+]
+
+pub some_node : (table : List Definition) → 1 ≤ length (nodes table)
+some_node table = let r = root_first table in let n : length (nodes table) ≡ length ([] ∷ r.0) = ap length r.1 in omega arith
+
+-- the row at a node's number is the node's
+pub row_found : (table : List Definition) (rows : List NodeRow) (i : ℕ) (row : NodeRow) → rows ≡ rows_of table → i < length (nodes table) → row ≡ get_or rows i row → row ≡ row_of table (node table i)
+row_found table rows i row e h at = at ∙ ap (λ rs. get_or rs i row) e ∙ get_or-map (row_of table) (nodes table) i [] row h
+
+-- ---- edges
+
+lead_by : {X : Type 0} (a b : Bool) (n l : X) → cond a (Some n) (cond b (Some l) None) ≡ cond (a || b) (Some (cond a n l)) None
+lead_by true b n l = refl
+lead_by false true n l = refl
+lead_by false false n l = refl
+
+-- an edge leads to the node or leaf behind it
+pub target_is : (table : List Definition) (p : List ℕ) (k : ℕ) → target_of table p k ≡ cond (has_edge table p k) (Some (where_to table (p ++ k ∷ []))) None
+target_is table p k = lead_by (is_node table (p ++ k ∷ [])) (is_sequence table (p ++ k ∷ [])) (Node (record { 0 = number_of table (p ++ k ∷ []) })) (Leaf (record { 0 = leaf_number table (p ++ k ∷ []) }))
+
+pub target_at_edge : (table : List Definition) (p : List ℕ) (k : ℕ) → has_edge table p k ≡ true → target_of table p k ≡ Some (where_to table (p ++ k ∷ []))
+target_at_edge table p k h = target_is table p k ∙ ap (λ b. cond {A = Option Target} b (Some (where_to table (p ++ k ∷ []))) None) h
+
+-- the edge at a place leads where its keysym does
+pub target_found : (table : List Definition) (p : List ℕ) (i : ℕ) (edge : Edge) → i < length (edges table p) → edge ≡ get_or (map (edge_of table p) (edges table p)) i edge → target_of table p edge.keysym ≡ Some edge.target
+target_found table p i edge h at =
+    let k = get_or (edges table p) i 0 in
+    let is : edge ≡ edge_of table p k = at ∙ get_or-map (edge_of table p) (edges table p) i 0 edge h in
+    let listed = any_passes_from_place (λ j. k == j) (edges table p) i k (slice_get-get_or (edges table p) i 0 h) (eq-eqb k k refl) in
+    ap (λ (e : Edge). target_of table p e.keysym) is ∙ target_at_edge table p k (listed_edge table p k listed) ∙ ap (λ (e : Edge). Some e.target) (sym is)
+
+flipped : (j k : ℕ) → (k == j) ≡ false → nat_eq j k ≡ false
+flipped j k h = elim (cases_Bool (nat_eq j k)) [
+  | inl e ↦ (let is : j ≡ k = eqb-true j k e in let f : true ≡ false = sym (eq-eqb k j (sym is)) ∙ h in cc)
+  | inr e ↦ e
+]
+
+scanned : (table : List Definition) (p : List ℕ) (k : ℕ) (ks : List ℕ)
+    → option_map (λ (e : Edge). e.target) (find (λ (e : Edge). nat_eq e.keysym k) (map (edge_of table p) ks)) ≡ cond (list_any (λ j. k == j) ks) (Some (where_to table (p ++ k ∷ []))) None
+scanned table p k [] = refl
+scanned table p k (j ∷ ks) = go (k == j) refl (scanned table p k ks)
+  where
+    go : (b : Bool) → (k == j) ≡ b → option_map (λ (e : Edge). e.target) (find (λ (e : Edge). nat_eq e.keysym k) (map (edge_of table p) ks)) ≡ cond (list_any (λ i. k == i) ks) (Some (where_to table (p ++ k ∷ []))) None
+        → option_map (λ (e : Edge). e.target) (cond (nat_eq j k) (Some (edge_of table p j)) (find (λ (e : Edge). nat_eq e.keysym k) (map (edge_of table p) ks))) ≡ cond (b || list_any (λ i. k == i) ks) (Some (where_to table (p ++ k ∷ []))) None
+    go true e later =
+        let is : k ≡ j = eqb-true k j e in
+        ap (λ t. option_map (λ (e : Edge). e.target) (cond t (Some (edge_of table p j)) (find (λ (e : Edge). nat_eq e.keysym k) (map (edge_of table p) ks)))) (eq-eqb j k (sym is)) ∙ ap (λ i. Some (where_to table (p ++ i ∷ []))) (sym is)
+    go false e later = ap (λ t. option_map (λ (e : Edge). e.target) (cond t (Some (edge_of table p j)) (find (λ (e : Edge). nat_eq e.keysym k) (map (edge_of table p) ks)))) (flipped j k e) ∙ later
+
+-- a scan of a node's edges finds where a keysym leads
+pub target_scanned : (table : List Definition) (p : List ℕ) (k : ℕ) → option_map (λ (e : Edge). e.target) (find (λ (e : Edge). nat_eq e.keysym k) (map (edge_of table p) (edges table p))) ≡ target_of table p k
+target_scanned table p k = scanned table p k (edges table p) ∙ ap (λ b. cond {A = Option Target} b (Some (where_to table (p ++ k ∷ []))) None) (edge_is_listed table p k) ∙ sym (target_is table p k)
+
+keysym_fits : (k j : ℕ) → k ≡ j → is_keysym j ≡ true → k < 536870912
+keysym_fits k j is fits = let l : j ≤ 536870911 = leb-true j 536870911 fits in omega arith
+
+-- an edge has a keysym
+pub edge_fits : (table : List Definition) (p : List ℕ) (k : ℕ) → is_table table ≡ true → has_edge table p k ≡ true → k < 536870912
+edge_fits table p k t h =
+    let d = both_at is_definition (λ (d : Definition). list_any (λ j. k == j) d.sequence) table t (sym (keysyms_are table (λ j. k == j)) ∙ edge_key table p k h) in
+    let j = both_at (λ j. is_keysym j && not (is_ignored j)) (λ j. k == j) d.0.sequence (keysyms_fit d.0 d.1) d.2 in
+    keysym_fits k j.0 (eqb-true k j.0 j.2) (and_parts (is_keysym j.0) (not (is_ignored j.0)) j.1).0
+
+-- so no node has more edges than there are keysyms
+pub edges_few : (table : List Definition) (p : List ℕ) → is_table table ≡ true → length (edges table p) ≤ 536870912
+edges_few table p t = length-le_from_below 536870912 (edges table p) (edges_sorted table p)
+    (All-from_recursion (λ k. k < 536870912) (edges table p) (all_found_keys (λ k. k < 536870912) (edges table p) (λ k h. edge_fits table p k t (listed_edge table p k h))))
+
+-- ---- leaves
+
+pub leaves_count : (table : List Definition) → IsSettled table → length (leaves table) ≡ length table
+leaves_count table s = ap length (leaves_are table s.rise) ∙ length-map table (λ (d : Definition). d.sequence)
+
+-- each sequence comes after the first
+first_before : (d : Definition) (table : List Definition) (t : List ℕ) → sequences_rise (d ∷ table) ≡ true → is_sequence table t ≡ true → Before d.sequence t
+first_before d [] t r h = cc
+first_before d (e ∷ table) t r h = elim (or_cases (same t e.sequence) (is_sequence table t) h) [
+  | inl f ↦ ap (slice_cmp nat_cmp d.sequence) (same_is t e.sequence f) ∙ head_before d e table r
+  | inr f ↦ nat_list_cmp_total.trans d.sequence e.sequence t (head_before d e table r) (first_before e table t (tail_rises d e table r) f)
+]
+
+tail_rises_on : (d : Definition) (table : List Definition) → sequences_rise (d ∷ table) ≡ true → sequences_rise table ≡ true
+tail_rises_on d [] h = refl
+tail_rises_on d (e ∷ table) h = tail_rises d e table h
+
+no_text : (table : List Definition) (v : List ℕ) → is_sequence table v ≡ false → text_at table v ≡ None
+no_text table v h = go (text_at table v) (sequence_text table v ∙ h)
+  where
+    go : (o : Option (List ℕ)) → is_some o ≡ false → o ≡ None
+    go None e = refl
+    go (Some t) e = cc
+
+-- a sequence has the text at its place
+text_at_place : (table : List Definition) (i : ℕ) (d : Definition) → sequences_rise table ≡ true → i < length table → text_at table (get_or table i d).sequence ≡ Some (get_or table i d).text
+text_at_place [] i d r h = absurd (omega arith)
+text_at_place (e ∷ table) zero d r h =
+    ap (λ o. option_or o (cond (same e.sequence e.sequence) (Some e.text) None)) (no_text table e.sequence (only_first (cases_Bool (is_sequence table e.sequence))))
+    ∙ ap (λ b. cond {A = Option (List ℕ)} b (Some e.text) None) (same_from e.sequence e.sequence refl)
+  where
+    only_first : (is_sequence table e.sequence ≡ true) ⊎ (is_sequence table e.sequence ≡ false) → is_sequence table e.sequence ≡ false
+    only_first (inl f) = absurd (not_before_itself e.sequence e.sequence refl (first_before e table e.sequence r f))
+    only_first (inr f) = f
+text_at_place (e ∷ table) (suc i) d r h =
+    ap (λ o. option_or o (cond (same (get_or table i d).sequence e.sequence) (Some e.text) None)) (text_at_place table i d (tail_rises_on e table r) (omega arith))
+
+-- the text of a leaf is that of the definition at its place
+pub leaf_text_is : (table : List Definition) (i : ℕ) (d : Definition) → IsSettled table → i < length table → leaf_text table i ≡ Some (get_or table i d).text
+leaf_text_is table i d s h =
+    ap (λ ls. text_at table (get_or ls i [])) (leaves_are table s.rise) ∙ ap (text_at table) (get_or-map (λ (e : Definition). e.sequence) table i d [] h) ∙ text_at_place table i d s.rise h
+
+-- what is read at a definition's place is its text
+pub text_read : (table : List Definition) (i : ℕ) (t : List ℕ) (d : Definition) → i < length table → option_map (λ (e : Definition). e.text) (slice_get table i) ≡ Some t → t ≡ (get_or table i d).text
+text_read table i t d h e = let f : Some (get_or table i d).text ≡ Some t = ap (option_map (λ (e : Definition). e.text)) (sym (slice_get-get_or table i d h)) ∙ e in cc
+
+pub text_is : (table : List Definition) (i : ℕ) (t : List ℕ) → IsSettled table → i < length (leaves table) → option_map (λ (e : Definition). e.text) (slice_get table i) ≡ Some t → (leaf_text table i ≡ Some t) × (length t ≤ 255)
+text_is table i t s h e =
+    let d : Definition = record { sequence = []; text = [] } in
+    let within : i < length table = let n = leaves_count table s in omega arith in
+    let is : t ≡ (get_or table i d).text = text_read table i t d within e in
+    (leaf_text_is table i d s within ∙ ap (λ x. Some x) (sym is), (let few = text_few (get_or table i d) (definition_at table i d s.definitions within) in let n : length t ≡ length (get_or table i d).text = ap length is in omega arith))

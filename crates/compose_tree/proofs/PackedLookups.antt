@@ -1,0 +1,223 @@
+-- How the packed arrays are made, step by step, and what is found in them.
+use Rattle.std.proofs.Common.{◌≡◌, ℕ, zero, suc, ◌+◌, ◌-◌, ◌<◌, ◌≤◌, List, [], ◌∷◌, ◌++◌, true, false, cond, ◌⊎◌, length, map, get_or, slice_index, take, drop, refl, sym, ◌∙◌, ap, subst, arith, inl, inr, eqb-true, eq-eqb, add-one, add-zero, zero-add, append_assoc, length-append, drop-cons}
+use Rattle.std.specs.Prelude.{◌==◌, Option, Some, None, option_map, slice_get}
+use Rattle.std.specs.List.{list_any, list_all}
+use Rattle.std.specs.List.Sorted.{IsStrictlyIncreasing}
+use Rattle.std.specs.Str.{is_utf8, IsUtf8}
+use Rattle.std.proofs.Math.Nat.{eq-or-lt_of_le}
+use Rattle.std.proofs.lemmas.Bool.{and_from, or_cases, cases_Bool}
+use Rattle.std.proofs.lemmas.List.{get_or-map, length-map}
+use Rattle.std.proofs.lemmas.Map.Keys.{below_from_sorted, sorted_from_strictly_increasing, IsStrictlyIncreasing-from_sorted, any_passes_from_place}
+use Rattle.std.proofs.lemmas.Option.{slice_get-get_or}
+use Rattle.std.proofs.lemmas.Str.{is_utf8-from_IsUtf8}
+use Rattle.compose_model.specs.Table.{Definition}
+use Rattle.compose_model.specs.Nodes.{nodes, node, edges, has_edge}
+use Rattle.compose_model.proofs.NodeLemmas.{listed_edge}
+use Rattle.compose_read.specs.Settle.{IsSettled}
+use Rattle.compose_tree.specs.declared.packed.PackedEdge.{PackedEdge}
+use Rattle.compose_tree.specs.declared.packed.PackedNode.{PackedNode}
+use Rattle.compose_tree.specs.declared.table.Target.{Target}
+use Rattle.compose_tree.specs.Targets.{target_of}
+use Rattle.compose_tree.specs.Rows.{NodeRow, row_at, rows_of, row_of, edge_of, where_to}
+use Rattle.compose_tree.specs.Packed.{packed_edge, packed_nodes, packed_edges, packed_places, pool, texts_of, unpacked_target, unpacked, keys_of, with_texts, spelled, unpacked_texts, IsPacked}
+use Rattle.compose_tree.proofs.OneMore.{edges_sorted, edge_is_listed}
+use Rattle.compose_tree.proofs.Lookups.{text_read, target_is, target_at_edge}
+use Rattle.compose_tree.proofs.Unpacking.{piece, unpack_rows, unpack_texts, unpack_target, put_together}
+use Rattle.compose_tree.proofs.Spelling.{spelled_all}
+
+-- ---- making the pool
+
+-- the texts from a place on
+pub texts_on : (all : List Definition) (i : ℕ) (t : List ℕ) → i < length all → option_map (λ (d : Definition). d.text) (slice_get all i) ≡ Some t → texts_of (drop i all) ≡ t ∷ texts_of (drop (i + 1) all)
+texts_on all i t h e =
+    let d : Definition = record { sequence = []; text = [] } in
+    rw add-one (ap texts_of (drop-cons all i d h) ∙ ap (λ x. x ∷ texts_of (drop (suc i) all)) (sym (text_read all i t d h e)))
+
+pub places_step : (all : List Definition) (i place next : ℕ) (whole places more t : List ℕ) → whole ≡ places ++ packed_places place (texts_of (drop i all)) → texts_of (drop i all) ≡ t ∷ texts_of (drop (i + 1) all)
+    → more ≡ places ++ place ∷ [] → next ≡ place + length t → whole ≡ more ++ packed_places next (texts_of (drop (i + 1) all))
+places_step all i place next whole places more t e f g h =
+    let rest = texts_of (drop (i + 1) all) in
+    e ∙ ap (λ ts. places ++ packed_places place ts) f ∙ sym (append_assoc places (place ∷ []) (packed_places (place + length t) rest))
+    ∙ ap (λ x. x ++ packed_places (place + length t) rest) (sym g) ∙ ap (λ n. more ++ packed_places n rest) (sym h)
+
+pub pool_step : (all : List Definition) (i : ℕ) (whole bytes more t : List ℕ) → whole ≡ bytes ++ pool (texts_of (drop i all)) → texts_of (drop i all) ≡ t ∷ texts_of (drop (i + 1) all) → more ≡ bytes ++ t → whole ≡ more ++ pool (texts_of (drop (i + 1) all))
+pool_step all i whole bytes more t e f g =
+    let rest = texts_of (drop (i + 1) all) in
+    e ∙ ap (λ ts. bytes ++ pool ts) f ∙ sym (append_assoc bytes t (pool rest)) ∙ ap (λ x. x ++ pool rest) (sym g)
+
+pub utf8_step : (all : List Definition) (i : ℕ) (t : List ℕ) → texts_of (drop i all) ≡ t ∷ texts_of (drop (i + 1) all) → IsUtf8 t → list_all is_utf8 (texts_of (drop (i + 1) all)) ≡ true → list_all is_utf8 (texts_of (drop i all)) ≡ true
+utf8_step all i t f u h = ap (list_all is_utf8) f ∙ and_from (is_utf8 t) (list_all is_utf8 (texts_of (drop (i + 1) all))) (is_utf8-from_IsUtf8 t u) h
+
+-- ---- the search among rising keysyms
+
+pub key_there : (edges : List PackedEdge) (m : ℕ) (e : PackedEdge) → m < length edges → e ≡ get_or edges m e → slice_index (keys_of edges) m ≡ e.keysym
+key_there edges m e h at = get_or-map (λ (e : PackedEdge). e.keysym) edges m e 0 h ∙ ap (λ (e : PackedEdge). e.keysym) (sym at)
+
+keys_length : (edges : List PackedEdge) → length (keys_of edges) ≡ length edges
+keys_length edges = length-map edges (λ (e : PackedEdge). e.keysym)
+
+-- where the keysym at m is less, each up to m is less
+pub less_up_to : (edges : List PackedEdge) (key m : ℕ) → IsStrictlyIncreasing (keys_of edges) → m < length edges → slice_index (keys_of edges) m < key → (k : ℕ) → k < m + 1 → slice_index (keys_of edges) k < key
+less_up_to edges key m rise h less k le = go (eq-or-lt_of_le {n = k} {m = m} (omega (arith, le)))
+  where
+    go : (k ≡ m) ⊎ (k < m) → slice_index (keys_of edges) k < key
+    go (inl same) = let P : ℕ → Type 0 = λ n. slice_index (keys_of edges) n < key in subst P (sym same) less
+    go (inr lower) = (let n = keys_length edges in let l : slice_index (keys_of edges) k < slice_index (keys_of edges) m = below_from_sorted (keys_of edges) k m 0 (sorted_from_strictly_increasing (keys_of edges) rise) lower (omega arith) in omega arith)
+
+-- where the keysym at m is greater, each from m on is greater
+pub greater_from : (edges : List PackedEdge) (key m : ℕ) → IsStrictlyIncreasing (keys_of edges) → key < slice_index (keys_of edges) m → (k : ℕ) → m ≤ k → k < length edges → key < slice_index (keys_of edges) k
+greater_from edges key m rise greater k le h = go (eq-or-lt_of_le le)
+  where
+    go : (m ≡ k) ⊎ (m < k) → key < slice_index (keys_of edges) k
+    go (inl same) = let P : ℕ → Type 0 = λ n. key < slice_index (keys_of edges) n in subst P same greater
+    go (inr lower) = (let n = keys_length edges in let l : slice_index (keys_of edges) m < slice_index (keys_of edges) k = below_from_sorted (keys_of edges) m k 0 (sorted_from_strictly_increasing (keys_of edges) rise) lower (omega arith) in omega arith)
+
+-- ---- the arrays of a table spell it
+
+pub unpack : (table : List Definition) → IsSettled table → unpacked (packed_nodes 0 (rows_of table)) (packed_edges (rows_of table)) (packed_places 0 (texts_of table)) (pool (texts_of table)) ≡ table
+unfolding unpacked
+unpack table s =
+    ap (λ rows. with_texts (spelled rows 32 0) (unpacked_texts (packed_places 0 (texts_of table)) (pool (texts_of table)))) (unpack_rows (rows_of table))
+    ∙ ap (with_texts (spelled (rows_of table) 32 0)) (unpack_texts (texts_of table))
+    ∙ ap (λ ss. with_texts ss (texts_of table)) (spelled_all table s 32 (omega arith)) ∙ put_together table
+
+-- ---- a node's entries
+
+-- the entries of node i and of the one behind it, counted from a place, and its edges among all
+pub record NodePiece (nodes : List PackedNode) (edges : List PackedEdge) (place i : ℕ) (row : NodeRow) : Type 0 where
+  pub front : List PackedEdge
+  pub back : List PackedEdge
+  pub edges_are : edges ≡ front ++ (map packed_edge row.edges ++ back)
+  pub depth : (d : PackedNode) → (get_or nodes i d).depth ≡ row.depth
+  pub first : (d : PackedNode) → (get_or nodes i d).first ≡ place + length front
+  pub end : (d : PackedNode) → (get_or nodes (suc i) d).first ≡ place + length front + length row.edges
+  pub within : suc i < length nodes
+
+first_place : (rows : List NodeRow) (place : ℕ) (d : PackedNode) → (get_or (packed_nodes place rows) 0 d).first ≡ place
+first_place [] place d = refl
+first_place (r ∷ rows) place d = refl
+
+pub packed_count : (rows : List NodeRow) (place : ℕ) → length (packed_nodes place rows) ≡ length rows + 1
+packed_count [] place = refl
+packed_count (r ∷ rows) place = let e = packed_count rows (place + length r.edges) in omega arith
+
+node_piece : (rows : List NodeRow) (place i : ℕ) → i < length rows → NodePiece (packed_nodes place rows) (packed_edges rows) place i (row_at rows i)
+node_piece [] place i h = absurd (omega arith)
+node_piece (r ∷ rows) place zero h = record {
+  front = [];
+  back = packed_edges rows;
+  edges_are = refl;
+  depth = λ d. refl;
+  first = λ d. sym (add-zero place);
+  end = λ d. first_place rows (place + length r.edges) d ∙ ap (λ n. n + length r.edges) (sym (add-zero place));
+  within = (let n = packed_count rows (place + length r.edges) in omega arith);
+}
+node_piece (r ∷ rows) place (suc i) h =
+    let q = node_piece rows (place + length r.edges) i (omega arith) in
+    let es = map packed_edge r.edges in
+    let n : length (es ++ q.front) ≡ length r.edges + length q.front = length-append es q.front ∙ ap (λ m. m + length q.front) (length-map r.edges packed_edge) in
+    record {
+      front = es ++ q.front;
+      back = q.back;
+      edges_are = ap (λ x. es ++ x) q.edges_are ∙ sym (append_assoc es q.front (map packed_edge (row_at rows i).edges ++ q.back));
+      depth = q.depth;
+      first = λ d. q.first d ∙ placed place (length r.edges) (length q.front) (length (es ++ q.front)) n;
+      end = λ d. q.end d ∙ ap (λ m. m + length (row_at rows i).edges) (placed place (length r.edges) (length q.front) (length (es ++ q.front)) n);
+      within = (let m = q.within in omega arith);
+    }
+  where
+    placed : (place a b c : ℕ) → c ≡ a + b → place + a + b ≡ place + c
+    placed place a b c e = omega arith
+
+module _ (nodes' : List PackedNode) (edges' : List PackedEdge) (places bytes : List ℕ) (table : List Definition) (p : IsPacked nodes' edges' places bytes table) where
+  row_at_node : (i : ℕ) → i < length (nodes table) → row_at (rows_of table) i ≡ row_of table (node table i)
+  row_at_node i h = get_or-map (row_of table) (nodes table) i [] (record { depth = 0; edges = [] }) h
+
+  -- the entries of a node of the table
+  pub node_entries : (i : ℕ) → i < length (nodes table) → NodePiece nodes' edges' 0 i (row_of table (node table i))
+  node_entries i h =
+      subst (λ (x : List PackedNode). NodePiece x edges' 0 i (row_of table (node table i))) (sym p.nodes_are)
+      (subst (λ (x : List PackedEdge). NodePiece (packed_nodes 0 (rows_of table)) x 0 i (row_of table (node table i))) (sym p.edges_are)
+      (subst (λ (x : NodeRow). NodePiece (packed_nodes 0 (rows_of table)) (packed_edges (rows_of table)) 0 i x) (row_at_node i h)
+      (node_piece (rows_of table) 0 i (let n = length-map (nodes table) (row_of table) in omega arith))))
+
+  pub nodes_count : length nodes' ≡ length (nodes table) + 1
+  nodes_count = ap length p.nodes_are ∙ packed_count (rows_of table) 0 ∙ ap (λ n. n + 1) (length-map (nodes table) (row_of table))
+
+  -- the edges between two places are the node's
+  pub edges_between : (i first end : ℕ) (a b : PackedNode) → i < length (nodes table) → a ≡ get_or nodes' i a → b ≡ get_or nodes' (i + 1) b → first ≡ a.first → end ≡ b.first
+      → (first ≤ end) × (end ≤ length edges') × (take (end - first) (drop first edges') ≡ map packed_edge (row_of table (node table i)).edges)
+  edges_between i first end a b h at behind f g =
+      let q = node_entries i h in
+      let es = map packed_edge (row_of table (node table i)).edges in
+      let n : length es ≡ length (row_of table (node table i)).edges = length-map (row_of table (node table i)).edges packed_edge in
+      let from : first ≡ length q.front = f ∙ ap (λ (x : PackedNode). x.first) at ∙ q.first a ∙ zero-add (length q.front) in
+      let to : end ≡ 0 + length q.front + length (row_of table (node table i)).edges = g ∙ ap (λ (x : PackedNode). x.first) (behind ∙ ap (λ j. get_or nodes' j b) (add-one i)) ∙ q.end b in
+      let all : length edges' ≡ length q.front + (length es + length q.back) = ap length q.edges_are ∙ length-append q.front (es ++ q.back) ∙ ap (λ m. length q.front + m) (length-append es q.back) in
+      (omega arith, omega arith, ap (λ x. take (end - first) (drop first x)) q.edges_are ∙ piece first end q.front es q.back (sym from) (omega arith))
+
+-- ---- what a search of a node's edges tells
+
+pub packed_keys : (table : List Definition) (x ks : List ℕ) → keys_of (map packed_edge (map (edge_of table x) ks)) ≡ ks
+packed_keys table x [] = refl
+packed_keys table x (k ∷ ks) = ap (λ z. k ∷ z) (packed_keys table x ks)
+
+pub keys_rise : (table : List Definition) (x : List ℕ) (es : List PackedEdge) → es ≡ map packed_edge (map (edge_of table x) (edges table x)) → IsStrictlyIncreasing (keys_of es)
+keys_rise table x es e = subst IsStrictlyIncreasing (sym (ap keys_of e ∙ packed_keys table x (edges table x))) (IsStrictlyIncreasing-from_sorted (edges table x) (edges_sorted table x))
+
+place_in : (k : ℕ) (ks : List ℕ) → list_any (λ j. k == j) ks ≡ true → (m : ℕ) × (m < length ks) × (get_or ks m 0 ≡ k)
+place_in k [] h = cc
+place_in k (j ∷ ks) h = elim (or_cases (k == j) (list_any (λ i. k == i) ks) h) [
+  | inl e ↦ (0, omega arith, sym (eqb-true k j e))
+  | inr e ↦ (let q = place_in k ks e in (suc q.0, (let l = q.1 in omega arith), q.2))
+]
+
+-- where no edge has the keysym, it leads nowhere
+pub step_none : (table : List Definition) (x : List ℕ) (k : ℕ) (es : List PackedEdge) → es ≡ map packed_edge (map (edge_of table x) (edges table x)) → ((m : ℕ) → m < length es → slice_index (keys_of es) m ≡ k → ⊥) → None ≡ target_of table x k
+step_none table x k es e none = sym (target_is table x k ∙ ap (λ b. cond {A = Option Target} b (Some (where_to table (x ++ k ∷ []))) None) (no_edge (cases_Bool (has_edge table x k))))
+  where
+    keys : keys_of es ≡ edges table x
+    keys = ap keys_of e ∙ packed_keys table x (edges table x)
+
+    no_edge : (has_edge table x k ≡ true) ⊎ (has_edge table x k ≡ false) → has_edge table x k ≡ false
+    no_edge (inl f) =
+        let q = place_in k (edges table x) (edge_is_listed table x k ∙ f) in
+        let n : length (keys_of es) ≡ length (edges table x) = ap length keys in
+        let m : length (keys_of es) ≡ length es = keys_length es in
+        let l = q.1 in
+        absurd (none q.0 (omega arith) (ap (λ ks. get_or ks q.0 0) keys ∙ q.2))
+    no_edge (inr f) = f
+
+-- an edge that is packed is the table's edge of its keysym
+packed_edge_is : (table : List Definition) (x : List ℕ) (i : ℕ) (es : List PackedEdge) (e : PackedEdge) → es ≡ map packed_edge (map (edge_of table x) (edges table x)) → i < length es → e ≡ get_or es i e → e ≡ packed_edge (edge_of table x (get_or (edges table x) i 0))
+packed_edge_is table x i es e es_are h at =
+    let n : length es ≡ length (edges table x) = ap length es_are ∙ length-map (map (edge_of table x) (edges table x)) packed_edge ∙ length-map (edges table x) (edge_of table x) in
+    let m : length (map (edge_of table x) (edges table x)) ≡ length (edges table x) = length-map (edges table x) (edge_of table x) in
+    at ∙ ap (λ y. get_or y i e) es_are ∙ get_or-map packed_edge (map (edge_of table x) (edges table x)) i (edge_of table x 0) e (omega arith)
+    ∙ ap packed_edge (get_or-map (edge_of table x) (edges table x) i 0 (edge_of table x 0) (omega arith))
+
+pub edge_read : (table : List Definition) (x : List ℕ) (i : ℕ) (es : List PackedEdge) (e : PackedEdge) (t : Target) → es ≡ map packed_edge (map (edge_of table x) (edges table x)) → i < length es → e ≡ get_or es i e → t ≡ unpacked_target e.target
+    → (slice_get (edges table x) i ≡ Some e.keysym) × (target_of table x e.keysym ≡ Some t)
+edge_read table x i es e t es_are h at unpacked_is =
+    let k = get_or (edges table x) i 0 in
+    let n : length es ≡ length (edges table x) = ap length es_are ∙ length-map (map (edge_of table x) (edges table x)) packed_edge ∙ length-map (edges table x) (edge_of table x) in
+    let is : e ≡ packed_edge (edge_of table x k) = packed_edge_is table x i es e es_are h at in
+    let key : e.keysym ≡ k = ap (λ (y : PackedEdge). y.keysym) is in
+    let got : slice_get (edges table x) i ≡ Some k = slice_get-get_or (edges table x) i 0 (omega arith) in
+    let listed = any_passes_from_place (λ j. k == j) (edges table x) i k got (eq-eqb k k refl) in
+    let lead : t ≡ where_to table (x ++ k ∷ []) = unpacked_is ∙ ap (λ (y : PackedEdge). unpacked_target y.target) is ∙ unpack_target (where_to table (x ++ k ∷ [])) in
+    (got ∙ ap (λ j. Some j) (sym key), ap (target_of table x) key ∙ target_at_edge table x k (listed_edge table x k listed) ∙ ap (λ y. Some y) (sym lead))
+
+pub edges_counted : (table : List Definition) (x : List ℕ) (es : List PackedEdge) → es ≡ map packed_edge (map (edge_of table x) (edges table x)) → length es ≡ length (edges table x)
+edges_counted table x es e = ap length e ∙ length-map (map (edge_of table x) (edges table x)) packed_edge ∙ length-map (edges table x) (edge_of table x)
+
+-- arrays that are those of what they spell are those of what this is
+pub packed_as : (nodes' : List PackedNode) (edges' : List PackedEdge) (places bytes : List ℕ) (table : List Definition) → IsPacked nodes' edges' places bytes (unpacked nodes' edges' places bytes) → unpacked nodes' edges' places bytes ≡ table → IsPacked nodes' edges' places bytes table
+packed_as nodes' edges' places bytes table p e = subst (IsPacked nodes' edges' places bytes) e p
+
+-- the arrays of a table spell it
+pub unpack_packed : (nodes' : List PackedNode) (edges' : List PackedEdge) (places bytes : List ℕ) (table : List Definition) → IsPacked nodes' edges' places bytes table → unpacked nodes' edges' places bytes ≡ table
+unpack_packed nodes' edges' places bytes table p =
+    ap (λ x. unpacked x edges' places bytes) p.nodes_are ∙ ap (λ x. unpacked (packed_nodes 0 (rows_of table)) x places bytes) p.edges_are
+    ∙ ap (λ x. unpacked (packed_nodes 0 (rows_of table)) (packed_edges (rows_of table)) x bytes) p.places_are
+    ∙ ap (unpacked (packed_nodes 0 (rows_of table)) (packed_edges (rows_of table)) (packed_places 0 (texts_of table))) p.bytes_are ∙ unpack table p.settled

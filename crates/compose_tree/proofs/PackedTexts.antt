@@ -1,0 +1,111 @@
+-- What is found in the pool of texts.
+use Rattle.std.proofs.Common.{◌≡◌, ℕ, zero, suc, ◌+◌, ◌-◌, ◌<◌, ◌≤◌, List, [], ◌∷◌, ◌++◌, true, length, get_or, take, drop, refl, sym, ◌∙◌, ap, subst, arith, add-one, add-zero, zero-add, append_assoc, length-append}
+use Rattle.std.specs.Prelude.{Some}
+use Rattle.std.specs.List.{list_all}
+use Rattle.std.specs.Str.{is_utf8, IsUtf8, IsCharBoundary}
+use Rattle.std.proofs.lemmas.Bool.{and_parts}
+use Rattle.std.proofs.lemmas.List.{get_or-map, length-map}
+use Rattle.std.proofs.lemmas.Str.{IsUtf8-append, IsUtf8-from_is_utf8, IsCharBoundary-at_seam}
+use Rattle.compose_model.specs.Table.{Definition}
+use Rattle.compose_model.specs.Nodes.{leaves}
+use Rattle.compose_tree.specs.declared.packed.PackedEdge.{PackedEdge}
+use Rattle.compose_tree.specs.declared.packed.PackedNode.{PackedNode}
+use Rattle.compose_tree.specs.Targets.{leaf_text}
+use Rattle.compose_tree.specs.Packed.{packed_places, pool, texts_of, IsPacked}
+use Rattle.compose_tree.proofs.Lookups.{leaves_count, leaf_text_is, text_few, definition_at}
+use Rattle.compose_tree.proofs.Unpacking.{piece}
+
+-- the place of text i and of the one behind it, counted from a place, and its bytes in the pool
+pub record TextPiece (places bytes : List ℕ) (place i : ℕ) (text : List ℕ) : Type 0 where
+  pub front : List ℕ
+  pub back : List ℕ
+  pub bytes_are : bytes ≡ front ++ (text ++ back)
+  pub first : (d : ℕ) → get_or places i d ≡ place + length front
+  pub end : (d : ℕ) → get_or places (suc i) d ≡ place + length front + length text
+  pub within : suc i < length places
+  pub text_utf8 : IsUtf8 text
+  pub back_utf8 : IsUtf8 back
+
+pool_utf8 : (texts : List (List ℕ)) → list_all is_utf8 texts ≡ true → IsUtf8 (pool texts)
+pool_utf8 [] h = ([], (refl, refl))
+pool_utf8 (t ∷ texts) h = let both = and_parts (is_utf8 t) (list_all is_utf8 texts) h in IsUtf8-append t (pool texts) (IsUtf8-from_is_utf8 t both.0) (pool_utf8 texts both.1)
+
+first_place : (texts : List (List ℕ)) (place d : ℕ) → get_or (packed_places place texts) 0 d ≡ place
+first_place [] place d = refl
+first_place (t ∷ texts) place d = refl
+
+pub places_count : (texts : List (List ℕ)) (place : ℕ) → length (packed_places place texts) ≡ length texts + 1
+places_count [] place = refl
+places_count (t ∷ texts) place = let e = places_count texts (place + length t) in omega arith
+
+text_piece : (texts : List (List ℕ)) (place i : ℕ) → i < length texts → list_all is_utf8 texts ≡ true → TextPiece (packed_places place texts) (pool texts) place i (get_or texts i [])
+text_piece [] place i h u = absurd (omega arith)
+text_piece (t ∷ texts) place zero h u = record {
+  front = [];
+  back = pool texts;
+  bytes_are = refl;
+  first = λ d. sym (add-zero place);
+  end = λ d. first_place texts (place + length t) d ∙ ap (λ n. n + length t) (sym (add-zero place));
+  within = (let n = places_count texts (place + length t) in omega arith);
+  text_utf8 = IsUtf8-from_is_utf8 t (and_parts (is_utf8 t) (list_all is_utf8 texts) u).0;
+  back_utf8 = pool_utf8 texts (and_parts (is_utf8 t) (list_all is_utf8 texts) u).1;
+}
+text_piece (t ∷ texts) place (suc i) h u =
+    let q = text_piece texts (place + length t) i (omega arith) (and_parts (is_utf8 t) (list_all is_utf8 texts) u).1 in
+    let n : length (t ++ q.front) ≡ length t + length q.front = length-append t q.front in
+    record {
+      front = t ++ q.front;
+      back = q.back;
+      bytes_are = ap (λ x. t ++ x) q.bytes_are ∙ sym (append_assoc t q.front (get_or texts i [] ++ q.back));
+      first = λ d. q.first d ∙ placed place (length t) (length q.front) (length (t ++ q.front)) n;
+      end = λ d. q.end d ∙ ap (λ m. m + length (get_or texts i [])) (placed place (length t) (length q.front) (length (t ++ q.front)) n);
+      within = (let m = q.within in omega arith);
+      text_utf8 = q.text_utf8;
+      back_utf8 = q.back_utf8;
+    }
+  where
+    placed : (place a b c : ℕ) → c ≡ a + b → place + a + b ≡ place + c
+    placed place a b c e = omega arith
+
+-- the bytes between two places are a text, and can be cut out of the pool
+pub record TextBetween (bytes : List ℕ) (first end : ℕ) (text : List ℕ) : Type 0 where
+  pub order : first ≤ end
+  pub within : end ≤ length bytes
+  pub starts : IsCharBoundary bytes first
+  pub ends : IsCharBoundary bytes end
+  pub cut : take (end - first) (drop first bytes) ≡ text
+
+module _ (nodes' : List PackedNode) (edges' : List PackedEdge) (places bytes : List ℕ) (table : List Definition) (p : IsPacked nodes' edges' places bytes table) where
+  pub leaf_entries : (i : ℕ) → i < length (leaves table) → TextPiece places bytes 0 i (get_or (texts_of table) i [])
+  leaf_entries i h =
+      subst (λ (x : List ℕ). TextPiece x bytes 0 i (get_or (texts_of table) i [])) (sym p.places_are)
+      (subst (λ (x : List ℕ). TextPiece (packed_places 0 (texts_of table)) x 0 i (get_or (texts_of table) i [])) (sym p.bytes_are)
+      (text_piece (texts_of table) 0 i (let n = leaves_count table p.settled in let m = length-map table (λ (d : Definition). d.text) in omega arith) p.texts_are_utf8))
+
+  pub places_counted : length places ≡ length (leaves table) + 1
+  places_counted = ap length p.places_are ∙ places_count (texts_of table) 0 ∙ ap (λ n. n + 1) (length-map table (λ (d : Definition). d.text) ∙ sym (leaves_count table p.settled))
+
+  pub text_between : (i first end : ℕ) (a b : ℕ) → i < length (leaves table) → a ≡ get_or places i a → b ≡ get_or places (i + 1) b → first ≡ a → end ≡ b → TextBetween bytes first end (get_or (texts_of table) i [])
+  text_between i first end a b h at behind f g =
+      let q = leaf_entries i h in
+      let t = get_or (texts_of table) i [] in
+      let from : first ≡ length q.front = f ∙ at ∙ q.first a ∙ zero-add (length q.front) in
+      let to : end ≡ 0 + length q.front + length t = g ∙ behind ∙ ap (λ j. get_or places j b) (add-one i) ∙ q.end b in
+      let all : length bytes ≡ length q.front + (length t + length q.back) = ap length q.bytes_are ∙ length-append q.front (t ++ q.back) ∙ ap (λ m. length q.front + m) (length-append t q.back) in
+      let joined : length (q.front ++ t) ≡ length q.front + length t = length-append q.front t in
+      let end_is : length (q.front ++ t) ≡ end = omega arith in
+      record {
+        order = omega arith;
+        within = omega arith;
+        starts = subst (IsCharBoundary bytes) (sym from) (IsCharBoundary-at_seam bytes q.front (t ++ q.back) q.bytes_are (IsUtf8-append t q.back q.text_utf8 q.back_utf8));
+        ends = subst (IsCharBoundary bytes) end_is (IsCharBoundary-at_seam bytes (q.front ++ t) q.back (q.bytes_are ∙ sym (append_assoc q.front t q.back)) q.back_utf8);
+        cut = ap (λ x. take (end - first) (drop first x)) q.bytes_are ∙ piece first end q.front t q.back (sym from) (omega arith);
+      }
+
+  -- that text is the leaf's
+  pub leaf_text_found : (i : ℕ) (t : List ℕ) → i < length (leaves table) → t ≡ get_or (texts_of table) i [] → (leaf_text table i ≡ Some t) × (length t ≤ 255)
+  leaf_text_found i t h e =
+      let d : Definition = record { sequence = []; text = [] } in
+      let within : i < length table = let n = leaves_count table p.settled in omega arith in
+      let is : t ≡ (get_or table i d).text = e ∙ get_or-map (λ (x : Definition). x.text) table i d [] within in
+      (leaf_text_is table i d p.settled within ∙ ap (λ x. Some x) (sym is), (let few = text_few (get_or table i d) (definition_at table i d p.settled.definitions within) in let n : length t ≡ length (get_or table i d).text = ap length is in omega arith))

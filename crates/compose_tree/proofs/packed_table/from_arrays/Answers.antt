@@ -1,0 +1,13 @@
+use Rattle.std.proofs.Common.{sym, string_bytes}
+use Rattle.compose_tree.specs.Packed.{IsPacked}
+use Rattle.compose_tree.proofs.PackedLookups.{unpack_packed}
+use Rattle.compose_tree.proofs.packed_table.from_arrays.Goals as goal
+use Rattle.std.proofs.Common.{subst}
+
+pub invariant_of-result : goal.invariant_of-result
+invariant_of-result c =
+    subst (IsPacked c.args.nodes.items c.args.edges.items c.args.places.items (string_bytes c.args.texts))
+    (sym (unpack_packed c.args.nodes.items c.args.edges.items c.args.places.items (string_bytes c.args.texts) c.args.sequences.now c.requires)) c.requires
+
+pub returns : goal.returns
+returns c = unpack_packed c.args.nodes.items c.args.edges.items c.args.places.items (string_bytes c.args.texts) c.args.sequences.now c.requires

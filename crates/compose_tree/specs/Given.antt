@@ -1,0 +1,69 @@
+-- What reading a table gives: its settled definitions, or the first fault on the way.
+use Rattle.std.specs.Prelude.{◌≡◌, ℕ, nat_le, List, length, if◌then◌else◌, Result, Ok, Err}
+use Rattle.keysym_core.specs.Names.{KeysymNames}
+use Rattle.compose_model.specs.Table.{Definition}
+use Rattle.compose_model.specs.Nodes.{nodes}
+use Rattle.compose_model.specs.declared.Rule.{Rule}
+use Rattle.compose_read.specs.Lines.{Source}
+use Rattle.compose_read.specs.Read.{definitions_of}
+use Rattle.compose_read.specs.Settle.{Overlap, settled}
+use Rattle.compose_read.specs.declared.ReadFault.{ReadFault}
+use Rattle.compose_read.specs.declared.ReadFault.TheVariants as read_faults
+use Rattle.compose_read.specs.declared.settling.SettleFault.{SettleFault}
+use Rattle.compose_read.specs.declared.settling.SettleFault.TheVariants as settle_faults
+use Rattle.compose_tree.specs.Targets.{max_nodes}
+use Rattle.compose_tree.specs.declared.table.BuildFault.{BuildFault}
+use Rattle.compose_tree.specs.declared.table.BuildFault.TheVariants as build_faults
+use Rattle.compose_tree.specs.declared.reading.TableFault.{TableFault}
+use Rattle.compose_tree.specs.declared.reading.TableFault.TheVariants.{Read, Settle, Build, NoMemory}
+
+-- ---- the definition
+
+-- why sources give no table
+pub data NoTable : Type 0 where
+  unread : ReadFault → NoTable
+  overlapping : Overlap → NoTable
+  too_many_nodes : NoTable
+
+-- the rows that the definitions are settled to, unless they have too many nodes
+abbrev pub bounded : Result (List Definition) Overlap → Result (List Definition) NoTable
+bounded (Err overlap) = Err (overlapping overlap)
+bounded (Ok rows) = if nat_le (length (nodes rows)) max_nodes then Ok rows else Err too_many_nodes
+
+abbrev pub settled_by : Rule → Result (List Definition) ReadFault → Result (List Definition) NoTable
+settled_by rule (Err fault) = Err (unread fault)
+settled_by rule (Ok definitions) = bounded (settled rule definitions)
+
+-- the settled definitions that are read from the root by the rule, or the first fault
+abbrev pub table_of : KeysymNames → List Source → List ℕ → Rule → Result (List Definition) NoTable
+table_of names sources root rule = settled_by rule (definitions_of names sources root)
+
+-- ---- what a call answers
+
+-- a fault of a part as one of the whole; want of memory is the whole's own
+abbrev pub read_raised : ReadFault → TableFault
+read_raised read_faults.NoMemory = NoMemory
+read_raised fault = Read fault
+
+abbrev pub settle_raised : SettleFault → TableFault
+settle_raised settle_faults.NoMemory = NoMemory
+settle_raised fault = Settle fault
+
+abbrev pub build_raised : BuildFault → TableFault
+build_raised build_faults.NoMemory = NoMemory
+build_raised fault = Build fault
+
+-- the fault of reading that is said
+abbrev pub ReadSaid : ReadFault → Result (List Definition) NoTable → Type 0
+ReadSaid read_faults.NoMemory said = ⊥
+ReadSaid fault said = said ≡ Err (unread fault)
+
+-- the value or the fault that is said, unless memory is wanting
+abbrev pub TableGives : {T : Type 0} → (T → List Definition) → Result T TableFault → Result (List Definition) NoTable → Type 0
+TableGives view (Ok table) said = said ≡ Ok (view table)
+TableGives view (Err (Read fault)) said = ReadSaid fault said
+TableGives view (Err (Settle (settle_faults.Overlap short long))) said = said ≡ Err (overlapping (record { short = short.0.items; long = long.0.items }))
+TableGives view (Err (Settle settle_faults.NoMemory)) said = ⊥
+TableGives view (Err (Build build_faults.TooManyNodes)) said = said ≡ Err too_many_nodes
+TableGives view (Err (Build build_faults.NoMemory)) said = ⊥
+TableGives view (Err NoMemory) said = Unit {0}

@@ -1,0 +1,80 @@
+-- The rows of a table: for each node how deep it is, and its edges in order with where they lead.
+use Rattle.std.specs.Prelude.{ℕ, ◌+◌, ◌==◌, List, [], ◌∷◌, ◌++◌, map, length, get_or, slice_set, if◌then◌else◌}
+use Rattle.compose_model.specs.Table.{Definition}
+use Rattle.compose_model.specs.Nodes.{proper_prefixes, nodes, is_node, number_of, edges}
+use Rattle.compose_tree.specs.Targets.{leaf_number}
+use Rattle.compose_tree.specs.declared.edge.Edge.{Edge}
+use Rattle.compose_tree.specs.declared.table.Target.{Target}
+use Rattle.compose_tree.specs.declared.table.Target.TheVariants.{Node, Leaf}
+
+pub record NodeRow : Type 0 where
+  pub depth : ℕ
+  pub edges : List Edge
+
+-- the node or the leaf that a list is
+abbrev pub where_to : List Definition → List ℕ → Target
+where_to table q = if is_node table q then Node (record { 0 = number_of table q }) else Leaf (record { 0 = leaf_number table q })
+
+-- the edge of this keysym at node p
+abbrev pub edge_of : List Definition → List ℕ → ℕ → Edge
+edge_of table p k = record { keysym = k; target = where_to table (p ++ k ∷ []) }
+
+abbrev pub row_of : List Definition → List ℕ → NodeRow
+row_of table p = record { depth = length p; edges = map (edge_of table p) (edges table p) }
+
+-- a row for each node, in order
+abbrev pub rows_of : List Definition → List NodeRow
+rows_of table = map (row_of table) (nodes table)
+
+-- ---- what a sequence adds, which goes on behind the ones before it
+
+-- where an edge leads behind which these keysyms are left: to the leaf, or to the next node
+abbrev pub next_target : ℕ → ℕ → List ℕ → Target
+next_target node leaf [] = Leaf (record { 0 = leaf })
+next_target node leaf (k ∷ rest) = Node (record { 0 = node })
+
+-- the rows of new nodes, from this node and depth on: one for each keysym that is left, with one edge
+abbrev pub new_rows : ℕ → ℕ → ℕ → List ℕ → List NodeRow
+new_rows node leaf depth [] = []
+new_rows node leaf depth (k ∷ rest) =
+    record { depth = depth; edges = record { keysym = k; target = next_target (1 + node) leaf rest } ∷ [] } ∷ new_rows (1 + node) leaf (1 + depth) rest
+
+-- the row of a node
+abbrev pub row_at : List NodeRow → ℕ → NodeRow
+row_at rows i = get_or rows i (record { depth = 0; edges = [] })
+
+-- the rows with one more edge at a node
+abbrev pub with_edge : List NodeRow → ℕ → Edge → List NodeRow
+with_edge rows i edge = slice_set rows i (record { depth = (row_at rows i).depth; edges = (row_at rows i).edges ++ edge ∷ [] })
+
+-- ---- the way to the last sequence
+
+-- the keysyms of the definition at this place
+abbrev pub sequence_at : List Definition → ℕ → List ℕ
+sequence_at table i = (get_or table i (record { sequence = []; text = [] })).sequence
+
+-- the last sequence; where there is none, a list with the root alone before it
+abbrev pub last_sequence : List Definition → List ℕ
+last_sequence [] = 0 ∷ []
+last_sequence (d ∷ []) = d.sequence
+last_sequence (d ∷ e ∷ table) = last_sequence (e ∷ table)
+
+-- the numbers of the nodes on the way to it, from the root on
+abbrev pub path_of : List Definition → List ℕ
+path_of table = map (number_of table) (proper_prefixes (last_sequence table))
+
+-- how many keysyms two lists have in common at their front
+abbrev pub shared : List ℕ → List ℕ → ℕ
+shared [] t = 0
+shared (j ∷ s) [] = 0
+shared (j ∷ s) (k ∷ t) = if j == k then 1 + shared s t else 0
+
+-- how many of the keysyms of s lead along the last sequence
+abbrev pub shared_with_last : List Definition → List ℕ → ℕ
+shared_with_last [] s = 0
+shared_with_last (d ∷ table) s = shared (last_sequence (d ∷ table)) s
+
+-- so many numbers from this one on
+abbrev pub counted : ℕ → List ℕ → List ℕ
+counted n [] = []
+counted n (k ∷ rest) = n ∷ counted (1 + n) rest

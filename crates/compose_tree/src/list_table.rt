@@ -1,0 +1,98 @@
+//! The plain form of a table: its sequences, and a row of edges for each node.
+ghost use Rattle.std.specs.Prelude.{◌≡◌, nat_eq, option_map};
+ghost use Rattle.std.specs.List.{find};
+
+use crate::edge::Edge;
+use crate::rows::{Row, build_rows};
+use crate::table::{BuildFault, ComposeTable, LeafId, NodeId, Target};
+use compose_read::Sequences;
+use keysym_core::Keysym;
+use std::alloc::Global;
+use std::marker::Model;
+
+/// A table as rows of nodes, with the sequences beside them. Its `step` is a scan, O(edges of the node).
+#[derive(Drop)]
+pub struct ListTable {
+    sequences: Sequences,
+    rows: Vec<Row>,
+}
+
+impl Model for ListTable {
+    ghost use Rattle.std.specs.Prelude.{◌≡◌, ◌≤◌, ◌<◌, List, length};
+    ghost use Rattle.compose_model.specs.Table.{Definition};
+    ghost use Rattle.compose_model.specs.Nodes.{nodes};
+    ghost use Rattle.compose_read.specs.Settle.{IsSettled};
+    ghost use Rattle.compose_tree.specs.Targets.{max_nodes};
+    ghost use Rattle.compose_tree.specs.Rows.{rows_of};
+
+    ghost Value = { List Definition };
+
+    ghost view = { λ t. t.sequences };
+
+    ghost invariant = { λ t. IsSettled t.sequences × (t.rows.items ≡ rows_of t.sequences) × (length (nodes t.sequences) ≤ max_nodes) × (length t.sequences < 4294967296) };
+}
+
+/// Where the edge of this keysym leads, if it is among these.
+fn target_in(edges: &[Edge], keysym: Keysym) -> Option<Target>
+    ensures { result ≡ option_map (λ e. e.target) (find (λ e. nat_eq e.keysym keysym) edges.now) }
+{
+    for edge in edges {
+        if edge.keysym == keysym {
+            return Some(edge.target);
+        }
+    }
+    None
+}
+
+impl ListTable {
+    ghost use Rattle.std.specs.Prelude.{◌<◌, length};
+    ghost use Rattle.compose_model.specs.Nodes as words;
+    ghost use Rattle.compose_read.specs.Settle.{IsSettled};
+    ghost use Rattle.compose_tree.specs.Rows.{row_of};
+
+    fn row(&self, node: NodeId) -> &Row
+        requires { node.0 < length (words.nodes self.now) }
+        ensures value { result.now ≡ row_of self.now (words.node self.now node.0) }
+        ensures settled { IsSettled self.now }
+    {
+        &self.rows[node.0 as usize]
+    }
+}
+
+impl ComposeTable for ListTable {
+    ghost definitions = { λ t. t };
+
+    fn build(alloc: Global, sequences: Sequences) -> Result<Self, BuildFault> {
+        let rows = build_rows(alloc, &sequences)?;
+        Ok(ListTable { sequences, rows })
+    }
+
+    fn node_count(&self) -> u32 {
+        self.rows.len() as u32
+    }
+
+    fn leaf_count(&self) -> u32 {
+        self.sequences.len() as u32
+    }
+
+    fn depth(&self, node: NodeId) -> u32 {
+        self.row(node).depth()
+    }
+
+    fn edge_count(&self, node: NodeId) -> u32 {
+        self.row(node).edges().len() as u32
+    }
+
+    fn edge(&self, node: NodeId, index: u32) -> (Keysym, Target) {
+        let edge = self.row(node).edges()[index as usize];
+        (edge.keysym, edge.target)
+    }
+
+    fn step(&self, node: NodeId, keysym: Keysym) -> Option<Target> {
+        target_in(self.row(node).edges(), keysym)
+    }
+
+    fn text(&self, leaf: LeafId) -> &str {
+        self.sequences.text(leaf.0 as usize)
+    }
+}

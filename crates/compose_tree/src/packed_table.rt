@@ -1,0 +1,274 @@
+//! The packed form of a table: flat arrays.
+//!
+//! `<a> <b> : "x"`, `<a> <c> : "yz"` and `<d> : "w"` make
+//!
+//! ```text
+//! nodes    number   0        1        end
+//!          depth    0        1
+//!          first    0        2        4          place of the node's first edge
+//!
+//! edges    place    0        1        2        3
+//!          keysym   a        d        b        c
+//!          target   node 1   leaf 2   leaf 0   leaf 1
+//!
+//! places   leaf     0        1        2        end
+//!          place    0        1        3        4
+//! texts             x        y z      w
+//! ```
+//!
+//! A node's edges stand together and rise by their keysyms; they end where the next node's begin.
+ghost use Rattle.std.specs.Prelude.{◌≡◌, ◌<◌, ◌≤◌, ◌+◌, ◌++◌, ℕ, length, map, slice_index, MatchOption, IfOk, OnOk, IsTrue, string_bytes};
+ghost use Rattle.std.specs.List.{list_all};
+ghost use Rattle.std.specs.List.Sorted.{IsStrictlyIncreasing};
+ghost use Rattle.std.specs.Str.{is_utf8};
+ghost use Rattle.compose_tree.specs.Packed as words;
+ghost use Rattle.compose_tree.specs.Packed.{keys_of, packed_edge, packed_target, unpacked_target, packed_nodes, packed_edges, packed_places, pool, texts_of};
+
+use crate::edge::Edge;
+use crate::packed::{PackedEdge, PackedNode};
+use crate::rows::{Row, build_rows};
+use crate::table::{BuildFault, ComposeTable, LeafId, NodeId, Target};
+use compose_read::Sequences;
+use keysym_core::Keysym;
+use std::alloc::{AllocError, Global};
+use std::marker::Model;
+
+/// A table as flat arrays: 8 bytes a node, 8 bytes an edge, 4 bytes a leaf and its text.
+#[derive(Drop)]
+pub struct PackedTable {
+    nodes: Vec<PackedNode>,
+    edges: Vec<PackedEdge>,
+    places: Vec<u32>,
+    texts: String,
+}
+
+impl Model for PackedTable {
+    ghost use Rattle.std.specs.Prelude.{List, string_bytes};
+    ghost use Rattle.compose_model.specs.Table.{Definition};
+    ghost use Rattle.compose_tree.specs.Packed.{unpacked, IsPacked};
+
+    ghost Value = { List Definition };
+
+    ghost view = { λ t. unpacked t.nodes.items t.edges.items t.places.items (string_bytes t.texts) };
+
+    ghost invariant = { λ t. IsPacked t.nodes.items t.edges.items t.places.items (string_bytes t.texts) (unpacked t.nodes.items t.edges.items t.places.items (string_bytes t.texts)) };
+}
+
+/// The code of a target, if it fits.
+fn pack_target(target: Target) -> Result<u32, AllocError>
+    ensures { IfOk result (λ code. code ≡ packed_target target) }
+{
+    match target {
+        Target::Node(node) if node.0 < 0x8000_0000 => Ok(node.0 * 2),
+        Target::Leaf(leaf) if leaf.0 < 0x8000_0000 => Ok(leaf.0 * 2 + 1),
+        _ => Err(AllocError),
+    }
+}
+
+/// The target of a code.
+fn unpack_target(code: u32) -> Target
+    ensures { result ≡ unpacked_target code }
+{
+    if code % 2 == 0 {
+        Target::Node(NodeId(code / 2))
+    } else {
+        Target::Leaf(LeafId(code / 2))
+    }
+}
+
+/// The place behind so many entries, if it fits.
+fn place_behind(place: u32, count: usize) -> Result<u32, AllocError>
+    ensures { IfOk result (λ next. next ≡ place + count) }
+{
+    let Ok(count) = u32::try_from(count) else {
+        return Err(AllocError);
+    };
+    place.checked_add(count).ok_or(AllocError)
+}
+
+/// For each row its depth and the place of its first edge, and behind them the end of the edges.
+fn pack_nodes(alloc: Global, rows: &[Row]) -> Result<Vec<PackedNode>, AllocError>
+    ensures { IfOk result (λ nodes. nodes.items ≡ packed_nodes 0 rows.now) }
+{
+    let mut nodes = Vec::with_capacity(alloc, rows.len().saturating_add(1))?;
+    let mut place = 0;
+    for row in rows {
+        nodes.push(PackedNode {
+            depth: row.depth(),
+            first: place,
+        })?;
+        place = place_behind(place, row.edges().len())?;
+    }
+    nodes.push(PackedNode {
+        depth: 0,
+        first: place,
+    })?;
+    Ok(nodes)
+}
+
+/// Puts a row's edges behind the others.
+fn push_edges(edges: &mut Vec<PackedEdge>, more: &[Edge]) -> Result<(), AllocError>
+    ensures { OnOk result (edges.new.items ≡ edges.old.items ++ map packed_edge more.now) }
+{
+    for edge in more {
+        let target = pack_target(edge.target)?;
+        edges.push(PackedEdge {
+            keysym: edge.keysym,
+            target,
+        })?;
+    }
+    Ok(())
+}
+
+/// The edges of all rows, of which there are so many.
+fn pack_edges(alloc: Global, rows: &[Row], count: usize) -> Result<Vec<PackedEdge>, AllocError>
+    ensures { IfOk result (λ edges. edges.items ≡ packed_edges rows.now) }
+{
+    let mut edges = Vec::with_capacity(alloc, count)?;
+    for row in rows {
+        push_edges(&mut edges, row.edges())?;
+    }
+    Ok(edges)
+}
+
+/// For each text its place in the pool, and behind them the end of the pool.
+fn pack_places(alloc: Global, sequences: &Sequences) -> Result<Vec<u32>, AllocError>
+    ensures { IfOk result (λ places. places.items ≡ packed_places 0 (texts_of sequences.now)) }
+{
+    let mut places = Vec::with_capacity(alloc, sequences.len().saturating_add(1))?;
+    let mut place = 0;
+    for index in 0..sequences.len() {
+        places.push(place)?;
+        place = place_behind(place, sequences.text(index).len())?;
+    }
+    places.push(place)?;
+    Ok(places)
+}
+
+/// All texts, one behind another, so many bytes in all.
+fn pack_texts(alloc: Global, sequences: &Sequences, count: usize) -> Result<String, AllocError>
+    ensures bytes { IfOk result (λ texts. string_bytes texts ≡ pool (texts_of sequences.now)) }
+    ensures utf8 { IfOk result (λ _. IsTrue (list_all is_utf8 (texts_of sequences.now))) }
+{
+    let mut texts = String::with_capacity(alloc, count)?;
+    for index in 0..sequences.len() {
+        texts.push_str(sequences.text(index))?;
+    }
+    Ok(texts)
+}
+
+/// Where a keysym stands among rising edges. O(log edges).
+fn place_of(edges: &[PackedEdge], keysym: Keysym) -> Option<usize>
+    requires { IsStrictlyIncreasing (keys_of edges.now) }
+    ensures { MatchOption result ((k : ℕ) → k < length edges.now → slice_index (keys_of edges.now) k ≡ keysym → ⊥) (λ i. (i < length edges.now) × (slice_index (keys_of edges.now) i ≡ keysym)) }
+{
+    let wanted = keysym.value();
+    let mut low = 0;
+    let mut high = edges.len();
+    while low < high {
+        let middle = low + (high - low) / 2;
+        let there = edges[middle].keysym.value();
+        if there == wanted {
+            return Some(middle);
+        }
+        if there < wanted {
+            low = middle + 1;
+        } else {
+            high = middle;
+        }
+    }
+    None
+}
+
+/// The table of these arrays, which are those of the sequences.
+fn from_arrays(
+    sequences: &Sequences,
+    nodes: Vec<PackedNode>,
+    edges: Vec<PackedEdge>,
+    places: Vec<u32>,
+    texts: String,
+) -> PackedTable
+    requires { words.IsPacked nodes.items edges.items places.items (string_bytes texts) sequences.now }
+    ensures { result ≡ sequences.now }
+{
+    let _ = sequences;
+    PackedTable {
+        nodes,
+        edges,
+        places,
+        texts,
+    }
+}
+
+impl PackedTable {
+    ghost use Rattle.std.specs.Prelude.{◌<◌, length};
+    ghost use Rattle.compose_model.specs.Nodes as model;
+    ghost use Rattle.compose_read.specs.Settle.{IsSettled};
+    ghost use Rattle.compose_tree.specs.Rows.{row_of};
+
+    /// The edges of a node. O(1).
+    fn edges_of(&self, node: NodeId) -> &[PackedEdge]
+        requires { node.0 < length (model.nodes self.now) }
+        ensures value { result.now ≡ map packed_edge (row_of self.now (model.node self.now node.0)).edges }
+        ensures settled { IsSettled self.now }
+    {
+        let number = node.0 as usize;
+        let first = self.nodes[number].first as usize;
+        let end = self.nodes[number + 1].first as usize;
+        let (_, from_first) = self.edges.split_at(first);
+        let (own, _) = from_first.split_at(end - first);
+        own
+    }
+}
+
+impl ComposeTable for PackedTable {
+    ghost definitions = { λ t. t };
+
+    fn build(alloc: Global, sequences: Sequences) -> Result<Self, BuildFault> {
+        let rows = build_rows(alloc, &sequences)?;
+        let nodes = pack_nodes(alloc, &rows)?;
+        let edge_count = nodes.last().map_or(0, |end| end.first as usize);
+        let edges = pack_edges(alloc, &rows, edge_count)?;
+        let places = pack_places(alloc, &sequences)?;
+        let byte_count = places.last().map_or(0, |end| *end as usize);
+        let texts = pack_texts(alloc, &sequences, byte_count)?;
+        Ok(from_arrays(&sequences, nodes, edges, places, texts))
+    }
+
+    fn node_count(&self) -> u32 {
+        (self.nodes.len() - 1) as u32
+    }
+
+    fn leaf_count(&self) -> u32 {
+        (self.places.len() - 1) as u32
+    }
+
+    fn depth(&self, node: NodeId) -> u32 {
+        self.nodes[node.0 as usize].depth
+    }
+
+    fn edge_count(&self, node: NodeId) -> u32 {
+        self.edges_of(node).len() as u32
+    }
+
+    fn edge(&self, node: NodeId, index: u32) -> (Keysym, Target) {
+        let edge = self.edges_of(node)[index as usize];
+        (edge.keysym, unpack_target(edge.target))
+    }
+
+    fn step(&self, node: NodeId, keysym: Keysym) -> Option<Target> {
+        let edges = self.edges_of(node);
+        let Some(place) = place_of(edges, keysym) else {
+            return None;
+        };
+        Some(unpack_target(edges[place].target))
+    }
+
+    fn text(&self, leaf: LeafId) -> &str {
+        let number = leaf.0 as usize;
+        let first = self.places[number] as usize;
+        let end = self.places[number + 1] as usize;
+        let texts = self.texts.as_str();
+        &texts[first..end]
+    }
+}

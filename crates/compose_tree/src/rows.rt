@@ -1,0 +1,208 @@
+//! The rows of a table, built in one pass over its settled sequences.
+//!
+//! The sequences rise, so each shares the longest front with the one before it. The way to the last sequence is kept:
+//! a sequence adds one edge where it leaves that way, and opens a node for each keysym but the last behind it.
+ghost use Rattle.std.specs.Prelude.{◌≡◌, ◌<◌, ◌≤◌, ◌+◌, ◌++◌, ℕ, List, [], ◌∷◌, length, take, drop, Some, slice_get, slice_set, get_or, OnOk, OnErr, IfOk, IfErr};
+ghost use Rattle.compose_model.specs.Table.{Definition};
+ghost use Rattle.compose_model.specs.Nodes.{nodes};
+ghost use Rattle.compose_read.specs.Settle.{IsSettled};
+ghost use Rattle.compose_tree.specs.Targets.{max_nodes};
+ghost use Rattle.compose_tree.specs.Rows as words;
+ghost use Rattle.compose_tree.specs.Rows.{rows_of, row_at, with_edge, new_rows, next_target, path_of, sequence_at, shared_with_last, counted};
+
+use crate::edge::Edge;
+use crate::table::{BuildFault, LeafId, NodeId, Target};
+use compose_read::Sequences;
+use keysym_core::Keysym;
+use std::alloc::{AllocError, Global};
+use std::marker::Model;
+
+/// The most nodes that a table may have.
+pub const MAX_NODES: usize = 1_048_576;
+
+/// A node: its depth, and its edges in rising order.
+#[derive(Drop)]
+pub struct Row {
+    depth: u32,
+    edges: Vec<Edge>,
+}
+
+impl Model for Row {
+    ghost use Rattle.compose_tree.specs.Rows.{NodeRow};
+
+    ghost Value = { NodeRow };
+
+    ghost view = { λ r. record { depth = r.depth; edges = r.edges.items } };
+}
+
+impl Row {
+    /// How many keysyms lead to the node. O(1).
+    pub fn depth(&self) -> u32
+        ensures { result ≡ self.now.depth }
+    {
+        self.depth
+    }
+
+    /// Its edges in rising order. O(1).
+    pub fn edges(&self) -> &[Edge]
+        ensures { result.now ≡ self.now.edges }
+    {
+        self.edges.as_slice()
+    }
+
+    fn push(&mut self, edge: Edge) -> Result<(), AllocError>
+        ensures ok { OnOk result (self.new ≡ record { depth = self.old.depth; edges = self.old.edges ++ edge ∷ [] }) }
+    {
+        self.edges.push(edge)?;
+        Ok(())
+    }
+}
+
+/// How many keysyms two lists share at their front.
+fn shared_front(one: &[Keysym], other: &[Keysym]) -> usize
+    ensures { result ≡ words.shared one.now other.now }
+{
+    let mut count = 0;
+    while count < one.len() && count < other.len() && one[count] == other[count] {
+        count += 1;
+    }
+    count
+}
+
+/// The sequence at this place.
+fn sequence_of(sequences: &Sequences, index: usize) -> &[Keysym]
+    requires { index < length sequences.now }
+    ensures { result.now ≡ sequence_at sequences.now index }
+{
+    sequences.sequence(index)
+}
+
+/// How many keysyms the sequence at this place shares with the one before it.
+fn shared_with_previous(sequences: &Sequences, index: usize) -> usize
+    requires settled { IsSettled sequences.now }
+    requires in_range { index < length sequences.now }
+    ensures count { result ≡ shared_with_last (take index sequences.now) (sequence_at sequences.now index) }
+    ensures below { result < length (sequence_at sequences.now index) }
+{
+    if index == 0 {
+        return 0;
+    }
+    shared_front(
+        sequence_of(sequences, index - 1),
+        sequence_of(sequences, index),
+    )
+}
+
+/// Where the edge of the keysym at this place of the sequence leads: to the leaf behind the last one, else to the node.
+fn target_at(sequence: &[Keysym], place: usize, node: u32, leaf: u32) -> Target
+    requires { place < length sequence.now }
+    ensures { result ≡ next_target node leaf (drop (place + 1) sequence.now) }
+{
+    if place + 1 == sequence.len() {
+        Target::Leaf(LeafId(leaf))
+    } else {
+        Target::Node(NodeId(node))
+    }
+}
+
+/// Opens a node for each keysym of the sequence from this depth on.
+fn open_nodes(
+    alloc: Global,
+    rows: &mut Vec<Row>,
+    path: &mut Vec<u32>,
+    sequence: &[Keysym],
+    from: usize,
+    leaf: u32,
+) -> Result<(), AllocError>
+    requires few { length rows.old.items + length sequence.now < 2147483648 }
+    ensures rows { OnOk result (rows.new.items ≡ rows.old.items ++ new_rows (length rows.old.items) leaf from (drop from sequence.now)) }
+    ensures path { OnOk result (path.new.items ≡ path.old.items ++ counted (length rows.old.items) (drop from sequence.now)) }
+{
+    for depth in from..sequence.len() {
+        let node = rows.len() as u32;
+        let mut edges = Vec::with_capacity(alloc, 1)?;
+        edges.push(Edge {
+            keysym: sequence[depth],
+            target: target_at(sequence, depth, node + 1, leaf),
+        })?;
+        rows.push(Row {
+            depth: depth as u32,
+            edges,
+        })?;
+        path.push(node)?;
+    }
+    Ok(())
+}
+
+/// Puts the edge at a node.
+fn push_edge(rows: &mut Vec<Row>, node: u32, edge: Edge) -> Result<(), AllocError>
+    requires { node < length rows.old.items }
+    ensures { OnOk result (rows.new.items ≡ with_edge rows.old.items node edge) }
+{
+    rows[node as usize].push(edge)
+}
+
+/// Adds the sequence at this place to the rows of those before it.
+fn add_sequence(
+    alloc: Global,
+    rows: &mut Vec<Row>,
+    path: &mut Vec<u32>,
+    sequences: &Sequences,
+    index: u32,
+) -> Result<(), BuildFault>
+    requires settled { IsSettled sequences.now }
+    requires in_range { index < length sequences.now }
+    requires rows { rows.old.items ≡ rows_of (take index sequences.now) }
+    requires path { path.old.items ≡ path_of (take index sequences.now) }
+    requires few { length rows.old.items ≤ max_nodes }
+    ensures rows { OnOk result (rows.new.items ≡ rows_of (take (index + 1) sequences.now)) }
+    ensures path { OnOk result (path.new.items ≡ path_of (take (index + 1) sequences.now)) }
+    ensures few { OnOk result (length rows.new.items ≤ max_nodes) }
+    ensures many { IfErr result (λ fault. fault ≡ BuildFault.TooManyNodes → max_nodes < length (nodes sequences.now)) }
+{
+    let sequence = sequence_of(sequences, index as usize);
+    let shared = shared_with_previous(sequences, index as usize);
+    let opened = sequence.len() - (shared + 1);
+    if opened > MAX_NODES - rows.len() {
+        return Err(BuildFault::TooManyNodes);
+    }
+    let edge = Edge {
+        keysym: sequence[shared],
+        target: target_at(sequence, shared, rows.len() as u32, index),
+    };
+    push_edge(rows, path[shared], edge)?;
+    path.truncate(shared + 1);
+    open_nodes(alloc, rows, path, sequence, shared + 1, index)?;
+    Ok(())
+}
+
+/// The row of the root alone.
+fn root_row(alloc: Global) -> Result<Vec<Row>, AllocError>
+    ensures { IfOk result (λ rows. rows.items ≡ rows_of []) }
+{
+    let mut rows = Vec::with_capacity(alloc, 1)?;
+    rows.push(Row {
+        depth: 0,
+        edges: Vec::new(alloc),
+    })?;
+    Ok(rows)
+}
+
+/// The rows of the sequences, one for each node, unless there are more than 1,048,576. O(keysyms of all sequences).
+pub fn build_rows(alloc: Global, sequences: &Sequences) -> Result<Vec<Row>, BuildFault>
+    ensures rows { IfOk result (λ rows. rows.items ≡ rows_of sequences.now) }
+    ensures few { IfOk result (λ _. length (nodes sequences.now) ≤ max_nodes) }
+    ensures leaves { IfOk result (λ _. length sequences.now < 4294967296) }
+    ensures settled { IsSettled sequences.now }
+    ensures many { IfErr result (λ fault. fault ≡ BuildFault.TooManyNodes → max_nodes < length (nodes sequences.now)) }
+{
+    let Ok(count) = u32::try_from(sequences.len()) else {
+        return Err(BuildFault::NoMemory);
+    };
+    let mut rows = root_row(alloc)?;
+    let mut path = vec![in alloc; 0u32; 1]?;
+    for index in 0..count {
+        add_sequence(alloc, &mut rows, &mut path, sequences, index)?;
+    }
+    Ok(rows)
+}
