@@ -1,0 +1,82 @@
+-- What a key does to a session, by the target behind what is pending.
+use Rattle.std.proofs.Common.{◌≡◌, ℕ, ◌<◌, ◌≤◌, List, [], ◌∷◌, ◌++◌, Bool, true, false, length, not, refl, sym, ◌∙◌, ap, ap₂, ◌+◌, Option, Some, None, arith, unwrap_or}
+use Rattle.std.proofs.lemmas.List.{length-append}
+use Rattle.keysym_core.specs.Keysym.{is_ignored}
+use Rattle.keysym_core.specs.Names.{KeysymNames, text}
+use Rattle.compose_model.specs.Table.{Definition, is_table, text_at}
+use Rattle.compose_model.specs.Step.{Effect, ignores, extends, completes, passes, cancels, effect, is_empty, pending_by, status_by, text_by, step}
+use Rattle.compose_model.specs.Session.{Session, fed}
+use Rattle.compose_model.specs.declared.Status.{Status}
+use Rattle.compose_model.specs.declared.Status.TheVariants.{Nothing, Cancelled}
+use Rattle.std.specs.Prelude.{if◌then◌else◌}
+use Rattle.compose_tree.specs.declared.table.NodeId.{NodeId}
+use Rattle.compose_tree.specs.declared.table.LeafId.{LeafId}
+use Rattle.compose_tree.specs.declared.table.Target.{Target}
+use Rattle.compose_tree.specs.declared.table.Target.TheVariants.{Node, Leaf}
+use Rattle.compose_tree.specs.Targets.{target_of, leaf_text}
+use Rattle.compose_tree.proofs.Steps.{effect_at, effect_by_target, ToNode, ToLeaf}
+use Rattle.compose_state.specs.declared.fed.Fed.{Fed}
+use Rattle.compose_state.specs.Texts.{text_bytes}
+use Rattle.compose_state.specs.Answers.{IsFed}
+use Rattle.compose_state.proofs.Places.{to_node, to_leaf, extended_short}
+
+-- the session after a key with this effect
+pub fed_by : (table : List Definition) (s : Session) (k : ℕ) (x : Effect) → effect table s.pending k ≡ x → fed table s k ≡ (let t : Session = record { pending = pending_by x s.pending k; status = status_by x s.status } in t)
+fed_by table s k x e = ap (λ y. let t : Session = record { pending = pending_by y s.pending k; status = status_by y s.status } in t) e
+
+-- the effect of a key with this target
+pub effect_is_by : (table : List Definition) (p : List ℕ) (k : ℕ) (t : Option Target) → is_ignored k ≡ false → target_of table p k ≡ t → effect table p k ≡ effect_at (is_empty p) t
+effect_is_by table p k t fed e = effect_by_target table p k fed ∙ ap (effect_at (is_empty p)) e
+
+-- what a key that is not ignored does to a session where it leads to this target
+module _ (table : List Definition) (s : Session) (k : ℕ) (t : Option Target) (accepted : is_ignored k ≡ false) (leads : target_of table s.pending k ≡ t) where
+  -- the session after it
+  pub session_after : (u : List ℕ) (status : Status) → u ≡ pending_by (effect_at (is_empty s.pending) t) s.pending k → status ≡ status_by (effect_at (is_empty s.pending) t) s.status
+      → (let after : Session = record { pending = u; status = status } in after) ≡ fed table s k
+  session_after u status e f =
+      ap₂ (λ (v : List ℕ) (x : Status). let after : Session = record { pending = v; status = x } in after) e f ∙ sym (fed_by table s k (effect_at (is_empty s.pending) t) (effect_is_by table s.pending k t accepted leads))
+
+  -- the answer to it, where the session is another name of this one
+  pub answered : (same : Session) → s ≡ same → (names : KeysymNames) (answer : Fed) → answer.accepted ≡ true → answer.status ≡ status_by (effect_at (is_empty s.pending) t) s.status
+      → text_bytes answer.text ≡ text_by (effect_at (is_empty s.pending) t) names table s.pending k → IsFed names table same k answer
+  answered same is names answer e f g = record {
+    accepted = e ∙ ap not (sym accepted);
+    status = f ∙ ap (λ x. status_by x s.status) (sym (effect_is_by table s.pending k t accepted leads)) ∙ ap (λ x. (fed table x k).status) is;
+    text = g ∙ ap (λ x. text_by x names table s.pending k) (sym (effect_is_by table s.pending k t accepted leads)) ∙ ap (λ x. (step names table x.pending k).text) is;
+  }
+
+-- the text of the leaf where the key leads is the one that its step commits
+pub leaf_commits : (table : List Definition) (p : List ℕ) (k : ℕ) (l : LeafId) (text : List ℕ) → target_of table p k ≡ Some (Leaf l) → leaf_text table l.0 ≡ Some text → text ≡ unwrap_or (text_at table (p ++ k ∷ [])) []
+leaf_commits table p k l text e f = ap (λ o. unwrap_or o []) (sym f ∙ (to_leaf table p k l e).text)
+
+pub node_room : (table : List Definition) (p : List ℕ) (k : ℕ) (n : NodeId) → is_table table ≡ true → target_of table p k ≡ Some (Node n) → length p < 31
+node_room table p k n sound e =
+    let short : length (p ++ k ∷ []) < 32 = extended_short table (p ++ k ∷ []) sound (to_node table p k n e).extended in
+    let long : length (p ++ k ∷ []) ≡ length p + 1 = length-append p (k ∷ []) in
+    omega arith
+
+-- where the key leads nowhere, it passes at rest and else cancels
+abbrev pub session_apart : Session → Session
+session_apart s = if is_empty s.pending then record { pending = []; status = Nothing } else record { pending = []; status = Cancelled }
+
+module _ (table : List Definition) (s : Session) (k : ℕ) (accepted : is_ignored k ≡ false) (nowhere : target_of table s.pending k ≡ None) where
+  pub fed_apart : session_apart s ≡ fed table s k
+  fed_apart = go (is_empty s.pending) ∙ sym (fed_by table s k (effect_at (is_empty s.pending) None) (effect_is_by table s.pending k None accepted nowhere))
+    where
+      go : (b : Bool) → (let x : Session = if b then record { pending = []; status = Nothing } else record { pending = []; status = Cancelled } in x)
+          ≡ (let x : Session = record { pending = pending_by (effect_at b None) s.pending k; status = status_by (effect_at b None) s.status } in x)
+      go true = refl
+      go false = refl
+
+  pub answered_apart : (names : KeysymNames) (answer : Fed) → answer.accepted ≡ true → answer.status ≡ (session_apart s).status
+      → text_bytes answer.text ≡ (if is_empty s.pending then text names k else []) → IsFed names table s k answer
+  answered_apart names answer e f g =
+      answered table s k None accepted nowhere s refl names answer e (f ∙ same_status (is_empty s.pending)) (g ∙ same_text (is_empty s.pending))
+    where
+      same_status : (b : Bool) → (let x : Session = if b then record { pending = []; status = Nothing } else record { pending = []; status = Cancelled } in x).status ≡ status_by (effect_at b None) s.status
+      same_status true = refl
+      same_status false = refl
+
+      same_text : (b : Bool) → (if b then text names k else []) ≡ text_by (effect_at b None) names table s.pending k
+      same_text true = refl
+      same_text false = refl

@@ -1,0 +1,204 @@
+//! A compose state: what is pending, and the status.
+ghost use Rattle.std.specs.Prelude.{◌≡◌, ◌≤◌, ◌<◌, length, [], ◌∷◌, ◌++◌, Some, true, if◌then◌else◌};
+ghost use Rattle.compose_model.specs.Step.{is_empty, pending};
+ghost use Rattle.compose_model.specs.declared.Status.TheVariants.{Nothing, Cancelled};
+ghost use Rattle.compose_model.specs.Nodes as words;
+ghost use Rattle.compose_model.specs.Nodes.{nodes, leaves};
+ghost use Rattle.compose_model.specs.Session.{Session, rest, fed, loaded};
+ghost use Rattle.compose_state.specs.Answers.{IsFed};
+ghost use Rattle.compose_state.specs.Places.{node_id};
+ghost use Rattle.compose_state.specs.Texts.{text_bytes};
+ghost use Rattle.compose_tree.specs.Targets.{target_of};
+ghost use Rattle.keysym_core.specs.Names.{text as names_text};
+
+use crate::fed::{Fed, FedText};
+use arrayvec::ArrayVec;
+use compose_model::Status;
+use compose_tree::{ComposeTable, NodeId, Target};
+use keysym_core::{Keysym, Names};
+use std::marker::Model;
+
+/// What is pending, at most 31 keysyms, and the status (xkb_compose_state). Any state may be fed with any table.
+#[derive(Drop)]
+pub struct ComposeState {
+    pending: ArrayVec<Keysym, 31>,
+    status: Status,
+}
+
+impl Model for ComposeState {
+    ghost Value = { Session };
+
+    ghost view = { λ s. record { pending = s.pending.items; status = s.status } };
+
+    ghost invariant = { λ s. length s.pending.items ≤ 31 };
+}
+
+impl ComposeState {
+    /// At rest: nothing pending, status nothing. O(1).
+    pub fn new() -> ComposeState
+        ensures { result ≡ rest }
+    {
+        ComposeState {
+            pending: ArrayVec::new(),
+            status: Status::Nothing,
+        }
+    }
+
+    /// The status after the last key, reset or refeeding. O(1).
+    pub fn status(&self) -> Status
+        ensures { result ≡ self.now.status }
+    {
+        self.status
+    }
+
+    /// The pending keysyms, at most 31. O(1).
+    pub fn pending(&self) -> &[Keysym]
+        ensures value { result.now ≡ self.now.pending }
+        ensures few { length result.now ≤ 31 }
+    {
+        self.pending.as_slice()
+    }
+
+    /// Puts the state at rest. O(1).
+    pub fn reset(&mut self)
+        ensures { self.new ≡ rest }
+    {
+        self.pending.clear();
+        self.status = Status::Nothing;
+    }
+
+    /// Feeds one key (xkb_compose_state_feed). Takes no memory; O(pending keysyms × log edges of a node).
+    pub fn feed<'t, T: ComposeTable>(
+        &mut self,
+        table: &'t T,
+        names: &Names,
+        keysym: Keysym,
+    ) -> Fed<'t>
+        ensures state { self.new ≡ fed (T.definitions table.now) self.old keysym }
+        ensures told { IsFed names.now (T.definitions table.now) self.old keysym result }
+    {
+        if keysym.is_ignored() {
+            return Fed {
+                accepted: false,
+                status: self.status,
+                text: FedText::Empty,
+            };
+        }
+        match target(table, self.pending.as_slice(), keysym) {
+            Some(Target::Node(_)) => {
+                self.pending.push(keysym);
+                self.status = Status::Composing;
+                return Fed {
+                    accepted: true,
+                    status: Status::Composing,
+                    text: FedText::Empty,
+                };
+            }
+            Some(Target::Leaf(leaf)) => {
+                self.pending.clear();
+                self.status = Status::Composed;
+                return Fed {
+                    accepted: true,
+                    status: Status::Composed,
+                    text: FedText::Slice(table.text(leaf)),
+                };
+            }
+            None => return self.feed_apart(names, keysym),
+        }
+    }
+
+    /// Goes over to the table: the pending keysyms are fed to it from rest. The status becomes composing where something is
+    /// pending then, and nothing where it was composing and nothing is pending; no text is committed.
+    /// Takes no memory; O(pending keysyms² × log edges of a node).
+    pub fn refeed<T: ComposeTable>(&mut self, table: &T, names: &Names)
+        ensures { self.new ≡ loaded (T.definitions table.now) self.old }
+    {
+        let refed = state_after(table, names, self.pending());
+        if !refed.pending().is_empty() {
+            self.status = Status::Composing;
+        } else if self.status == Status::Composing {
+            self.status = Status::Nothing;
+        }
+        self.pending = refed.pending;
+    }
+
+    /// Feeds a key that no sequence has behind what is pending: it passes where nothing is pending, and else cancels.
+    fn feed_apart(&mut self, names: &Names, keysym: Keysym) -> Fed<'static>
+        ensures state { self.new ≡ (if is_empty self.old.pending then record { pending = []; status = Nothing } else record { pending = []; status = Cancelled }) }
+        ensures accepted { result.accepted ≡ true }
+        ensures status { result.status ≡ self.new.status }
+        ensures text { text_bytes result.text ≡ (if is_empty self.old.pending then names_text names.now keysym else []) }
+    {
+        if self.pending.is_empty() {
+            self.status = Status::Nothing;
+            return Fed {
+                accepted: true,
+                status: Status::Nothing,
+                text: plain_text(names, keysym),
+            };
+        }
+        self.pending.clear();
+        self.status = Status::Cancelled;
+        Fed {
+            accepted: true,
+            status: Status::Cancelled,
+            text: FedText::Empty,
+        }
+    }
+}
+
+/// What is pending in the table after these keysyms, from rest.
+fn state_after<T: ComposeTable>(table: &T, names: &Names, keysyms: &[Keysym]) -> ComposeState
+    ensures { result.pending ≡ pending (T.definitions table.now) keysyms.now }
+{
+    let mut state = ComposeState::new();
+    for keysym in keysyms {
+        state.feed(table, names, *keysym);
+    }
+    state
+}
+
+/// The text of a key that is not part of a sequence.
+fn plain_text(names: &Names, keysym: Keysym) -> FedText<'static>
+    ensures value { text_bytes result ≡ names_text names.now keysym }
+    ensures few { length (text_bytes result) ≤ 255 }
+{
+    match names.text_of(keysym) {
+        Some(character) => FedText::Char(character),
+        None => FedText::Empty,
+    }
+}
+
+/// The node behind the keysym, if a sequence goes on there.
+fn child<T: ComposeTable>(table: &T, node: NodeId, keysym: Keysym) -> Option<NodeId>
+    requires { node.0 < length (nodes (T.definitions table.now)) }
+    ensures { result ≡ node_id (T.definitions table.now) (words.node (T.definitions table.now) node.0 ++ keysym ∷ []) }
+{
+    match table.step(node, keysym) {
+        Some(Target::Node(next)) => Some(next),
+        Some(Target::Leaf(_)) | None => None,
+    }
+}
+
+/// The node of these keysyms, if they are a node of the table.
+fn node_of<T: ComposeTable>(table: &T, keysyms: &[Keysym]) -> Option<NodeId>
+    ensures { result ≡ node_id (T.definitions table.now) keysyms.now }
+{
+    let mut node = NodeId(0);
+    for keysym in keysyms {
+        node = child(table, node, *keysym)?;
+    }
+    Some(node)
+}
+
+/// Where the keysym leads behind the pending ones, if they are a node of the table and it has such an edge.
+fn target<T: ComposeTable>(table: &T, pending: &[Keysym], keysym: Keysym) -> Option<Target>
+    ensures value { result ≡ target_of (T.definitions table.now) pending.now keysym }
+    ensures room { (node : _) → result ≡ Some (Target.Node node) → length pending.now < 31 }
+    ensures leaf { (leaf : _) → result ≡ Some (Target.Leaf leaf) → leaf.0 < length (leaves (T.definitions table.now)) }
+{
+    // every table is settled, which its count of nodes tells
+    let _nodes = table.node_count();
+    let node = node_of(table, pending)?;
+    table.step(node, keysym)
+}
