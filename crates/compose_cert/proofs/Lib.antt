@@ -1,0 +1,13 @@
+pub mod Examples
+pub mod Words
+pub mod TextRead
+pub mod Written
+pub mod Spelled
+pub mod Numerals
+pub mod WordRead
+pub mod Padded
+pub mod LineRead
+pub mod Times
+pub mod Found
+pub mod WordsIn
+pub mod Rising

@@ -1,0 +1,70 @@
+//! What a line of a repertoire says.
+ghost use Rattle.std.specs.Prelude.{◌≡◌, IfSome};
+ghost use Rattle.std.specs.Str.{is_utf8};
+ghost use Rattle.keysym_core.specs.Names.{number_form};
+ghost use Rattle.compose_cert.specs.Repertoire as repertoire;
+
+use crate::form::{before_comment, character_form, first_word, number_form};
+use keysym_core::Keysym;
+use std::str;
+
+/// What a line says: nothing, a range of keys, or a character.
+#[derive(Clone, Copy)]
+pub enum Entry {
+    Nothing,
+    Keys(Keysym, Keysym),
+    Character(char),
+}
+
+/// What the line says; none where it is of no form. O(bytes).
+pub fn line_entry(line: &[u8]) -> Option<Entry>
+    ensures same { result ≡ repertoire.line_entry line.now }
+    ensures ordered { IfSome result repertoire.IsOrdered }
+{
+    if !is_text(line) {
+        return None;
+    }
+    entry_of(before_comment(line))
+}
+
+/// Whether the bytes are UTF-8. O(bytes).
+fn is_text(bytes: &[u8]) -> bool
+    ensures { result ≡ is_utf8 bytes.now }
+{
+    match str::from_utf8(bytes) {
+        Ok(_) => true,
+        Err(_) => false,
+    }
+}
+
+/// No word; `keys` and two numbers; or a character.
+fn entry_of(content: &[u8]) -> Option<Entry>
+    ensures same { result ≡ repertoire.entry_of (repertoire.words_in content.now) }
+    ensures ordered { IfSome result repertoire.IsOrdered }
+{
+    let Some((word, rest)) = first_word(content) else {
+        return Some(Entry::Nothing);
+    };
+    let Some((first, rest)) = first_word(rest) else {
+        let character = character_form(word)?;
+        return Some(Entry::Character(character));
+    };
+    let (last, rest) = first_word(rest)?;
+    if word != b"keys".as_slice() || first_word(rest).is_some() {
+        return None;
+    }
+    range_entry(first, last)
+}
+
+/// A range whose last key isn't below its first.
+fn range_entry(first: &[u8], last: &[u8]) -> Option<Entry>
+    ensures same { result ≡ repertoire.range_entry (number_form first.now) (number_form last.now) }
+    ensures ordered { IfSome result repertoire.IsOrdered }
+{
+    let first = number_form(first)?;
+    let last = number_form(last)?;
+    if last < first {
+        return None;
+    }
+    Some(Entry::Keys(first, last))
+}

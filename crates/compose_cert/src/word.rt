@@ -1,0 +1,60 @@
+//! The words of a certificate's lines.
+ghost use Rattle.std.specs.Prelude.{◌≡◌, ◌++◌, ◌∷◌, [], ◌<◌, length, Some, MatchOption};
+ghost use Rattle.keysym_core.specs.Lines.{divide};
+ghost use Rattle.compose_cert.specs.Numerals.{padded, IsSpelled};
+ghost use Rattle.compose_cert.specs.Reading as reading;
+
+use crate::numeral::{Notation, number_in, value_of};
+use keysym_core::Keysym;
+
+/// A number of 32 bits: decimal digits.
+pub fn number_of(word: &[u8]) -> Option<u32>
+    ensures { result ≡ reading.number_of word.now }
+{
+    number_in(word, Notation::Decimal, u32::MAX)
+}
+
+/// A keysym: lower case hexadecimal digits.
+pub fn keysym_of(word: &[u8]) -> Option<Keysym>
+    ensures { result ≡ reading.keysym_of word.now }
+{
+    let number = number_in(word, Notation::LowerHexadecimal, Keysym::GREATEST)?;
+    Keysym::new(number)
+}
+
+/// A character: `U+` and upper case hexadecimal digits, zeros before them up to four digits.
+pub fn character_of(word: &[u8]) -> Option<char>
+    ensures { result ≡ reading.character_of word.now }
+{
+    if !word.starts_with(b"U+") {
+        return None;
+    }
+    let number = code_point(&word[2..])?;
+    char::from_u32(number)
+}
+
+/// The number up to `10FFFF` that is written by at least four digits, and by more only without a zero before them.
+fn code_point(digits: &[u8]) -> Option<u32>
+    ensures { IsSpelled padded 0x10ffff digits.now result }
+{
+    if digits.len() < 4 {
+        return None;
+    }
+    if digits.len() > 4 && digits[0] == b'0' {
+        return None;
+    }
+    value_of(digits, Notation::UpperHexadecimal, 0x10ffff)
+}
+
+/// What stands before the first such byte, and what stands behind it. O(bytes before).
+pub fn split_at_byte(bytes: &[u8], at: u8) -> Option<(&[u8], &[u8])>
+    ensures cases { MatchOption result (divide at bytes.now ≡ bytes.now ∷ []) (λ x. divide at bytes.now ≡ x.0.now ∷ divide at x.1.now) }
+    ensures shorter { MatchOption result (Unit {0}) (λ x. length x.1.now < length bytes.now) }
+{
+    for (index, byte) in bytes.iter().enumerate() {
+        if *byte == at {
+            return Some((&bytes[..index], &bytes[index + 1..]));
+        }
+    }
+    None
+}
