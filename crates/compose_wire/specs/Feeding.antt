@@ -1,0 +1,73 @@
+-- What is given out of the bytes that are held (this project's protocol).
+use Rattle.std.specs.Prelude.{◌≡◌, ◌≢◌, ℕ, ◌+◌, ◌<◌, ◌≤◌, List, [], ◌++◌, length, take, drop, slice_index, ◌==◌, if◌then◌else◌, Option, Some, None, Result, Ok, Err}
+use Rattle.std.specs.Int.{from_be_bytes, w32}
+use Rattle.compose_model.specs.declared.Rule.TheVariants.{Refuse, Longest}
+use Rattle.compose_wire.specs.Messages.{Body, open_session, key, reset, close, load, ask, Request as RequestValue, Fits}
+use Rattle.compose_wire.specs.Frames.{frame, Fault, fault_at, unknown_kind, bad_length, too_long, IsBegun, BeginsWithFrame, size_said, max_frame}
+use Rattle.compose_wire.specs.Requests.{request_of}
+use Rattle.compose_wire.specs.declared.request.Request.{Request}
+use Rattle.compose_wire.specs.declared.fault.WireFault.{WireFault}
+use Rattle.compose_wire.specs.declared.fault.WireFault.TheVariants.{UnknownKind, BadLength, TooLong, NoMemory}
+
+-- how the program names a fault
+abbrev pub wire_fault : Fault → WireFault
+wire_fault unknown_kind = UnknownKind
+wire_fault bad_length = BadLength
+wire_fault too_long = TooLong
+
+-- a load that has a payload
+abbrev pub IsLoaded : Body → Type 0
+IsLoaded (load rule bytes) = bytes ≢ []
+IsLoaded _ = ⊥
+
+-- the bytes begin with the frame of such a load
+abbrev pub BeginsWithLoad : List ℕ → Type 0
+BeginsWithLoad bytes = (q : RequestValue) × (more : List ℕ) × Fits q × IsLoaded q.body × (bytes ≡ frame q ++ more)
+
+-- what is given out of the held bytes, and what is held after that; only a load wants memory
+abbrev pub GivesSo : Result (Option Request) WireFault → List ℕ → List ℕ → Type 0
+GivesSo (Ok (Some q)) held held' = Fits (request_of q) × (held ≡ frame (request_of q) ++ held')
+GivesSo (Ok None) held held' = IsBegun held × (length held < max_frame) × (held' ≡ held)
+GivesSo (Err UnknownKind) held held' = (fault_at held ≡ Some unknown_kind) × (held' ≡ held)
+GivesSo (Err BadLength) held held' = (fault_at held ≡ Some bad_length) × (held' ≡ held)
+GivesSo (Err TooLong) held held' = (fault_at held ≡ Some too_long) × (held' ≡ held)
+GivesSo (Err NoMemory) held held' = BeginsWithLoad held × (held' ≡ held)
+
+-- what is given out where the bytes begin with a frame: its request, or nothing for want of memory
+abbrev pub GivesRequest : RequestValue → List ℕ → Result (Option Request) WireFault → List ℕ → Type 0
+GivesRequest q more (Ok (Some r)) held' = (request_of r ≡ q) × (held' ≡ more)
+GivesRequest q more (Err NoMemory) held' = IsLoaded q.body × (held' ≡ frame q ++ more)
+GivesRequest q more _ held' = ⊥
+
+-- ---- the parts
+
+-- the length of the payload, where a whole frame stands
+abbrev pub SizesSo : Result (Option ℕ) WireFault → List ℕ → Type 0
+SizesSo (Ok (Some size)) held = BeginsWithFrame held × (size ≡ size_said held) × (9 + size ≤ length held)
+SizesSo (Ok None) held = IsBegun held × (length held < max_frame)
+SizesSo (Err UnknownKind) held = fault_at held ≡ Some unknown_kind
+SizesSo (Err BadLength) held = fault_at held ≡ Some bad_length
+SizesSo (Err TooLong) held = fault_at held ≡ Some too_long
+SizesSo (Err NoMemory) held = ⊥
+
+-- the body that a kind and a payload say
+abbrev pub body_at : ℕ → List ℕ → Body
+body_at kind bytes =
+    if kind == 1 then open_session else if kind == 2 then key (from_be_bytes w32 bytes) else if kind == 3 then reset else
+    if kind == 4 then close else if kind == 5 then load Refuse bytes else if kind == 6 then ask else load Longest bytes
+
+-- the request that the bytes begin with, where a whole frame stands
+abbrev pub request_at : List ℕ → RequestValue
+request_at held = record {
+  session = from_be_bytes w32 (take 4 (drop 1 held));
+  body = body_at (slice_index held 0) (take (size_said held) (drop 9 held));
+}
+
+-- the first request of the held bytes, and how many bytes its frame has
+abbrev pub FirstSo : Result (Option (Request × ℕ)) WireFault → List ℕ → Type 0
+FirstSo (Ok (Some first)) held = Fits (request_of first.0) × (held ≡ frame (request_of first.0) ++ drop first.1 held) × (first.1 ≤ length held)
+FirstSo (Ok None) held = IsBegun held × (length held < max_frame)
+FirstSo (Err UnknownKind) held = fault_at held ≡ Some unknown_kind
+FirstSo (Err BadLength) held = fault_at held ≡ Some bad_length
+FirstSo (Err TooLong) held = fault_at held ≡ Some too_long
+FirstSo (Err NoMemory) held = BeginsWithLoad held

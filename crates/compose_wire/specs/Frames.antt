@@ -1,0 +1,150 @@
+-- Frames: a kind, a session, a length and a payload; all numbers are big-endian (this project's protocol).
+use Rattle.std.specs.Prelude.{◌≡◌, ℕ, not, ◌||◌, ◌==◌, ◌<◌, ◌≤◌, ◌^◌, nat_lt, if◌then◌else◌, List, [], ◌∷◌, ◌++◌, length, map, take, drop, flat_map, Option, Some, None, IsUtf8}
+use Rattle.std.specs.Int.{to_be_bytes, from_be_bytes, w16, w32, w64}
+use Rattle.std.specs.List.{AllByRecursion, IsDistinct}
+use Rattle.keysym_core.specs.Keysym.{is_between}
+use Rattle.compose_model.specs.Table.{same}
+use Rattle.compose_model.specs.declared.Status.{Status}
+use Rattle.compose_model.specs.declared.Status.TheVariants.{Nothing, Composing, Composed, Cancelled}
+use Rattle.compose_model.specs.declared.Rule.TheVariants.{Refuse, Longest}
+use Rattle.compose_wire.specs.Messages.{Body, open_session, key, reset, close, load, ask, Request, Fits, code, Answer, opened, fed, was_reset, closed, loaded, state, refused, Reply, max_payload}
+
+-- ---- requests
+
+-- the first byte of a request's frame
+abbrev pub kind_of : Body → ℕ
+kind_of open_session = 1
+kind_of (key k) = 2
+kind_of reset = 3
+kind_of close = 4
+kind_of (load Refuse bytes) = 5
+kind_of ask = 6
+kind_of (load Longest bytes) = 7
+
+-- a key's keysym in four bytes, what a load carries, and else nothing
+abbrev pub payload : Body → List ℕ
+payload (key k) = to_be_bytes w32 k
+payload (load rule bytes) = bytes
+payload _ = []
+
+-- a kind, a session, a length and so many bytes
+abbrev pub frame_of : ℕ → ℕ → List ℕ → List ℕ
+frame_of kind session bytes = kind ∷ to_be_bytes w32 session ++ to_be_bytes w32 (length bytes) ++ bytes
+
+-- the bytes of a request, and of requests in a row
+abbrev pub frame : Request → List ℕ
+frame q = frame_of (kind_of q.body) q.session (payload q.body)
+
+abbrev pub frames : List Request → List ℕ
+frames qs = flat_map frame qs
+
+-- ---- faults
+
+-- what can be wrong with the next frame
+pub data Fault : Type 0 where
+  unknown_kind : Fault
+  bad_length : Fault
+  too_long : Fault
+
+-- a load may have up to the greatest payload; a key has four bytes, and the others have none
+abbrev pub length_fault : ℕ → ℕ → Option Fault
+length_fault kind n =
+    if kind == 5 || kind == 7 then (if nat_lt max_payload n then Some too_long else None) else
+    if n == (if kind == 2 then 4 else 0) then None else Some bad_length
+
+-- the fault that the bytes begin with: an unknown kind as soon as it stands, a wrong length as soon as the nine bytes of the head stand
+abbrev pub fault_at : List ℕ → Option Fault
+fault_at [] = None
+fault_at (kind ∷ rest) =
+    if not (is_between 1 7 kind) then Some unknown_kind else
+    if nat_lt (length rest) 8 then None else length_fault kind (from_be_bytes w32 (take 4 (drop 4 rest)))
+
+-- ---- replies
+
+-- the byte of a status
+abbrev pub status_byte : Status → ℕ
+status_byte Nothing = 0
+status_byte Composing = 1
+status_byte Composed = 2
+status_byte Cancelled = 3
+
+-- the first byte of a reply's frame
+abbrev pub answer_kind : Answer → ℕ
+answer_kind opened = 0x81
+answer_kind (fed status accepted text) = 0x82
+answer_kind was_reset = 0x83
+answer_kind closed = 0x84
+answer_kind (loaded count) = 0x85
+answer_kind (state status pending) = 0x86
+answer_kind (refused why) = 0xff
+
+-- the status, whether the key was accepted, and the text; the count in eight bytes; the status, the number of pending keysyms and each in
+-- four bytes; the code in two bytes; and else nothing
+abbrev pub answer_payload : Answer → List ℕ
+answer_payload (fed status accepted text) = status_byte status ∷ (if accepted then 1 else 0) ∷ text
+answer_payload (loaded count) = to_be_bytes w64 count
+answer_payload (state status pending) = status_byte status ∷ length pending ∷ flat_map (to_be_bytes w32) pending
+answer_payload (refused why) = to_be_bytes w16 (code why)
+answer_payload _ = []
+
+-- the bytes of a reply
+abbrev pub reply_bytes : Reply → List ℕ
+reply_bytes r = frame_of (answer_kind r.answer) r.session (answer_payload r.answer)
+
+-- ---- bundles
+
+-- a source of a table, by its name
+pub record Source : Type 0 where
+  pub name : List ℕ
+  pub content : List ℕ
+
+-- what a load carries: the sources of a table, the root first, and a certificate
+pub record Bundle : Type 0 where
+  pub sources : List Source
+  pub certificate : List ℕ
+
+-- a name and a content, each behind its length, of two and of four bytes
+abbrev pub source_bytes : Source → List ℕ
+source_bytes s = to_be_bytes w16 (length s.name) ++ s.name ++ to_be_bytes w32 (length s.content) ++ s.content
+
+-- the number of sources, the sources, and the certificate behind its length
+abbrev pub bundle_bytes : Bundle → List ℕ
+bundle_bytes b = to_be_bytes w16 (length b.sources) ++ flat_map source_bytes b.sources ++ to_be_bytes w32 (length b.certificate) ++ b.certificate
+
+-- the name is text, and both lengths fit their bytes
+pub record SourceFits (s : Source) : Type 0 where
+  pub name : length s.name < 2 ^ 16
+  pub text : IsUtf8 s.name
+  pub content : length s.content < 2 ^ 32
+
+-- 1 to 64 sources with distinct names
+pub record BundleFits (b : Bundle) : Type 0 where
+  pub some : 0 < length b.sources
+  pub few : length b.sources ≤ 64
+  pub sources : AllByRecursion SourceFits b.sources
+  pub distinct : IsDistinct same (map (λ s. s.name) b.sources)
+  pub certificate : length b.certificate < 2 ^ 32
+
+-- the payload is this bundle
+pub record IsBundle (bytes : List ℕ) (b : Bundle) : Type 0 where
+  pub fits : BundleFits b
+  pub is : bytes ≡ bundle_bytes b
+
+-- ---- what the bytes on a stream begin with
+
+-- the bytes begin with the frame of some request
+abbrev pub BeginsWithFrame : List ℕ → Type 0
+BeginsWithFrame bytes = (q : Request) × (more : List ℕ) × Fits q × (bytes ≡ frame q ++ more)
+
+-- the bytes, if there are any, are less than a frame, and begin with no fault
+pub record IsBegun (bytes : List ℕ) : Type 0 where
+  pub no_fault : fault_at bytes ≡ None
+  pub no_frame : BeginsWithFrame bytes → ⊥
+
+-- how many bytes of payload the head of a frame says
+abbrev pub size_said : List ℕ → ℕ
+size_said bytes = from_be_bytes w32 (take 4 (drop 5 bytes))
+
+-- the greatest frame
+abbrev pub max_frame : ℕ
+max_frame = 8388617
