@@ -1,0 +1,66 @@
+-- The groups of demands one after another: where those so far are met, the first fault is that of the next.
+use Rattle.std.proofs.Common.{◌≡◌, List, ◌++◌, true, ◌&&◌, sym, ◌∙◌}
+use Rattle.std.specs.Prelude.{Some, None}
+use Rattle.std.proofs.lemmas.Bool.{and_parts}
+use Rattle.keysym_core.specs.Names.{KeysymNames}
+use Rattle.compose_model.specs.Table.{Definition}
+use Rattle.compose_model.specs.Certificate.{Certificate, Repertoire, pairs_rise, pairs_in_range, has_pair, rest_is_kept}
+use Rattle.compose_check.specs.declared.fault.CheckFault.{CheckFault}
+use Rattle.compose_check.specs.Demands.{Demand, first_unmet, pair_demands, fresh_demands, start_demands, edge_demands, bound_demands, typing_demands, fault_of}
+use Rattle.compose_check.proofs.Unmet.{unmet_before, met_before, met_from_none}
+
+module _ (names : KeysymNames) (old new : List Definition) (repertoire : Repertoire) (c : Certificate) where
+  abbrev pairs : List Demand
+  pairs = pair_demands old new c.pairs
+
+  abbrev fresh : List Demand
+  fresh = fresh_demands old c.fresh
+
+  abbrev starts : List Demand
+  starts = start_demands names c.fresh old new
+
+  abbrev edges : List Demand
+  edges = edge_demands names old new c.pairs
+
+  abbrev bound : List Demand
+  bound = bound_demands new c.bound
+
+  abbrev typings : List Demand
+  typings = typing_demands names new repertoire repertoire.characters c.typings
+
+  module _ (no_pair : first_unmet pairs ≡ None) where
+    behind_pairs : fault_of names old new repertoire c ≡ first_unmet (fresh ++ (starts ++ (edges ++ (bound ++ typings))))
+    behind_pairs = met_before pairs (fresh ++ (starts ++ (edges ++ (bound ++ typings)))) no_pair
+
+    pub fresh_fault : (fault : CheckFault) → first_unmet fresh ≡ Some fault → Some fault ≡ fault_of names old new repertoire c
+    fresh_fault fault h = sym (behind_pairs ∙ unmet_before fresh (starts ++ (edges ++ (bound ++ typings))) fault h)
+
+    -- pairs that have no fault rise, and are in range
+    pub pairs_fit : (pairs_rise c.pairs ≡ true) × (pairs_in_range old new c.pairs ≡ true)
+    pairs_fit =
+        let all = and_parts (pairs_rise c.pairs) (pairs_in_range old new c.pairs && (has_pair c.pairs 0 0 && (rest_is_kept c.pairs && true))) (met_from_none pairs no_pair) in
+        (all.0, (and_parts (pairs_in_range old new c.pairs) (has_pair c.pairs 0 0 && (rest_is_kept c.pairs && true)) all.1).0)
+
+    module _ (no_fresh : first_unmet fresh ≡ None) where
+      behind_fresh : fault_of names old new repertoire c ≡ first_unmet (starts ++ (edges ++ (bound ++ typings)))
+      behind_fresh = behind_pairs ∙ met_before fresh (starts ++ (edges ++ (bound ++ typings))) no_fresh
+
+      pub start_fault : (fault : CheckFault) → first_unmet starts ≡ Some fault → Some fault ≡ fault_of names old new repertoire c
+      start_fault fault h = sym (behind_fresh ∙ unmet_before starts (edges ++ (bound ++ typings)) fault h)
+
+      module _ (no_start : first_unmet starts ≡ None) where
+        behind_starts : fault_of names old new repertoire c ≡ first_unmet (edges ++ (bound ++ typings))
+        behind_starts = behind_fresh ∙ met_before starts (edges ++ (bound ++ typings)) no_start
+
+        pub edge_fault : (fault : CheckFault) → first_unmet edges ≡ Some fault → Some fault ≡ fault_of names old new repertoire c
+        edge_fault fault h = sym (behind_starts ∙ unmet_before edges (bound ++ typings) fault h)
+
+        module _ (no_edge : first_unmet edges ≡ None) where
+          behind_edges : fault_of names old new repertoire c ≡ first_unmet (bound ++ typings)
+          behind_edges = behind_starts ∙ met_before edges (bound ++ typings) no_edge
+
+          pub bound_fault : (fault : CheckFault) → first_unmet bound ≡ Some fault → Some fault ≡ fault_of names old new repertoire c
+          bound_fault fault h = sym (behind_edges ∙ unmet_before bound typings fault h)
+
+          pub typing_faults : first_unmet bound ≡ None → first_unmet typings ≡ fault_of names old new repertoire c
+          typing_faults h = sym (behind_edges ∙ met_before bound typings h)

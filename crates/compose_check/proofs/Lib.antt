@@ -1,0 +1,14 @@
+mod Examples
+pub mod Places
+pub mod Used
+pub mod Unmet
+pub mod FreshKeysyms
+pub mod Lists
+pub mod PairOrder
+pub mod Landed
+pub mod EdgeDemands
+pub mod StartDemands
+pub mod TypingDemands
+pub mod Groups
+pub mod Valid
+pub mod PartsRead

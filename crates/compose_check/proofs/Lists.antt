@@ -1,0 +1,34 @@
+-- What is left of a list at a place.
+use Rattle.std.proofs.Common.{◌≡◌, ℕ, zero, suc, ◌+◌, ◌<◌, List, [], ◌∷◌, Bool, true, false, ◌&&◌, length, get_or, drop, refl, sym, ◌∙◌, ap, arith}
+use Rattle.std.specs.Prelude.{slice_get, Some}
+use Rattle.std.specs.List.{list_any, list_all}
+use Rattle.std.proofs.lemmas.Bool.{and_parts, and_left, or_from, or_left, or_right}
+use Rattle.std.proofs.lemmas.List.{drop_more}
+use Rattle.std.proofs.lemmas.Option.{slice_get_within, get_or_from_slice_get}
+
+-- the element at the place, and then what is left behind it
+pub drop_at : {X : Type 0} (xs : List X) (i : ℕ) (x : X) → slice_get xs i ≡ Some x → drop i xs ≡ x ∷ drop (i + 1) xs
+drop_at xs i x e = drop_more xs i x (slice_get_within xs i x e) ∙ ap (λ y. y ∷ drop (i + 1) xs) (get_or_from_slice_get xs i x x e)
+
+-- the test of all that is left, where the element at the place fails or passes
+pub all_fail : {X : Type 0} (p : X → Bool) (xs : List X) (i : ℕ) (x : X) → slice_get xs i ≡ Some x → p x ≡ false → list_all p (drop i xs) ≡ false
+all_fail p xs i x e h = ap (list_all p) (drop_at xs i x e) ∙ and_left (p x) (list_all p (drop (i + 1) xs)) h
+
+pub all_go_on : {X : Type 0} (p : X → Bool) (xs : List X) (i : ℕ) (x : X) → slice_get xs i ≡ Some x → p x ≡ true → list_all p (drop (i + 1) xs) ≡ list_all p (drop i xs)
+all_go_on p xs i x e h = sym (ap (list_all p) (drop_at xs i x e) ∙ ap (λ b. b && list_all p (drop (i + 1) xs)) h)
+
+-- a test that fails at each place, or passes at one
+pub none_passes : {X : Type 0} (q : X → Bool) (d : X) (xs : List X) → ((k : ℕ) → k < length xs → q (get_or xs k d) ≡ false) → list_any q xs ≡ false
+none_passes q d [] f = refl
+none_passes q d (x ∷ xs) f = or_from (q x) (list_any q xs) (f 0 (omega arith)) (none_passes q d xs (λ k h. f (suc k) (omega arith)))
+
+pub one_passes : {X : Type 0} (q : X → Bool) (d : X) (xs : List X) (k : ℕ) → k < length xs → q (get_or xs k d) ≡ true → list_any q xs ≡ true
+one_passes q d [] k h e = absurd (omega arith)
+one_passes q d (x ∷ xs) zero h e = or_left (q x) (list_any q xs) e
+one_passes q d (x ∷ xs) (suc k) h e = or_right (q x) (list_any q xs) (one_passes q d xs k (omega arith) e)
+
+-- what each passes, the one at a place passes
+pub all_at : {X : Type 0} (p : X → Bool) (xs : List X) (i : ℕ) (x : X) → list_all p xs ≡ true → slice_get xs i ≡ Some x → p x ≡ true
+all_at p [] i x h e = cc
+all_at p (y ∷ xs) zero x h e = (let same : y ≡ x = cc in ap p (sym same) ∙ (and_parts (p y) (list_all p xs) h).0)
+all_at p (y ∷ xs) (suc i) x h e = all_at p xs i x (and_parts (p y) (list_all p xs) h).1 e

@@ -1,0 +1,117 @@
+-- The order of pairs, and what a search among rising pairs finds.
+use Rattle.std.proofs.Common.{◌≡◌, ◌⊎◌, ℕ, zero, suc, ◌+◌, ◌-◌, ◌<◌, ◌≤◌, List, [], ◌∷◌, true, false, ◌&&◌, length, get_or, drop, refl, sym, ◌∙◌, ap, arith, inl, inr, ltb-true, lt-ltb, eqb-true, eq-eqb}
+use Rattle.std.specs.Prelude.{◌==◌, nat_lt, slice_get, Some}
+use Rattle.std.proofs.lemmas.Bool.{and_parts, and_from, or_cases, or_left, or_right, cases_lt, and_left, and_right, ne_eqb}
+use Rattle.compose_model.specs.Certificate.{is_pair_before, pairs_rise, has_pair}
+use Rattle.std.proofs.lemmas.Option.{slice_get_within, get_or_from_slice_get}
+use Rattle.compose_check.proofs.Lists.{drop_at, none_passes, one_passes}
+
+-- ---- the order
+
+abbrev Before : ℕ × ℕ → ℕ × ℕ → Type 0
+Before p q = (p.0 < q.0) ⊎ ((p.0 ≡ q.0) × (p.1 < q.1))
+
+before_means : (p q : ℕ × ℕ) → is_pair_before p q ≡ true → Before p q
+before_means p q h = elim (or_cases (nat_lt p.0 q.0) (p.0 == q.0 && nat_lt p.1 q.1) h) [
+  | inl e ↦ inl (ltb-true p.0 q.0 e)
+  | inr e ↦ (let both = and_parts (p.0 == q.0) (nat_lt p.1 q.1) e in inr (eqb-true p.0 q.0 both.0, ltb-true p.1 q.1 both.1))
+]
+
+before_from : (p q : ℕ × ℕ) → Before p q → is_pair_before p q ≡ true
+before_from p q (inl h) = or_left (nat_lt p.0 q.0) (p.0 == q.0 && nat_lt p.1 q.1) (lt-ltb p.0 q.0 h)
+before_from p q (inr h) = or_right (nat_lt p.0 q.0) (p.0 == q.0 && nat_lt p.1 q.1) (and_from (p.0 == q.0) (nat_lt p.1 q.1) (eq-eqb p.0 q.0 h.0) (lt-ltb p.1 q.1 h.1))
+
+pub before_trans : (p q r : ℕ × ℕ) → is_pair_before p q ≡ true → is_pair_before q r ≡ true → is_pair_before p r ≡ true
+before_trans p q r g h = before_from p r (go (before_means p q g) (before_means q r h))
+  where
+    go : Before p q → Before q r → Before p r
+    go (inl a) (inl b) = inl (omega arith)
+    go (inl a) (inr b) = inl (omega (arith, b.0))
+    go (inr a) (inl b) = inl (omega (arith, a.0))
+    go (inr a) (inr b) = inr (a.0 ∙ b.0, omega (arith, a.1, b.1))
+
+-- a pair that comes before or after the numbers i and j is not that pair
+pub other_before : (p : ℕ × ℕ) (i j : ℕ) → is_pair_before p (i, j) ≡ true → p.0 == i && p.1 == j ≡ false
+other_before p i j h = elim (before_means p (i, j) h) [
+  | inl a ↦ and_left (p.0 == i) (p.1 == j) (ne_eqb p.0 i (λ e. absurd (omega arith)))
+  | inr a ↦ and_right (p.0 == i) (p.1 == j) (ne_eqb p.1 j (λ e. absurd (omega (arith, a.1))))
+]
+
+pub other_behind : (p : ℕ × ℕ) (i j : ℕ) → is_pair_before (i, j) p ≡ true → p.0 == i && p.1 == j ≡ false
+other_behind p i j h = elim (before_means (i, j) p h) [
+  | inl a ↦ and_left (p.0 == i) (p.1 == j) (ne_eqb p.0 i (λ e. absurd (omega arith)))
+  | inr a ↦ and_right (p.0 == i) (p.1 == j) (ne_eqb p.1 j (λ e. absurd (omega (arith, a.1))))
+]
+
+-- what comes neither before nor after them is
+pub neither_is : (p : ℕ × ℕ) (i j : ℕ) → is_pair_before p (i, j) ≡ false → is_pair_before (i, j) p ≡ false → p.0 == i && p.1 == j ≡ true
+neither_is p i j g h = and_from (p.0 == i) (p.1 == j) (eq-eqb p.0 i first) (eq-eqb p.1 j (second first))
+  where
+    clash : {P : Type 0} (p q : ℕ × ℕ) → is_pair_before p q ≡ false → Before p q → P
+    clash p q e b = absurd (let f : false ≡ true = sym e ∙ before_from p q b in cc)
+
+    first : p.0 ≡ i
+    first = elim (cases_lt p.0 i) [ inl a ↦ clash p (i, j) g (inl a) | inr a ↦ elim (cases_lt i p.0) [ inl b ↦ clash (i, j) p h (inl b) | inr b ↦ omega arith ] ]
+
+    second : p.0 ≡ i → p.1 ≡ j
+    second e = elim (cases_lt p.1 j) [ inl a ↦ clash p (i, j) g (inr (e, a)) | inr a ↦ elim (cases_lt j p.1) [ inl b ↦ clash (i, j) p h (inr (sym e, b)) | inr b ↦ omega arith ] ]
+
+-- ---- rising pairs
+
+-- a pair, the next one, and those behind it
+pub next_rises : (xs : List (ℕ × ℕ)) (i : ℕ) (p q : ℕ × ℕ) → 1 ≤ i → slice_get xs (i - 1) ≡ Some p → slice_get xs i ≡ Some q
+    → pairs_rise (drop (i - 1) xs) ≡ is_pair_before p q && pairs_rise (drop (i + 1 - 1) xs)
+next_rises xs i p q low e f =
+    let this : drop i xs ≡ q ∷ drop (i + 1) xs = drop_at xs i q f in
+    let same : i - 1 + 1 ≡ i = omega arith in
+    let back : i ≡ i + 1 - 1 = omega arith in
+    ap pairs_rise (drop_at xs (i - 1) p e ∙ ap (λ n. p ∷ drop n xs) same ∙ ap (λ ys. p ∷ ys) this)
+    ∙ ap (λ ys. is_pair_before p q && pairs_rise ys) (sym this ∙ ap (λ n. drop n xs) back)
+
+pub short_rises : (xs : List (ℕ × ℕ)) → length xs ≤ 1 → pairs_rise xs ≡ true
+short_rises [] h = refl
+short_rises (p ∷ []) h = refl
+short_rises (p ∷ q ∷ xs) h = absurd (omega arith)
+
+head_before : (p : ℕ × ℕ) (xs : List (ℕ × ℕ)) → pairs_rise (p ∷ xs) ≡ true → (j : ℕ) → j < length xs → is_pair_before p (get_or xs j (0, 0)) ≡ true
+head_before p [] r j h = absurd (omega arith)
+head_before p (q ∷ xs) r zero h = (and_parts (is_pair_before p q) (pairs_rise (q ∷ xs)) r).0
+head_before p (q ∷ xs) r (suc j) h =
+    let parts = and_parts (is_pair_before p q) (pairs_rise (q ∷ xs)) r in
+    before_trans p q (get_or xs j (0, 0)) parts.0 (head_before q xs parts.1 j (omega arith))
+
+tail_rises : (p : ℕ × ℕ) (xs : List (ℕ × ℕ)) → pairs_rise (p ∷ xs) ≡ true → pairs_rise xs ≡ true
+tail_rises p [] r = refl
+tail_rises p (q ∷ xs) r = (and_parts (is_pair_before p q) (pairs_rise (q ∷ xs)) r).1
+
+-- what stands earlier comes before
+pub earlier_before : (xs : List (ℕ × ℕ)) → pairs_rise xs ≡ true → (i j : ℕ) → i < j → j < length xs → is_pair_before (get_or xs i (0, 0)) (get_or xs j (0, 0)) ≡ true
+earlier_before [] r i j a b = absurd (omega arith)
+earlier_before (p ∷ xs) r i zero a b = absurd (omega arith)
+earlier_before (p ∷ xs) r zero (suc j) a b = head_before p xs r j (omega arith)
+earlier_before (p ∷ xs) r (suc i) (suc j) a b = earlier_before xs (tail_rises p xs r) i j (omega arith) (omega arith)
+
+-- where the pair at a place comes before another one, so do those up to there
+pub before_up_to : (xs : List (ℕ × ℕ)) (q : ℕ × ℕ) (i : ℕ) (p : ℕ × ℕ) → pairs_rise xs ≡ true → slice_get xs i ≡ Some p → is_pair_before p q ≡ true → (k : ℕ) → k < i + 1 → is_pair_before (get_or xs k (0, 0)) q ≡ true
+before_up_to xs q i p r e h k b = elim (cases_lt k i) [
+  | inl low ↦ before_trans (get_or xs k (0, 0)) (get_or xs i (0, 0)) q (earlier_before xs r k i low (slice_get_within xs i p e)) (ap (λ x. is_pair_before x q) (get_or_from_slice_get xs i p (0, 0) e) ∙ h)
+  | inr high ↦ (let same : k ≡ i = omega arith in ap (λ n. is_pair_before (get_or xs n (0, 0)) q) same ∙ ap (λ x. is_pair_before x q) (get_or_from_slice_get xs i p (0, 0) e) ∙ h)
+]
+
+-- where it comes behind it, so do those from there on
+pub behind_from : (xs : List (ℕ × ℕ)) (q : ℕ × ℕ) (i : ℕ) (p : ℕ × ℕ) → pairs_rise xs ≡ true → slice_get xs i ≡ Some p → is_pair_before q p ≡ true → (k : ℕ) → i ≤ k → k < length xs → is_pair_before q (get_or xs k (0, 0)) ≡ true
+behind_from xs q i p r e h k a b = elim (cases_lt i k) [
+  | inl low ↦ before_trans q (get_or xs i (0, 0)) (get_or xs k (0, 0)) (ap (is_pair_before q) (get_or_from_slice_get xs i p (0, 0) e) ∙ h) (earlier_before xs r i k low b)
+  | inr high ↦ (let same : k ≡ i = omega arith in ap (λ n. is_pair_before q (get_or xs n (0, 0))) same ∙ ap (is_pair_before q) (get_or_from_slice_get xs i p (0, 0) e) ∙ h)
+]
+
+-- a search that has nothing left finds nothing
+pub not_found : (xs : List (ℕ × ℕ)) (i j low : ℕ) → ((k : ℕ) → k < low → is_pair_before (get_or xs k (0, 0)) (i, j) ≡ true) → ((k : ℕ) → low ≤ k → k < length xs → is_pair_before (i, j) (get_or xs k (0, 0)) ≡ true) → has_pair xs i j ≡ false
+not_found xs i j low below above = none_passes (λ p. p.0 == i && p.1 == j) (0, 0) xs (λ k h. elim (cases_lt k low) [
+  | inl a ↦ other_before (get_or xs k (0, 0)) i j (below k a)
+  | inr a ↦ other_behind (get_or xs k (0, 0)) i j (above k a h)
+])
+
+-- what comes neither before nor behind is found
+pub found : (xs : List (ℕ × ℕ)) (i j k : ℕ) (p : ℕ × ℕ) → slice_get xs k ≡ Some p → is_pair_before p (i, j) ≡ false → is_pair_before (i, j) p ≡ false → has_pair xs i j ≡ true
+found xs i j k p e g h = one_passes (λ p. p.0 == i && p.1 == j) (0, 0) xs k (slice_get_within xs k p e) (ap (λ (x : ℕ × ℕ). x.0 == i && x.1 == j) (get_or_from_slice_get xs k p (0, 0) e) ∙ neither_is p i j g h)

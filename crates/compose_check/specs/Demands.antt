@@ -1,0 +1,105 @@
+-- The demands on a certificate in the order in which they are looked at, each with the fault that is named where it is not met.
+use Rattle.std.specs.Prelude.{ℕ, Bool, false, not, ◌+◌, ◌-◌, ◌&&◌, ◌||◌, nat_lt, nat_le, if◌then◌else◌, List, [], ◌∷◌, ◌++◌, length, map, flat_map, replicate, Option, encode_utf8}
+use Rattle.std.specs.List.{find, list_all}
+use Rattle.std.specs.Option.{option_map}
+use Rattle.std.specs.Cmp.Lexicographic.{pointwise}
+use Rattle.keysym_core.specs.Keysym.{is_ignored}
+use Rattle.keysym_core.specs.Names.{KeysymNames}
+use Rattle.compose_model.specs.Table.{Definition, same, has_key}
+use Rattle.compose_model.specs.Step.{step, run, pending, is_cancel, is_empty}
+use Rattle.compose_model.specs.Nodes.{nodes, node, number_of, keysyms, edges, has_edge}
+use Rattle.compose_model.specs.Certificate.{Certificate, Repertoire, Typing, is_key, pairs_rise, pairs_in_range, has_pair, rest_is_kept, keys_rise, types_itself}
+use Rattle.compose_check.specs.declared.fault.CheckFault.{CheckFault}
+use Rattle.compose_check.specs.declared.fault.CheckFault.TheVariants.{PairsNotRising, NodeOutOfRange, RootPairMissing, RestBroken, NewStart, Cancels, TextDiffers, PairMissing, BoundExceeded, TypingMissing, TypingWrong, TypingUnasked, FreshNotRising, FreshIgnored, FreshUsed}
+
+-- whether it is met, and the fault where it is not
+pub record Demand : Type 0 where
+  pub met : Bool
+  pub fault : CheckFault
+
+-- the fault of the first demand that is not met
+abbrev pub first_unmet : List Demand → Option CheckFault
+first_unmet demands = option_map (λ (d : Demand). d.fault) (find (λ (d : Demand). not d.met) demands)
+
+abbrev pub demand : Bool → CheckFault → Demand
+demand met fault = record { met = met; fault = fault }
+
+-- ---- the pairs rise and are nodes, the roots are a pair, and the old root stands with the new root alone
+abbrev pub pair_demands : List Definition → List Definition → List (ℕ × ℕ) → List Demand
+pair_demands old new pairs =
+    demand (pairs_rise pairs) PairsNotRising ∷ demand (pairs_in_range old new pairs) NodeOutOfRange ∷
+    demand (has_pair pairs 0 0) RootPairMissing ∷ demand (rest_is_kept pairs) RestBroken ∷ []
+
+-- ---- the fresh keysyms rise, and none is ignored or stands in a sequence of the old table
+
+abbrev pub one_fresh_demands : List Definition → ℕ → List Demand
+one_fresh_demands old k = demand (not (is_ignored k)) (FreshIgnored k) ∷ demand (not (has_key (keysyms old) k)) (FreshUsed k) ∷ []
+
+abbrev pub fresh_demands : List Definition → List ℕ → List Demand
+fresh_demands old fresh = demand (keys_rise fresh) FreshNotRising ∷ flat_map (one_fresh_demands old) fresh
+
+-- ---- what begins in the new table and not in the old one is fresh, or types itself
+
+abbrev pub start_demand : KeysymNames → List ℕ → List Definition → List Definition → ℕ → Demand
+start_demand names fresh old new k = demand (has_edge old [] k || (has_key fresh k || types_itself names new k)) (NewStart k)
+
+abbrev pub start_demands : KeysymNames → List ℕ → List Definition → List Definition → List Demand
+start_demands names fresh old new = map (start_demand names fresh old new) (edges new [])
+
+-- ---- at each edge of the old node of a pair the new step does not cancel, commits the old text, and leads to a pair
+
+abbrev pub one_edge_demands : KeysymNames → List Definition → List Definition → List (ℕ × ℕ) → ℕ → List ℕ → List ℕ → ℕ → List Demand
+one_edge_demands names old new pairs index u v k =
+    let a = step names old u k in
+    let b = step names new v k in
+    demand (not (is_cancel b.effect)) (Cancels index k) ∷ demand (same b.text a.text) (TextDiffers index k) ∷
+    demand (has_pair pairs (number_of old a.pending) (number_of new b.pending)) (PairMissing index k) ∷ []
+
+-- those of the pairs from this one on, whose place is `index`
+abbrev pub edge_demands_from : KeysymNames → List Definition → List Definition → List (ℕ × ℕ) → ℕ → List (ℕ × ℕ) → List Demand
+edge_demands_from names old new pairs index [] = []
+edge_demands_from names old new pairs index (p ∷ ps) =
+    flat_map (one_edge_demands names old new pairs index (node old p.0) (node new p.1)) (edges old (node old p.0))
+    ++ edge_demands_from names old new pairs (1 + index) ps
+
+abbrev pub edge_demands : KeysymNames → List Definition → List Definition → List (ℕ × ℕ) → List Demand
+edge_demands names old new pairs = edge_demands_from names old new pairs 0 pairs
+
+-- ---- no node is longer than the bound
+
+abbrev pub bound_demands_from : ℕ → ℕ → List (List ℕ) → List Demand
+bound_demands_from bound index [] = []
+bound_demands_from bound index (p ∷ ps) = demand (nat_le (length p) bound) (BoundExceeded index) ∷ bound_demands_from bound (1 + index) ps
+
+abbrev pub bound_demands : List Definition → ℕ → List Demand
+bound_demands new bound = bound_demands_from bound 0 (nodes new)
+
+-- ---- the typings are those of the repertoire's characters in order, by its keys
+
+-- w commits the character c at its last key and nothing before, and leaves nothing pending
+abbrev pub types : KeysymNames → List Definition → List ℕ → ℕ → Bool
+types names table w c = pointwise same (map (λ s. s.text) (run names table w)) (replicate (length w - 1) [] ++ encode_utf8 c ∷ []) && is_empty (pending table w)
+
+abbrev pub is_right : KeysymNames → List Definition → Repertoire → Typing → Bool
+is_right names new repertoire t = list_all (is_key repertoire) t.keys && types names new t.keys t.character
+
+-- the characters and the typings side by side; one that stands alone is not met
+abbrev pub typing_demands : KeysymNames → List Definition → Repertoire → List ℕ → List Typing → List Demand
+typing_demands names new repertoire [] [] = []
+typing_demands names new repertoire [] (t ∷ ts) = demand false (TypingUnasked t.character) ∷ []
+typing_demands names new repertoire (c ∷ cs) [] = demand false (TypingMissing c) ∷ []
+typing_demands names new repertoire (c ∷ cs) (t ∷ ts) =
+    if nat_lt t.character c then demand false (TypingUnasked t.character) ∷ [] else
+    if nat_lt c t.character then demand false (TypingMissing c) ∷ [] else
+    demand (is_right names new repertoire t) (TypingWrong c) ∷ typing_demands names new repertoire cs ts
+
+-- ---- all of them
+
+abbrev pub demands : KeysymNames → List Definition → List Definition → Repertoire → Certificate → List Demand
+demands names old new repertoire c =
+    pair_demands old new c.pairs ++ (fresh_demands old c.fresh ++ (start_demands names c.fresh old new ++
+    (edge_demands names old new c.pairs ++ (bound_demands new c.bound ++ typing_demands names new repertoire repertoire.characters c.typings))))
+
+-- the fault of a certificate, if it has one
+abbrev pub fault_of : KeysymNames → List Definition → List Definition → Repertoire → Certificate → Option CheckFault
+fault_of names old new repertoire c = first_unmet (demands names old new repertoire c)

@@ -1,0 +1,6 @@
+pub mod Demands
+pub mod Landing
+pub mod Typings
+pub mod Verdict
+pub mod Input
+pub mod Gives

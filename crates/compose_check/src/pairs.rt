@@ -1,0 +1,113 @@
+//! The demands on the pairs of a certificate by themselves, and the look-up of a pair.
+ghost use Rattle.std.specs.Prelude.{◌≡◌, ◌==◌, ◌&&◌, ◌||◌, not, nat_lt, List, length, IsTrue};
+ghost use Rattle.std.specs.List.{list_all};
+ghost use Rattle.compose_model.specs.Table.{Definition};
+ghost use Rattle.compose_model.specs.Nodes.{nodes};
+ghost use Rattle.compose_model.specs.Certificate as words;
+ghost use Rattle.compose_check.specs.Demands.{first_unmet, pair_demands};
+
+use crate::fault::CheckFault;
+use compose_cert::Certificate;
+
+/// The first demand on the pairs that they do not meet, for tables of so many nodes: the pairs strictly rise, are nodes of the
+/// tables, have the roots, and the old root stands with the new one alone. O(pairs).
+pub(crate) fn check_pairs(
+    certificate: &Certificate,
+    old_count: u32,
+    new_count: u32,
+) -> Option<CheckFault>
+    ensures { (old new : List Definition) → old_count ≡ length (nodes old) → new_count ≡ length (nodes new) → result ≡ first_unmet (pair_demands old new certificate.now.pairs) }
+{
+    if !are_rising(certificate) {
+        return Some(CheckFault::PairsNotRising);
+    }
+    if !are_in_range(certificate, old_count, new_count) {
+        return Some(CheckFault::NodeOutOfRange);
+    }
+    if !has_pair(certificate, 0, 0) {
+        return Some(CheckFault::RootPairMissing);
+    }
+    if !is_rest_kept(certificate) {
+        return Some(CheckFault::RestBroken);
+    }
+    None
+}
+
+/// Whether a pair of these numbers comes before the other one.
+fn is_before(pair: (u32, u32), other: (u32, u32)) -> bool
+    ensures { result ≡ words.is_pair_before pair other }
+{
+    pair.0 < other.0 || (pair.0 == other.0 && pair.1 < other.1)
+}
+
+/// Whether the pairs strictly rise.
+fn are_rising(certificate: &Certificate) -> bool
+    ensures { result ≡ words.pairs_rise certificate.now.pairs }
+{
+    for index in 1..certificate.pair_count() {
+        if !is_before(certificate.pair(index - 1), certificate.pair(index)) {
+            return false;
+        }
+    }
+    true
+}
+
+/// Whether the pairs' numbers are below these counts.
+fn are_in_range(certificate: &Certificate, old_count: u32, new_count: u32) -> bool
+    ensures { result ≡ list_all (λ p. nat_lt p.0 old_count && nat_lt p.1 new_count) certificate.now.pairs }
+{
+    for index in 0..certificate.pair_count() {
+        if !is_within(certificate.pair(index), old_count, new_count) {
+            return false;
+        }
+    }
+    true
+}
+
+/// Whether the pair's numbers are below these counts.
+fn is_within(pair: (u32, u32), old_count: u32, new_count: u32) -> bool
+    ensures { result ≡ (nat_lt pair.0 old_count && nat_lt pair.1 new_count) }
+{
+    pair.0 < old_count && pair.1 < new_count
+}
+
+/// Whether the old root stands with the new root alone.
+fn is_rest_kept(certificate: &Certificate) -> bool
+    ensures { result ≡ words.rest_is_kept certificate.now.pairs }
+{
+    for index in 0..certificate.pair_count() {
+        if !keeps_rest(certificate.pair(index)) {
+            return false;
+        }
+    }
+    true
+}
+
+/// Whether the pair has the new root where it has the old one.
+fn keeps_rest(pair: (u32, u32)) -> bool
+    ensures { result ≡ (not (pair.0 == 0) || pair.1 == 0) }
+{
+    pair.0 != 0 || pair.1 == 0
+}
+
+/// Whether these numbers are a pair. O(log pairs).
+pub(crate) fn has_pair(certificate: &Certificate, old: u32, new: u32) -> bool
+    requires { IsTrue (words.pairs_rise certificate.now.pairs) }
+    ensures { result ≡ words.has_pair certificate.now.pairs old new }
+{
+    let wanted = (old, new);
+    let mut low = 0;
+    let mut high = certificate.pair_count();
+    while low < high {
+        let middle = low + (high - low) / 2;
+        let pair = certificate.pair(middle);
+        if is_before(pair, wanted) {
+            low = middle + 1;
+        } else if is_before(wanted, pair) {
+            high = middle;
+        } else {
+            return true;
+        }
+    }
+    false
+}

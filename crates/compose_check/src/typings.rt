@@ -1,0 +1,137 @@
+//! The demands on the typings: each of the repertoire's characters in order, by its keys.
+ghost use Rattle.std.specs.Prelude.{◌≡◌, List, length, drop, min, encode_utf8};
+ghost use Rattle.std.specs.List.{list_all};
+ghost use Rattle.keysym_core.specs.Names.{KeysymNames};
+ghost use Rattle.compose_model.specs.Table.{Definition, same};
+ghost use Rattle.compose_model.specs.Step as step;
+ghost use Rattle.compose_model.specs.Certificate.{is_key};
+ghost use Rattle.compose_state.specs.Texts.{text_bytes};
+ghost use Rattle.compose_check.specs.Demands as words;
+ghost use Rattle.compose_check.specs.Demands.{first_unmet, typing_demands};
+ghost use Rattle.compose_check.specs.Typings.{typing_fault};
+
+use crate::fault::CheckFault;
+use compose_cert::{Certificate, Repertoire, Typing};
+use compose_state::{ComposeState, FedText};
+use compose_tree::ComposeTable;
+use keysym_core::{Keysym, Names};
+
+/// The first character without a typing, typing that is wrong, or typing that is not asked for.
+/// O(keys of all typings × (log ranges of keys + pending keysyms × log edges of a node)).
+pub(crate) fn check_typings<U: ComposeTable>(
+    new: &U,
+    names: &Names,
+    repertoire: &Repertoire,
+    certificate: &Certificate,
+) -> Option<CheckFault>
+    ensures { result ≡ first_unmet (typing_demands names.now (U.definitions new.now) repertoire.now repertoire.now.characters certificate.now.typings) }
+{
+    let count = repertoire.count().min(certificate.typing_count());
+    for index in 0..count {
+        let character = repertoire.char_at(index);
+        if let Some(fault) = check_typing(
+            new,
+            names,
+            repertoire,
+            character,
+            certificate.typing(index),
+        ) {
+            return Some(fault);
+        }
+    }
+    check_ends(repertoire, certificate, count)
+}
+
+/// The fault where the characters or the typings go on behind the place at which the other ones end.
+fn check_ends(repertoire: &Repertoire, certificate: &Certificate, end: usize) -> Option<CheckFault>
+    requires { end ≡ min (length repertoire.now.characters) (length certificate.now.typings) }
+    ensures { (names : KeysymNames) (new : List Definition) → result ≡ first_unmet (typing_demands names new repertoire.now (drop end repertoire.now.characters) (drop end certificate.now.typings)) }
+{
+    if end < repertoire.count() {
+        return Some(CheckFault::TypingMissing {
+            character: repertoire.char_at(end),
+        });
+    }
+    if end < certificate.typing_count() {
+        return Some(CheckFault::TypingUnasked {
+            character: certificate.typing(end).character(),
+        });
+    }
+    None
+}
+
+/// The fault of the typing where the character is asked for.
+fn check_typing<U: ComposeTable>(
+    new: &U,
+    names: &Names,
+    repertoire: &Repertoire,
+    character: char,
+    typing: &Typing,
+) -> Option<CheckFault>
+    ensures { result ≡ typing_fault names.now (U.definitions new.now) repertoire.now character typing.now }
+{
+    if typing.character() < character {
+        return Some(CheckFault::TypingUnasked {
+            character: typing.character(),
+        });
+    }
+    if character < typing.character() {
+        return Some(CheckFault::TypingMissing { character });
+    }
+    if !are_keys(repertoire, typing.keys())
+        || !types(new, names, typing.keys(), typing.character())
+    {
+        return Some(CheckFault::TypingWrong { character });
+    }
+    None
+}
+
+/// Whether each of the keysyms is one of the repertoire's keys.
+fn are_keys(repertoire: &Repertoire, keysyms: &[Keysym]) -> bool
+    ensures { result ≡ list_all (is_key repertoire.now) keysyms.now }
+{
+    for keysym in keysyms {
+        if !repertoire.is_key(*keysym) {
+            return false;
+        }
+    }
+    true
+}
+
+/// Whether the keys, from rest, commit the character at the last one and nothing before, and leave nothing pending.
+fn types<U: ComposeTable>(new: &U, names: &Names, keys: &[Keysym], character: char) -> bool
+    ensures { result ≡ words.types names.now (U.definitions new.now) keys.now character }
+{
+    let Some((last, earlier)) = keys.split_last() else {
+        return false;
+    };
+    let mut state = ComposeState::new();
+    for keysym in earlier {
+        if !is_empty(state.feed(new, names, *keysym).text) {
+            return false;
+        }
+    }
+    is_character(state.feed(new, names, *last).text, character) && state.pending().is_empty()
+}
+
+/// Whether no text is committed.
+fn is_empty(text: FedText<'_>) -> bool
+    ensures { result ≡ step.is_empty (text_bytes text.entry) }
+{
+    match text {
+        FedText::Empty => true,
+        FedText::Char(_) => false,
+        FedText::Slice(text) => text.is_empty(),
+    }
+}
+
+/// Whether the character is committed.
+fn is_character(text: FedText<'_>, character: char) -> bool
+    ensures { result ≡ same (text_bytes text.entry) (encode_utf8 character) }
+{
+    match text {
+        FedText::Empty => false,
+        FedText::Char(own) => own.encode_utf8(&mut [0; 4]) == character.encode_utf8(&mut [0; 4]),
+        FedText::Slice(text) => text == character.encode_utf8(&mut [0; 4]),
+    }
+}
