@@ -1,0 +1,115 @@
+-- Small tables, walked by the definitions.
+use Rattle.std.proofs.Common.{◌≡◌, ℕ, List, [], ◌∷◌, ◌++◌, refl, true, false}
+use Rattle.std.specs.Prelude.{Some, codes}
+use Rattle.std.specs.Char.{encode_utf8}
+use Rattle.keysym_core.specs.Names.{KeysymNames}
+use Rattle.compose_model.specs.Table.{Definition}
+use Rattle.compose_model.specs.Follows.{cancelled, text_differs, waiting}
+use Rattle.compose_walk.specs.Evidence.{comes_first}
+use Rattle.compose_walk.specs.Explained.{explained}
+use Rattle.compose_walk.specs.Pass.{difference_at, agrees, differing_edges, differing_starts}
+
+abbrev core : KeysymNames
+core = record { names = record { name = codes "dead_acute"; value = 0xfe51 } ∷ record { name = codes "e"; value = 0x65 } ∷ []; characters = [] }
+
+abbrev acute_e : List ℕ
+acute_e = 0xc3 ∷ 0xa9 ∷ []
+
+-- <Multi_key> <apostrophe> <e> : "é"
+abbrev one_line : List Definition
+one_line = record { sequence = 0xff20 ∷ 0x27 ∷ 0x65 ∷ []; text = acute_e } ∷ []
+
+-- and <dead_acute> <e> : "é"
+abbrev two_lines : List Definition
+two_lines = record { sequence = 0xfe51 ∷ 0x65 ∷ []; text = acute_e } ∷ one_line
+
+-- <Multi_key> <apostrophe> <e> : "é" and <Multi_key> <apostrophe> <a> : "á"
+abbrev without_dead : List Definition
+without_dead = record { sequence = 0xff20 ∷ 0x27 ∷ 0x61 ∷ []; text = 0xc3 ∷ 0xa1 ∷ [] } ∷ one_line
+
+-- ---- a sequence that is gone
+
+gone_kind : difference_at core two_lines without_dead (0xfe51 ∷ []) 0x65 ≡ Some text_differs
+unfolding encode_utf8
+gone_kind = refl
+
+gone_text : explained core (record { keys = 0xfe51 ∷ 0x65 ∷ []; kind = text_differs; old_text = acute_e; new_text = codes "e" })
+    ≡ codes "keys dead_acute e" ++ 10 ∷ codes "kind text" ++ 10 ∷ codes "old " ++ 34 ∷ acute_e ++ 34 ∷ 10 ∷ codes "new " ++ 34 ∷ 101 ∷ 34 ∷ 10 ∷ []
+gone_text = refl
+
+-- ---- a new start, unless it is fresh
+
+-- one_line and <dead_caron> <c> : "č"
+abbrev caron : List Definition
+caron = record { sequence = 0xfe5a ∷ 0x63 ∷ []; text = 0xc4 ∷ 0x8d ∷ [] } ∷ one_line
+
+caron_starts : differing_starts core [] one_line caron ≡ 0xfe5a ∷ []
+caron_starts = refl
+
+caron_kind : difference_at core one_line caron [] 0xfe5a ≡ Some waiting
+caron_kind = refl
+
+caron_fresh : differing_starts core (0xfe5a ∷ []) one_line caron ≡ []
+caron_fresh = refl
+
+-- ---- a shorter way round follows
+
+-- <dead_grave> <dead_acute> <e> : "x" and <dead_acute> <e> : "x", and the second line alone
+abbrev short_way : List Definition
+short_way = record { sequence = 0xfe51 ∷ 0x65 ∷ []; text = codes "x" } ∷ []
+
+abbrev long_way : List Definition
+long_way = record { sequence = 0xfe50 ∷ 0xfe51 ∷ 0x65 ∷ []; text = codes "x" } ∷ short_way
+
+agrees_all_along : agrees core long_way short_way (0xfe50 ∷ 0xfe51 ∷ []) ≡ true
+agrees_all_along = refl
+
+nothing_behind : differing_edges core long_way short_way (0xfe50 ∷ 0xfe51 ∷ []) ≡ []
+nothing_behind = refl
+
+-- ---- a sequence that the new table breaks off
+
+-- <dead_grave> <dead_acute> <c> : "c" and <dead_grave> <d> : "y"
+abbrev grave_acute : List Definition
+grave_acute = record { sequence = 0xfe50 ∷ 0xfe51 ∷ 0x63 ∷ []; text = codes "c" } ∷ []
+
+abbrev grave_d : List Definition
+grave_d = record { sequence = 0xfe50 ∷ 0x64 ∷ []; text = codes "y" } ∷ []
+
+breaks_off : differing_edges core grave_acute grave_d (0xfe50 ∷ []) ≡ 0xfe51 ∷ []
+breaks_off = refl
+
+breaks_kind : difference_at core grave_acute grave_d (0xfe50 ∷ []) 0xfe51 ≡ Some cancelled
+breaks_kind = refl
+
+-- nothing is looked at behind it
+not_behind : agrees core grave_acute grave_d (0xfe50 ∷ 0xfe51 ∷ []) ≡ false
+not_behind = refl
+
+-- ---- a keysym that gives itself may go
+
+itself_goes : differing_edges core (record { sequence = 0x61 ∷ []; text = codes "a" } ∷ []) [] [] ≡ []
+unfolding encode_utf8
+itself_goes = refl
+
+-- ---- the shortest first, and the first of the shortest
+
+-- <dead_grave> <a> : "x", <dead_circumflex> : "z" and <dead_acute> : "y"
+abbrev three : List Definition
+three = record { sequence = 0xfe50 ∷ 0x61 ∷ []; text = codes "x" } ∷ record { sequence = 0xfe52 ∷ []; text = codes "z" } ∷ record { sequence = 0xfe51 ∷ []; text = codes "y" } ∷ []
+
+at_root : differing_edges core three [] [] ≡ 0xfe51 ∷ 0xfe52 ∷ []
+at_root = refl
+
+behind_grave : differing_edges core three [] (0xfe50 ∷ []) ≡ 0x61 ∷ []
+unfolding encode_utf8
+behind_grave = refl
+
+acute_before_circumflex : comes_first (0xfe51 ∷ []) (0xfe52 ∷ []) ≡ true
+acute_before_circumflex = refl
+
+shorter_before : comes_first (0xfe52 ∷ []) (0xfe50 ∷ 0x61 ∷ []) ≡ true
+shorter_before = refl
+
+not_deep_first : comes_first (0xfe50 ∷ 0x61 ∷ []) (0xfe51 ∷ []) ≡ false
+not_deep_first = refl

@@ -1,0 +1,58 @@
+-- What the pass keeps: for each old node what stands with it, and the keys that it found.
+use Rattle.std.specs.Prelude.{ℕ, ◌+◌, Bool, ◌&&◌, ◌||◌, ◌==◌, nat_lt, if◌then◌else◌, List, [], ◌∷◌, ◌++◌, length, map, flat_map, Option, Some, None}
+use Rattle.keysym_core.specs.Names.{KeysymNames}
+use Rattle.compose_model.specs.Table.{Definition, has_key}
+use Rattle.compose_model.specs.Step.{is_empty, pending}
+use Rattle.compose_model.specs.Nodes.{nodes, number_of}
+use Rattle.compose_walk.specs.Pass.{agrees, differing_edges, differing_starts}
+use Rattle.compose_walk.specs.declared.pass.Stand.{Stand}
+use Rattle.compose_walk.specs.declared.pass.Found.{Found}
+
+-- all keys but the last one, and the last one
+abbrev pub front : List ℕ → List ℕ
+front [] = []
+front (k ∷ []) = []
+front (k ∷ j ∷ p) = k ∷ front (j ∷ p)
+
+abbrev pub last_key : List ℕ → ℕ
+last_key [] = 0
+last_key (k ∷ []) = k
+last_key (k ∷ j ∷ p) = last_key (j ∷ p)
+
+-- what stands with the old node p, if the tables agree up to it
+abbrev pub stand : KeysymNames → List Definition → List Definition → List ℕ → Option Stand
+stand names old new p =
+    if agrees names old new p then Some (record {
+      new_node = record { 0 = number_of new (pending new p) };
+      parent = record { 0 = number_of old (front p) };
+      keysym = last_key p;
+    }) else None
+
+-- the edge that leads to p was looked at: it is one of a node before the one with this number, or one of these keys behind that node
+abbrev pub is_done : List Definition → ℕ → List ℕ → List ℕ → Bool
+is_done old i ks p = is_empty p || (nat_lt (number_of old (front p)) i || (number_of old (front p) == i && has_key ks (last_key p)))
+
+abbrev pub stands_at : KeysymNames → List Definition → List Definition → ℕ → List ℕ → List (Option Stand)
+stands_at names old new i ks = map (λ p. if is_done old i ks p then stand names old new p else None) (nodes old)
+
+-- the key k behind the old node p
+abbrev pub found_at : List Definition → List ℕ → ℕ → Found
+found_at old p k = record { depth = length p; node = number_of old p; keysym = k }
+
+-- those behind the old node p
+abbrev pub found_behind : KeysymNames → List Definition → List Definition → List ℕ → List Found
+found_behind names old new p = map (found_at old p) (differing_edges names old new p)
+
+-- those among the new starts, and behind these nodes
+abbrev pub all_found : KeysymNames → List ℕ → List Definition → List Definition → List (List ℕ) → List Found
+all_found names fresh old new ps = map (found_at old []) (differing_starts names fresh old new) ++ flat_map (found_behind names old new) ps
+
+-- a has fewer keys than b, or as many and comes before it: by the numbers of their nodes, then by their last keys
+abbrev pub comes_sooner : Found → Found → Bool
+comes_sooner a b = if a.depth == b.depth then (if a.node == b.node then nat_lt a.keysym b.keysym else nat_lt a.node b.node) else nat_lt a.depth b.depth
+
+-- the nodes with a stand, numbered from n on, each with its new node
+abbrev pub stand_pairs : ℕ → List (Option Stand) → List (ℕ × ℕ)
+stand_pairs n [] = []
+stand_pairs n (None ∷ xs) = stand_pairs (n + 1) xs
+stand_pairs n (Some s ∷ xs) = (n, s.new_node.0) ∷ stand_pairs (n + 1) xs

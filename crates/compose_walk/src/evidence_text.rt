@@ -1,0 +1,100 @@
+//! Evidence as text.
+ghost use Rattle.std.specs.Prelude.{◌≡◌, ◌++◌, List, ℕ, string_bytes, IfOk, IfErr};
+ghost use Rattle.compose_lex.specs.Escape.{quote};
+ghost use Rattle.keysym_core.specs.Printed.{printed};
+ghost use Rattle.compose_walk.specs.Explained.{keys_line, explained, kind_word};
+ghost use Rattle.compose_walk.specs.Kinds.{kind_of};
+
+use crate::evidence::{Counterexample, Kind};
+use crate::fault::MakeFault;
+use compose_lex::quote;
+use keysym_core::{Keysym, Names};
+use std::alloc::{AllocError, Global};
+
+/// The four lines that tell a counterexample: the keys, how the tables differ at the last one, and the two texts.
+/// O(keys × look-up in the names + bytes of the texts).
+pub fn explain(
+    alloc: Global,
+    names: &Names,
+    counterexample: &Counterexample,
+) -> Result<String, MakeFault>
+    ensures ok { IfOk result (λ text. string_bytes text ≡ explained names.now counterexample.now) }
+    ensures err { IfErr result (λ e. e ≡ MakeFault.NoMemory) }
+{
+    let mut text = String::new(alloc);
+    push_explained(alloc, &mut text, names, counterexample)?;
+    Ok(text)
+}
+
+/// Puts the four lines behind the text.
+fn push_explained(
+    alloc: Global,
+    text: &mut String,
+    names: &Names,
+    counterexample: &Counterexample,
+) -> Result<(), AllocError>
+    ensures { IfOk result (λ _. string_bytes text.new ≡ string_bytes text.old ++ explained names.now counterexample.now) }
+{
+    push_keys(alloc, text, names, counterexample)?;
+    text.push_str("\nkind ")?;
+    text.push_str(word(counterexample.kind))?;
+    text.push_str("\nold ")?;
+    push_quoted(alloc, text, counterexample.old_text.as_str())?;
+    text.push_str("\nnew ")?;
+    push_quoted(alloc, text, counterexample.new_text.as_str())?;
+    text.push_str("\n")?;
+    Ok(())
+}
+
+/// Puts the word `keys` and the printed keysyms, with a blank before each, behind the text.
+fn push_keys(
+    alloc: Global,
+    text: &mut String,
+    names: &Names,
+    counterexample: &Counterexample,
+) -> Result<(), AllocError>
+    ensures { IfOk result (λ _. string_bytes text.new ≡ string_bytes text.old ++ keys_line names.now counterexample.now.keys) }
+{
+    text.push_str("keys")?;
+    for key in counterexample.keys.as_slice() {
+        text.push_str(" ")?;
+        push_printed(alloc, text, names, *key)?;
+    }
+    Ok(())
+}
+
+/// Puts the printed keysym behind the text.
+fn push_printed(
+    alloc: Global,
+    text: &mut String,
+    names: &Names,
+    key: Keysym,
+) -> Result<(), AllocError>
+    ensures { IfOk result (λ _. string_bytes text.new ≡ string_bytes text.old ++ printed names.now key) }
+{
+    match names.print(alloc, key) {
+        Ok(name) => Ok(text.push_str(name.as_str())?),
+        Err(_) => Err(AllocError),
+    }
+}
+
+/// Puts the text between quotes behind the other one.
+fn push_quoted(alloc: Global, text: &mut String, inside: &str) -> Result<(), AllocError>
+    ensures { IfOk result (λ _. string_bytes text.new ≡ string_bytes text.old ++ quote inside.now) }
+{
+    match quote(alloc, inside) {
+        Ok(quoted) => Ok(text.push_str(quoted.as_str())?),
+        Err(_) => Err(AllocError),
+    }
+}
+
+/// The word for a kind of difference.
+fn word(kind: Kind) -> &'static str
+    ensures { result.now ≡ kind_word (kind_of kind) }
+{
+    match kind {
+        Kind::Text => "text",
+        Kind::Cancelled => "cancelled",
+        Kind::Waiting => "waiting",
+    }
+}

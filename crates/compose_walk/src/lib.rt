@@ -1,0 +1,32 @@
+//! The walk through an old and a new compose table side by side: does the new one follow, and if not, where do they differ.
+#![tactic(auto)]
+
+ghost use Rattle.std.specs.Prelude.{◌∷◌, [], ℕ, List, IsTrue};
+ghost use Rattle.keysym_core.specs.Names.{KeysymNames};
+ghost use Rattle.compose_model.specs.Table.{Definition, is_table};
+ghost use Rattle.compose_model.specs.Follows.{Follows};
+ghost use Rattle.compose_model.specs.Certificate.{AreFresh};
+ghost use Rattle.compose_walk.specs.Evidence.{Evidence, IsLeast, AreDifferences};
+
+mod evidence;
+mod evidence_text;
+mod fault;
+mod outcome;
+mod pairs;
+mod pass;
+mod step;
+mod trace;
+mod walker;
+
+pub use evidence::{Counterexample, Kind};
+pub use evidence_text::explain;
+pub use fault::MakeFault;
+pub use outcome::Walk;
+pub use pairs::Pairs;
+pub use walker::walk;
+
+/// Of all differences of two tables, in order, the first is the least counterexample; where there is none, the new table follows.
+pub fn law_differences()
+    ensures first { (names : KeysymNames) (fresh : List ℕ) (old new : List Definition) (x : Evidence) (xs : List Evidence) → IsTrue (is_table old) → IsTrue (is_table new) → AreFresh fresh old → AreDifferences names fresh old new (x ∷ xs) → IsLeast names fresh old new x }
+    ensures none { (names : KeysymNames) (fresh : List ℕ) (old new : List Definition) → IsTrue (is_table old) → IsTrue (is_table new) → AreFresh fresh old → AreDifferences names fresh old new [] → Follows names fresh old new }
+{}

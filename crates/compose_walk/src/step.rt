@@ -1,0 +1,116 @@
+//! One key in both tables.
+ghost use Rattle.std.specs.Prelude.{◌≡◌, ◌<◌, ◌≤◌, false, length};
+ghost use Rattle.keysym_core.specs.Keysym as keysyms;
+ghost use Rattle.keysym_core.specs.Names.{text};
+ghost use Rattle.compose_model.specs.Nodes as words;
+ghost use Rattle.compose_model.specs.Nodes.{nodes, is_node, number_of};
+ghost use Rattle.compose_model.specs.Step as steps;
+ghost use Rattle.compose_model.specs.Follows as follows;
+ghost use Rattle.compose_tree.specs.Targets.{target_of};
+ghost use Rattle.compose_walk.specs.Kinds.{kind_of};
+ghost use Rattle.compose_walk.specs.Steps.{text_bytes, IsStep, difference_of};
+
+use crate::evidence::Kind;
+use arrayvec::ArrayString;
+use compose_tree::{ComposeTable, NodeId, Target};
+use keysym_core::{Keysym, Names};
+
+/// The number of each table's root.
+pub const ROOT: NodeId = NodeId(0);
+
+/// The text that a key commits: its own, or that of a sequence.
+#[derive(Clone, Copy)]
+pub enum KeyText<'t> {
+    Own(ArrayString<4>),
+    Sequence(&'t str),
+}
+
+impl KeyText<'_> {
+    /// The text.
+    pub fn as_str(&self) -> &str
+        ensures { result.now ≡ text_bytes self.now }
+    {
+        match self {
+            KeyText::Own(own) => own.as_str(),
+            KeyText::Sequence(sequence) => sequence,
+        }
+    }
+}
+
+/// What a key does to a table: whether it cancels, the text that it commits, and the node that is pending then.
+#[derive(Clone, Copy)]
+pub struct KeyStep<'t> {
+    pub cancels: bool,
+    pub text: KeyText<'t>,
+    pub next: NodeId,
+}
+
+/// The text of the key itself. At the cost of one look-up in the names.
+pub fn own_text(names: &Names, key: Keysym) -> ArrayString<4>
+    ensures text { result.bytes ≡ text names.now key }
+    ensures short { length result.bytes ≤ 4 }
+{
+    let mut own = ArrayString::<4>::new();
+    if let Some(character) = names.text_of(key) {
+        own.push(character);
+    }
+    own
+}
+
+/// What the key does to the table at the node, behind which it has this target. O(1), and at the root a look-up in the names.
+pub fn key_step<'t, T: ComposeTable>(
+    table: &'t T,
+    names: &Names,
+    node: NodeId,
+    key: Keysym,
+    target: Option<Target>,
+) -> KeyStep<'t>
+    requires node_in_range { node.0 < length (nodes (T.definitions table.now)) }
+    requires target { target ≡ target_of (T.definitions table.now) (words.node (T.definitions table.now) node.0) key }
+    requires fed { keysyms.is_ignored key ≡ false }
+    ensures step { IsStep names.now (T.definitions table.now) (words.node (T.definitions table.now) node.0) key result }
+    ensures short { length (text_bytes result.text) ≤ 255 }
+{
+    let Some(target) = target else {
+        return if node == ROOT {
+            KeyStep {
+                cancels: false,
+                text: KeyText::Own(own_text(names, key)),
+                next: ROOT,
+            }
+        } else {
+            KeyStep {
+                cancels: true,
+                text: KeyText::Sequence(""),
+                next: ROOT,
+            }
+        };
+    };
+    match target {
+        Target::Node(next) => KeyStep {
+            cancels: false,
+            text: KeyText::Sequence(""),
+            next,
+        },
+        Target::Leaf(leaf) => KeyStep {
+            cancels: false,
+            text: KeyText::Sequence(table.text(leaf)),
+            next: ROOT,
+        },
+    }
+}
+
+/// How the steps of the two tables differ, if they do. O(bytes of the texts).
+pub fn difference(old: &KeyStep<'_>, new: &KeyStep<'_>) -> Option<Kind>
+    ensures { result ≡ difference_of old.now new.now }
+{
+    if new.cancels {
+        Some(Kind::Cancelled)
+    } else if new.text.as_str() != old.text.as_str() {
+        Some(Kind::Text)
+    } else if old.next == ROOT && new.next != ROOT {
+        Some(Kind::Waiting)
+    } else {
+        None
+    }
+}

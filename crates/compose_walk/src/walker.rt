@@ -1,0 +1,105 @@
+//! The walk through both tables.
+ghost use Rattle.std.specs.Prelude.{◌≡◌, ◌<◌, ◌≤◌, ◌++◌, ◌∷◌, [], ℕ, List, Some, None, true, IsTrue, ◌^◌, Err, Ok, length, map, drop, IfOk, IfErr, MatchResult};
+ghost use Rattle.std.specs.List.{IsFirstBest};
+ghost use Rattle.compose_model.specs.Certificate.{AreFresh};
+ghost use Rattle.compose_check.specs.Demands.{first_unmet, fresh_demands};
+ghost use Rattle.compose_walk.specs.Stands.{comes_sooner, stand_pairs};
+ghost use Rattle.compose_walk.specs.Walks.{IsWalk};
+
+use crate::fault::MakeFault;
+use crate::outcome::Walk;
+use crate::pairs::Pairs;
+use crate::pass::{Found, Pass, Stand};
+use compose_check::{CheckFault, check_fresh};
+use compose_tree::ComposeTable;
+use keysym_core::{Keysym, Names};
+use std::alloc::Global;
+
+/// The most fresh keysyms that a certificate can have.
+pub const MOST_FRESH: usize = 1_048_576;
+
+/// Walks through both tables, but for what begins with a fresh keysym.
+///
+/// `BadFresh` and `TooManyFresh` come before any memory is taken. O(edges × log edges) time; 16 bytes an old node, 12 a key
+/// that differs, and 8 a pair.
+pub fn walk<T: ComposeTable, U: ComposeTable>(
+    alloc: Global,
+    old: &T,
+    new: &U,
+    names: &Names,
+    fresh: &[Keysym],
+) -> Result<Walk, MakeFault>
+    ensures bad_fresh { (fault : CheckFault) → first_unmet (fresh_demands (T.definitions old.now) fresh.now) ≡ Some fault → result ≡ Err (MakeFault.BadFresh fault) }
+    ensures too_many { first_unmet (fresh_demands (T.definitions old.now) fresh.now) ≡ None → 1048576 < length fresh.now → result ≡ Err MakeFault.TooManyFresh }
+    ensures answer { first_unmet (fresh_demands (T.definitions old.now) fresh.now) ≡ None → length fresh.now ≤ 1048576
+        → MatchResult result (IsWalk names.now fresh.now (T.definitions old.now) (U.definitions new.now)) (λ e. e ≡ MakeFault.NoMemory) }
+{
+    accept_fresh(old, fresh)?;
+    walk_accepted(alloc, old, new, names, fresh)
+}
+
+/// Refuses keysyms that are not fresh for the old table, or too many of them.
+pub fn accept_fresh<T: ComposeTable>(old: &T, fresh: &[Keysym]) -> Result<(), MakeFault>
+    ensures bad_fresh { (fault : CheckFault) → first_unmet (fresh_demands (T.definitions old.now) fresh.now) ≡ Some fault → result ≡ Err (MakeFault.BadFresh fault) }
+    ensures too_many { first_unmet (fresh_demands (T.definitions old.now) fresh.now) ≡ None → 1048576 < length fresh.now → result ≡ Err MakeFault.TooManyFresh }
+    ensures accepted { first_unmet (fresh_demands (T.definitions old.now) fresh.now) ≡ None → length fresh.now ≤ 1048576 → result ≡ Ok tt }
+    ensures fresh { IfOk result (λ _. AreFresh fresh.now (T.definitions old.now)) }
+{
+    if let Some(fault) = check_fresh(old, fresh) {
+        return Err(MakeFault::BadFresh(fault));
+    }
+    if fresh.len() > MOST_FRESH {
+        return Err(MakeFault::TooManyFresh);
+    }
+    Ok(())
+}
+
+/// The walk, once the keysyms are known to be fresh.
+fn walk_accepted<T: ComposeTable, U: ComposeTable>(
+    alloc: Global,
+    old: &T,
+    new: &U,
+    names: &Names,
+    fresh: &[Keysym],
+) -> Result<Walk, MakeFault>
+    requires { AreFresh fresh.now (T.definitions old.now) }
+    ensures { MatchResult result (IsWalk names.now fresh.now (T.definitions old.now) (U.definitions new.now)) (λ e. e ≡ MakeFault.NoMemory) }
+{
+    let _ = old.node_count();
+    let _ = new.node_count();
+    let pass = Pass::run(alloc, old, new, names, fresh)?;
+    if pass.found.is_empty() {
+        return Ok(Walk::Follows(pairs_of(alloc, &pass.stands)?));
+    }
+    let least = pass.found[least_of(&pass.found)];
+    Ok(Walk::Differs(pass.evidence(old, new, names, least)))
+}
+
+/// The pairs of the old nodes that have a new node with them. O(nodes).
+fn pairs_of(alloc: Global, stands: &[Option<Stand>]) -> Result<Pairs, MakeFault>
+    requires { length stands.now < 2 ^ 32 }
+    ensures pairs { IfOk result (λ pairs. pairs ≡ stand_pairs 0 stands.now) }
+    ensures err { IfErr result (λ e. e ≡ MakeFault.NoMemory) }
+{
+    let mut pairs = Vec::new(alloc);
+    for (number, slot) in stands.iter().enumerate() {
+        if let Some(stand) = slot {
+            pairs.push((number as u32, stand.new_node.0))?;
+        }
+    }
+    Ok(Pairs::new(pairs))
+}
+
+/// The place of the one with the fewest keys, and of these the first in order. O(n).
+fn least_of(found: &[Found]) -> usize
+    requires { 0 < length found.now }
+    ensures { IsFirstBest comes_sooner found.now (length found.now) result }
+{
+    let mut least = 0;
+    for index in 1..found.len() {
+        if found[index].comes_sooner(&found[least]) {
+            least = index;
+        }
+    }
+    least
+}
