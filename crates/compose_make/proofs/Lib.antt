@@ -1,0 +1,8 @@
+pub mod Order
+pub mod Reduction
+pub mod Rows
+pub mod Behind
+pub mod PlainKeys
+pub mod FoundRows
+pub mod Depths
+pub mod Certified

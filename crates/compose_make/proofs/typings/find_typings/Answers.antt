@@ -1,0 +1,25 @@
+use Rattle.std.proofs.Common.{◌≡◌, ◌∙◌, ◌<◌, List, length, drop, take, sym, ap, subst, arith}
+use Rattle.std.specs.Prelude.{IfOk}
+use Rattle.std.proofs.lemmas.List.{take_at}
+use Rattle.compose_make.specs.Found.{IsOfRows}
+use Rattle.compose_model.proofs.NodeLemmas.{node_zero}
+use Rattle.compose_make.specs.Least.{is_plain, is_candidate}
+use Rattle.compose_make.specs.Wanted.{WantedCharacter, AreLeast, characters_of}
+use Rattle.compose_make.proofs.FoundRows.{all_looked_at, answered}
+use Rattle.compose_make.proofs.typings.find_typings.Goals as goal
+
+pub visit-requires-clause-path : goal.visit-requires-clause-path
+visit-requires-clause-path g c = sym (node_zero (g.U.ComposeTable.definitions c.args.new.now))
+
+pub returns-clause-found : goal.returns-clause-found
+returns-clause-found g c =
+    let names = c.args.names.now in
+    let table = g.U.ComposeTable.definitions c.args.new.now in
+    let repertoire = c.args.repertoire.now in
+    let rows = c.visit.new.rows in
+    let n : length rows ≡ c.in_ok-rows.rows.len = omega arith in
+    let is : c.deref.result.now ≡ rows = c.deref.ensures.value ∙ take_at rows (drop (length rows) c.in_ok-rows.rows.items) c.in_ok-rows.rows.len n in
+    let characters : characters_of rows ≡ repertoire.characters = c.visit.ensures.characters ∙ ap characters_of c.deref_mut.ensures.value ∙ c.in_ok-rows.ensures.characters in
+    let plain : AreLeast (is_plain names table repertoire) c.deref_mut.result.now = subst (AreLeast (is_plain names table repertoire)) (sym c.deref_mut.ensures.value) c.in_ok-rows.ensures.least in
+    let all : AreLeast (is_candidate names table repertoire) rows = all_looked_at names table repertoire c.node_count.ensures.settled rows (c.visit.ensures.least (is_plain names table repertoire) plain) in
+    answered names table repertoire c.node_count.ensures.settled rows c.typings_of.result c.count.ensures.sound.rise characters all (subst (λ (rs : List WantedCharacter). IfOk c.typings_of.result (IsOfRows rs)) is c.typings_of.ensures.found)

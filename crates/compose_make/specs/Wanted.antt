@@ -1,0 +1,55 @@
+-- The characters that are wanted, each with the first of the lists of keys that were looked at.
+use Rattle.std.specs.Prelude.{ℕ, Bool, true, ◌||◌, ◌&&◌, if◌then◌else◌, List, [], ◌∷◌, ◌++◌, map, Option, Some, None, is_some, unwrap_or}
+use Rattle.std.specs.List.{list_any, AllByRecursion}
+use Rattle.compose_model.specs.Table.{Definition, same, is_proper_prefix}
+use Rattle.compose_model.specs.Certificate.{Typing, Repertoire}
+use Rattle.compose_walk.specs.Evidence.{comes_first}
+use Rattle.compose_make.specs.Least.{spells, is_whole, IsLeastOf}
+
+-- a character, and keys that type it, where some are known
+pub record WantedCharacter : Type 0 where
+  pub character : ℕ
+  pub keys : Option (List ℕ)
+
+-- the one that comes first of the keys that are known and these
+abbrev pub better : Option (List ℕ) → List ℕ → Option (List ℕ)
+better None w = Some w
+better (Some v) w = if comes_first w v then Some w else Some v
+
+-- what is known once these keys, which give this text, were looked at
+abbrev pub offered : List ℕ → List ℕ → WantedCharacter → WantedCharacter
+offered t w row = if spells row.character t then record row { keys = better row.keys w } else row
+
+abbrev pub characters_of : List WantedCharacter → List ℕ
+characters_of rows = map (λ row. row.character) rows
+
+-- the keys of each row are the least of those that pass its character's test
+abbrev pub AreLeast : (ℕ → List ℕ → Bool) → List WantedCharacter → Type 0
+AreLeast passes rows = AllByRecursion (λ row. IsLeastOf (passes row.character) row.keys) rows
+
+-- ---- what was looked at
+
+-- v is u, or goes on behind it
+abbrev pub begins : List ℕ → List ℕ → Bool
+begins u v = same u v || is_proper_prefix u v
+
+-- v goes on behind p to a whole sequence that types c
+abbrev pub is_behind : List Definition → Repertoire → ℕ → List ℕ → List ℕ → Bool
+is_behind table repertoire c p v = is_proper_prefix p v && is_whole table repertoire c v
+
+-- by one of these keys
+abbrev pub is_through : List Definition → Repertoire → ℕ → List ℕ → List ℕ → List ℕ → Bool
+is_through table repertoire c p ks v = list_any (λ k. begins (p ++ k ∷ []) v) ks && is_whole table repertoire c v
+
+-- ---- the answer of the rows
+
+abbrev pub typing_by : ℕ → List ℕ → Typing
+typing_by c w = record { character = c; keys = w }
+
+abbrev pub typing_of : WantedCharacter → Typing
+typing_of row = typing_by row.character (unwrap_or row.keys [])
+
+-- the first character for which no keys are known
+abbrev pub first_missing : List WantedCharacter → Option ℕ
+first_missing [] = None
+first_missing (row ∷ rows) = if is_some row.keys then first_missing rows else Some row.character

@@ -1,0 +1,19 @@
+//! How deep a table is.
+ghost use Rattle.compose_make.specs.Depth.{IsGreatestDepth};
+
+use compose_tree::{ComposeTable, NodeId};
+
+/// The greatest depth of a node. O(nodes).
+pub fn greatest_depth<U: ComposeTable>(new: &U) -> u32
+    ensures { IsGreatestDepth (U.definitions new.now) result }
+{
+    let mut greatest = 0;
+    for number in 0..new.node_count() {
+        let depth = new.depth(NodeId(number));
+        if depth <= greatest {
+            continue;
+        }
+        greatest = depth;
+    }
+    greatest
+}
