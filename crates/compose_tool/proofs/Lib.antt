@@ -1,0 +1,3 @@
+pub mod Tabs
+pub mod OneLine
+pub mod OneKey

@@ -1,0 +1,3 @@
+pub mod Manifest
+pub mod Given
+pub mod Typed

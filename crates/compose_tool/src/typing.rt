@@ -1,0 +1,99 @@
+//! Typing keys with a table, line by line.
+ghost use Rattle.std.specs.Prelude.{◌≡◌, ◌++◌, List, Ok, OnOk, IfOk, string_bytes};
+ghost use Rattle.compose_model.specs.Table.{Definition};
+ghost use Rattle.compose_read.specs.Read.{definitions_of};
+ghost use Rattle.compose_tree.specs.Given.{table_of};
+ghost use Rattle.compose_tool.specs.Given.{TypeGives};
+ghost use Rattle.compose_tool.specs.Typed.{typed_lines, fed_line};
+
+use arrayvec::ArrayString;
+use compose_lex::{LexFault, quote};
+use compose_model::Rule;
+use compose_read::{Sources, law_settle};
+use compose_state::{ComposeState, Fed};
+use compose_tree::{ComposeTable, TableFault, read_table};
+use keysym_core::{Keysym, Names};
+use std::alloc::{AllocError, Global};
+use thiserror::Error;
+
+/// Why no lines are typed.
+#[derive(Debug, PartialEq, Eq, Drop, Error)]
+pub enum TypeFault {
+    /// The sources give no table.
+    #[error("1 Table: {0}")]
+    Table(TableFault),
+    /// A growth was refused.
+    #[error("2 NoMemory")]
+    NoMemory,
+}
+
+impl From<AllocError> for TypeFault {
+    ghost use Rattle.compose_tool.specs.declared.typing.TypeFault.TheVariants.{NoMemory};
+
+    ghost from_gives = { λ _ e. e ≡ NoMemory };
+
+    fn from(_error: AllocError) -> TypeFault {
+        TypeFault::NoMemory
+    }
+}
+
+/// What happens at each key, typed from rest with the table that is read from the root by the rule: a line for each key, of
+/// the word for it (`nothing`, `composing`, `composed`, `cancelled` or `ignored`), a blank and the committed text in quotes.
+/// The first fault of the table, if it has one. O(bytes of the sources + keys × log edges of a node).
+pub fn type_lines<T: ComposeTable>(
+    alloc: Global,
+    names: &Names,
+    sources: &Sources,
+    root: &str,
+    keys: &[Keysym],
+    rule: Rule,
+) -> Result<String, TypeFault>
+    ensures exact { TypeGives names.now keys.now result (table_of names.now sources.now root.now rule) }
+    ensures as_read { IfOk result (λ text. (read : List Definition) → definitions_of names.now sources.now root.now ≡ Ok read → string_bytes text ≡ typed_lines names.now read keys.now) }
+{
+    match read_table::<T>(alloc, names, sources, root, rule) {
+        Ok(table) => {
+            law_settle();
+            Ok(lines_of_keys(alloc, names, &table, keys)?)
+        }
+        Err(TableFault::NoMemory) => Err(TypeFault::NoMemory),
+        Err(fault) => Err(TypeFault::Table(fault)),
+    }
+}
+
+/// A line for each key: the word for what happens, a blank and the committed text in quotes. O(keys × log edges).
+fn lines_of_keys<T: ComposeTable>(
+    alloc: Global,
+    names: &Names,
+    table: &T,
+    keys: &[Keysym],
+) -> Result<String, AllocError>
+    ensures { IfOk result (λ text. string_bytes text ≡ typed_lines names.now (T.definitions table.now) keys.now) }
+{
+    let mut lines = String::new(alloc);
+    let mut state = ComposeState::new();
+    for keysym in keys {
+        let fed = state.feed(table, names, *keysym);
+        push_line(alloc, &mut lines, &fed)?;
+    }
+    Ok(lines)
+}
+
+/// Puts the line of an answer behind the others.
+fn push_line(alloc: Global, lines: &mut String, fed: &Fed<'_>) -> Result<(), AllocError>
+    ensures { OnOk result (string_bytes lines.new ≡ string_bytes lines.old ++ fed_line fed.now) }
+{
+    let mut text = ArrayString::new();
+    fed.text_into(&mut text);
+    let quoted = quote(alloc, text.as_str()).map_err(no_memory)?;
+    lines.push_str(fed.word())?;
+    lines.push(' ')?;
+    lines.push_str(&quoted)?;
+    lines.push('\n')?;
+    Ok(())
+}
+
+/// Quoting can fail for memory alone.
+fn no_memory(_fault: LexFault) -> AllocError {
+    AllocError
+}

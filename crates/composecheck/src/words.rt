@@ -1,0 +1,92 @@
+//! The words of the command line.
+use clap::{Arg, ArgAction, Command};
+use std::alloc::{AllocError, Global};
+
+/// The option for a header of names.
+fn names_option<'a>(alloc: Global) -> Arg<'a> {
+    Arg::new(alloc, "names")
+        .long("names")
+        .value_name("FILE")
+        .help("Keysym names, in the form of keysymdef.h")
+        .action(ArgAction::Set)
+}
+
+/// The option for fresh keysyms.
+fn fresh_option<'a>(alloc: Global) -> Arg<'a> {
+    Arg::new(alloc, "fresh")
+        .long("fresh")
+        .value_name("KEYS")
+        .help("Keysyms that no sequence of the old table has, joined by commas")
+        .action(ArgAction::Set)
+}
+
+/// A file that is required.
+fn file<'a>(alloc: Global, name: &'a str, help: &'a str) -> Arg<'a> {
+    Arg::new(alloc, name).help(help).required(true)
+}
+
+/// The command that types keys.
+fn type_command<'a>(alloc: Global) -> Result<Command<'a>, AllocError> {
+    Command::new(alloc, "type")
+        .about("Types keys with a table, and prints what happens at each")
+        .arg(names_option(alloc))?
+        .arg(file(alloc, "TABLE", "The manifest of the table"))?
+        .arg(
+            Arg::new(alloc, "KEY")
+                .help("The names of the keysyms")
+                .required(true)
+                .num_args(1..),
+        )
+}
+
+/// The command that checks a certificate.
+fn check_command<'a>(alloc: Global) -> Result<Command<'a>, AllocError> {
+    Command::new(alloc, "check")
+        .about("Checks by a certificate that a new table changes nobody's typing")
+        .arg(names_option(alloc))?
+        .arg(file(alloc, "OLD", "The manifest of the old table"))?
+        .arg(file(alloc, "NEW", "The manifest of the new table"))?
+        .arg(file(
+            alloc,
+            "REPERTOIRE",
+            "The characters that people need, and their keys",
+        ))?
+        .arg(file(alloc, "CERTIFICATE", "The certificate"))
+}
+
+/// The command that makes a certificate.
+fn make_command<'a>(alloc: Global) -> Result<Command<'a>, AllocError> {
+    Command::new(alloc, "make")
+        .about("Makes a certificate, or prints why there is none")
+        .arg(names_option(alloc))?
+        .arg(fresh_option(alloc))?
+        .arg(file(alloc, "OLD", "The manifest of the old table"))?
+        .arg(file(alloc, "NEW", "The manifest of the new table"))?
+        .arg(file(
+            alloc,
+            "REPERTOIRE",
+            "The characters that people need, and their keys",
+        ))
+}
+
+/// The command that explains how two tables differ.
+fn explain_command<'a>(alloc: Global) -> Result<Command<'a>, AllocError> {
+    Command::new(alloc, "explain")
+        .about("Prints the shortest keys on which two tables differ")
+        .arg(names_option(alloc))?
+        .arg(fresh_option(alloc))?
+        .arg(file(alloc, "OLD", "The manifest of the old table"))?
+        .arg(file(alloc, "NEW", "The manifest of the new table"))
+}
+
+/// All commands.
+pub fn command_line<'a>(alloc: Global) -> Result<Command<'a>, AllocError> {
+    Command::new(alloc, "composecheck")
+        .version("0.1.0")
+        .about("Checks migrations between X11 Compose tables, and types with them")
+        .subcommand_required(true)
+        .subcommand(type_command(alloc)?)?
+        .subcommand(check_command(alloc)?)?
+        .subcommand(explain_command(alloc)?)?
+        .subcommand(make_command(alloc)?)
+}
