@@ -1,10 +1,13 @@
 -- Values that the definitions give, from keysymdef.h and the examples of the documents.
-use Rattle.std.proofs.Common.{◌≡◌, [], ◌∷◌, refl, true, false}
+use Rattle.std.proofs.Common.{◌≡◌, [], ◌∷◌, refl, true, false, inl, inr}
 use Rattle.std.specs.Prelude.{Some, None, codes}
 use Rattle.std.specs.Char.{encode_utf8}
 use Rattle.keysym_core.specs.Keysym.{is_ignored}
 use Rattle.keysym_core.specs.Names.{KeysymNames, text, value, character_of}
-use Rattle.keysym_core.specs.Header.{entry_of, with_line}
+use Rattle.keysym_core.specs.Header.{Entry, entry_of, with_line}
+use Rattle.keysym_core.specs.HeaderLine.{DefinesEntry, NotesCharacter}
+use Rattle.keysym_core.proofs.HeaderComments.{character_said}
+use Rattle.keysym_core.proofs.HeaderRead.{line_read}
 use Rattle.keysym_core.specs.Printed.{printed}
 use Rattle.keysym_core.specs.declared.fault.NameFault.TheVariants.{BadLine, ValueTooLarge, NameConflict}
 use Rattle.std.specs.Prelude.{Err}
@@ -92,6 +95,83 @@ seven_digits = refl
 
 decimal_value : entry_of (codes "odd 12") ≡ None
 decimal_value = refl
+
+-- ---- the grammar of a header's line
+
+with_character : DefinesEntry (codes "#define XK_Greek_alpha 0x07e1  /* U+03B1 GREEK SMALL LETTER ALPHA */") (record { name = codes "Greek_alpha"; value = 0x7e1; character = Some 0x3b1 })
+with_character = record {
+  blanks = codes " ";
+  digits = codes "07e1";
+  more_blanks = codes "  ";
+  comment = Some (codes " U+03B1 GREEK SMALL LETTER ALPHA */");
+  bytes = refl;
+  is_name = refl;
+  are_blanks = refl;
+  are_digits = refl;
+  is_value = refl;
+  are_more_blanks = refl;
+  is_character = (
+    record {
+      blanks = codes " ";
+      opening = [];
+      digits = codes "03B1";
+      others = codes " GREEK SMALL LETTER ALPHA */";
+      bytes = refl;
+      are_blanks = refl;
+      is_opening = inl refl;
+      are_digits = refl;
+      are_all_digits = refl;
+      is_number = refl;
+    },
+    refl,
+  );
+}
+
+parenthesized : NotesCharacter (codes "(U+250C BOX DRAWINGS LIGHT DOWN AND RIGHT)*/") (Some 0x250c)
+parenthesized = (
+  record {
+    blanks = [];
+    opening = codes "(";
+    digits = codes "250C";
+    others = codes " BOX DRAWINGS LIGHT DOWN AND RIGHT)*/";
+    bytes = refl;
+    are_blanks = refl;
+    is_opening = inr refl;
+    are_digits = refl;
+    are_all_digits = refl;
+    is_number = refl;
+  },
+  refl,
+)
+
+without_comment : DefinesEntry (codes "#define XK_space 0x0020") (record { name = codes "space"; value = 0x20; character = None })
+without_comment = record {
+  blanks = codes " ";
+  digits = codes "0020";
+  more_blanks = [];
+  comment = None;
+  bytes = refl;
+  is_name = refl;
+  are_blanks = refl;
+  are_digits = refl;
+  is_value = refl;
+  are_more_blanks = refl;
+  is_character = refl;
+}
+
+no_definition : (entry : Entry) → DefinesEntry (codes "#define XK_odd 12") entry → ⊥
+no_definition entry d = let e = line_read (codes "#define XK_odd 12") entry d in cc
+
+no_parenthesis_before_a_blank : NotesCharacter (codes "( U+0062 */") None
+no_parenthesis_before_a_blank = character_said (codes "( U+0062 */")
+
+too_many_digits : NotesCharacter (codes " U+0000062 */") None
+too_many_digits = character_said (codes " U+0000062 */")
+
+control_is_no_character : NotesCharacter (codes " U+007F */") None
+control_is_no_character = character_said (codes " U+007F */")
+
+-- ---- lines in their place
 
 conflict : with_line few 1 (codes "#define XK_space 0x0021") ≡ Err (NameConflict 1)
 unfolding is_utf8 chars encode_utf8

@@ -9,3 +9,7 @@ pub mod NextOf
 pub mod Rows
 pub mod Texts
 pub mod LineParts
+pub mod HeaderRuns
+pub mod HeaderComments
+pub mod HeaderRead
+pub mod HeaderSaid

@@ -1,7 +1,6 @@
 -- Lines of bytes, by the place of the first newline.
-use Rattle.std.proofs.Common.{◌≡◌, ◌≢◌, ℕ, ◌+◌, ◌<◌, zero, suc, List, [], ◌∷◌, length, take, drop, get_or, refl, sym, ◌∙◌, ap, arith, Bool, true, false, cond, eqb-true}
+use Rattle.std.proofs.Common.{◌≡◌, ◌≢◌, ℕ, ◌<◌, zero, suc, List, [], ◌∷◌, length, take, drop, get_or, refl, ◌∙◌, ap, arith, Bool, true, false, cond, eqb-true}
 use Rattle.std.specs.Prelude.{◌==◌}
-use Rattle.std.proofs.lemmas.Bool.{cases_Bool}
 use Rattle.keysym_core.specs.Lines.{lines_of, onto_first}
 
 -- a byte that is no newline goes onto the first line

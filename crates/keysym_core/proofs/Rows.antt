@@ -282,6 +282,14 @@ form_looks_up names n k all form = by (row_value names.names n) refl
     by None e = ap (λ o. option_or o (form_value n)) e ∙ form
     by (Some v) e = ap (λ o. option_or o (form_value n)) e ∙ ap Some (row_agrees names.names n v k all e form)
 
+-- the value of a name without a form is what the table says of it
+pub value-without_form : (names : KeysymNames) (n : List ℕ) → form_value n ≡ None → value names n ≡ row_value names.names n
+value-without_form names n form = ap (option_or (row_value names.names n)) form ∙ by (row_value names.names n)
+  where
+    by : (o : Option ℕ) → option_or o None ≡ o
+    by None = refl
+    by (Some v) = refl
+
 -- and what the table says of a name is its value
 pub row_looks_up : (names : KeysymNames) (n : List ℕ) (k : ℕ) → row_value names.names n ≡ Some k → value names n ≡ Some k
 row_looks_up names n k e = ap (λ o. option_or o (form_value n)) e

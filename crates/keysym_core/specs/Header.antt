@@ -11,7 +11,7 @@ use Rattle.keysym_core.specs.Core.{core_names}
 use Rattle.keysym_core.specs.declared.fault.NameFault.{NameFault}
 use Rattle.keysym_core.specs.declared.fault.NameFault.TheVariants.{NotUtf8, BadLine, ValueTooLarge, NameConflict, TooManyNames, NoMemory}
 
--- ---- a line
+-- ---- a line, read from the left on (its grammar is the relation of HeaderLine, and law_header_line says that the two agree)
 
 -- space, tab and carriage return
 abbrev pub is_blank : ℕ → Bool
@@ -35,15 +35,18 @@ behind_run p bytes = drop (run_length p bytes) bytes
 abbrev pub begins_with : List ℕ → List ℕ → Bool
 begins_with start bytes = bytes_eq (take (length start) bytes) start
 
--- what a line defines: `#define XK_`, the name, its value, and the character that its comment gives
+-- what a line defines: a name, its value, and the character that its comment gives
 pub record Entry : Type 0 where
   pub name : List ℕ
   pub value : ℕ
   pub character : Option ℕ
 
--- a character that is no control
+-- a character, and no control
+abbrev pub is_graphic : ℕ → Bool
+is_graphic c = not (is_control c || is_surrogate c || nat_lt 0x10ffff c)
+
 abbrev pub graphic_character : ℕ → Option ℕ
-graphic_character c = if is_control c || is_surrogate c || nat_lt 0x10ffff c then None else Some c
+graphic_character c = if is_graphic c then Some c else None
 
 -- four to six digits behind `U+`, as many as there are
 abbrev pub numbered_character : List ℕ → Option ℕ
@@ -79,6 +82,13 @@ entry_of bytes =
     let blanks = behind_run is_name_byte bytes in
     if run_length is_name_byte bytes == 0 || run_length is_blank blanks == 0 then None else valued (run is_name_byte bytes) (behind_run is_blank blanks)
 
+abbrev pub define : List ℕ
+define = codes "#define XK_"
+
+-- what a whole line defines: the entry to which HeaderLine's DefinesEntry relates it, and none where there is no such entry
+abbrev pub entry_said : List ℕ → Option Entry
+entry_said line = if begins_with define line then entry_of (drop (length define) line) else None
+
 -- ---- the names that lines give
 
 abbrev pub max_names : ℕ
@@ -107,12 +117,9 @@ abbrev pub with_entry : KeysymNames → ℕ → Option Entry → Result KeysymNa
 with_entry names n None = Err (BadLine n)
 with_entry names n (Some entry) = if is_keysym entry.value then with_noted (with_name names n entry.name entry.value) entry.value entry.character else Err (ValueTooLarge n)
 
-abbrev pub define : List ℕ
-define = codes "#define XK_"
-
 -- the names with the text of the line n, which is skipped where it defines no keysym's name
 abbrev pub with_text : KeysymNames → ℕ → List ℕ → Result KeysymNames NameFault
-with_text names n line = if begins_with define line then with_entry names n (entry_of (drop (length define) line)) else Ok names
+with_text names n line = if begins_with define line then with_entry names n (entry_said line) else Ok names
 
 -- the names with the line n
 abbrev pub with_line : KeysymNames → ℕ → List ℕ → Result KeysymNames NameFault

@@ -5,5 +5,6 @@ pub mod Core
 pub mod Printed
 pub mod Given
 pub mod Header
+pub mod HeaderLine
 pub mod Next
 pub mod Table

@@ -1,5 +1,5 @@
 -- How a keysym is printed (this project's profile): by a name that looks up as it.
-use Rattle.std.specs.Prelude.{ℕ, ◌-◌, Bool, true, false, ◌&&◌, not, nat_eq, if◌then◌else◌, List, [], ◌∷◌, ◌++◌, length, Option, Some, None, unwrap_or, replicate}
+use Rattle.std.specs.Prelude.{ℕ, ◌-◌, Bool, true, false, ◌&&◌, not, nat_eq, if◌then◌else◌, List, [], ◌∷◌, ◌++◌, length, flat_map, Option, Some, None, unwrap_or, replicate, codes}
 use Rattle.std.specs.Fmt.{digits}
 use Rattle.keysym_core.specs.Names.{NameRow, KeysymNames, is_unicode_keysym, is_surrogate}
 
@@ -23,3 +23,14 @@ form_of k = if has_character_form k then 85 ∷ at_least_four (digits 16 true (k
 -- how a keysym is printed
 abbrev pub printed : KeysymNames → ℕ → List ℕ
 printed names k = unwrap_or (first_name names.names k) (form_of k)
+
+-- ---- in a fault
+
+-- `0x` and lower case digits
+abbrev pub shown_keysym : ℕ → List ℕ
+shown_keysym k = codes "0x" ++ digits 16 false k
+
+-- the first keysym, and each other one behind a comma (code 44)
+abbrev pub key_list : List ℕ → List ℕ
+key_list [] = []
+key_list (k ∷ ks) = shown_keysym k ++ flat_map (λ k. 44 ∷ shown_keysym k) ks

@@ -1,7 +1,6 @@
 //! The lines of a header: what each of them defines.
-ghost use Rattle.std.specs.Prelude.{◌≡◌, ◌<◌, ◌≤◌, ◌∷◌, length, option_copied, position, not, ◌==◌, IfSome};
+ghost use Rattle.std.specs.Prelude.{◌≡◌, ◌<◌, ◌≤◌, length, option_copied, position, not, ◌==◌, IfSome};
 ghost use Rattle.keysym_core.specs.Names.{is_hexadecimal_digit};
-ghost use Rattle.keysym_core.specs.Lines.{lines_of};
 ghost use Rattle.keysym_core.specs.Header as words;
 ghost use Rattle.keysym_core.specs.Header.{is_blank, is_name_byte, run_length};
 
@@ -23,26 +22,6 @@ impl<'a> Model for Entry<'a> {
     ghost Value = { words.Entry };
 
     ghost view = { λ e. record { name = e.name.now; value = e.value; character = e.character } };
-}
-
-/// The first line, and what is behind its newline.
-pub(crate) fn first_line(bytes: &[u8]) -> (&[u8], &[u8])
-    requires { 0 < length bytes.now }
-    ensures lines { lines_of bytes.now ≡ result.0.now ∷ lines_of result.1.now }
-    ensures shorter { length result.1.now < length bytes.now }
-{
-    match newline_in(bytes) {
-        Some(end) => (&bytes[..end], &bytes[end + 1..]),
-        None => (bytes, &bytes[bytes.len()..]),
-    }
-}
-
-/// Where the first newline stands.
-fn newline_in(bytes: &[u8]) -> Option<usize>
-    ensures same { result ≡ position (λ b. b == 10) bytes.now }
-    ensures within { IfSome result (λ end. end < length bytes.now) }
-{
-    bytes.iter().position(|byte| *byte == b'\n')
 }
 
 /// The definition that stands behind `#define XK_`, if it is one. O(n) in the bytes.

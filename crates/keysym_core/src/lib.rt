@@ -8,7 +8,14 @@
 //!     let names = Names::read(alloc, b"#define XK_Greek_alpha 0x07e1  /* U+03B1 */")?;
 //!     names.lookup("Greek_alpha")      // 0x7e1, whose text is 'α'
 //!     names.next_of('α', None)         // 0x7e1, and behind it 0x10003b1
+//!
+//! What a line of a header defines is a relation between the two (`specs/HeaderLine.antt`), apart from the reader that takes lines
+//! (`specs/Header.antt`); `law_header_line` says that the two agree on every line.
 #![tactic(auto)]
+
+ghost use Rattle.std.specs.Prelude.{◌≡◌, ℕ, List, Some};
+ghost use Rattle.keysym_core.specs.Header.{Entry, entry_said};
+ghost use Rattle.keysym_core.specs.HeaderLine.{DefinesEntry};
 
 mod character_index;
 mod core_names;
@@ -28,6 +35,13 @@ pub use keysym::Keysym;
 pub use names::Names;
 pub use newlines::first_line;
 pub use shown::{KeyList, ShownChar, ShownKeysym};
+
+/// A line of a header defines one entry at most, and what is read of the line is what it defines.
+pub fn law_header_line()
+    ensures read { (line : List ℕ) (entry : Entry) → DefinesEntry line entry → entry_said line ≡ Some entry }
+    ensures said { (line : List ℕ) (entry : Entry) → entry_said line ≡ Some entry → DefinesEntry line entry }
+    ensures one { (line : List ℕ) (a b : Entry) → DefinesEntry line a → DefinesEntry line b → a ≡ b }
+{}
 
 #[cfg(test)]
 mod tests;

@@ -10,7 +10,7 @@ ghost use Rattle.keysym_core.specs.declared.fault.NameFault.TheVariants.{NoMemor
 use crate::character_index::{CharacterEntry, next_given, sorted_by_character};
 use crate::core_names::CORE_NAMES;
 use crate::fault::NameFault;
-use crate::form::{form_of, form_value};
+use crate::form::form_of;
 use crate::keysym::Keysym;
 use crate::next::{lesser, next_fixed};
 use crate::read::with_lines;
@@ -82,10 +82,7 @@ impl Names {
     pub fn lookup(&self, name: &str) -> Option<Keysym>
         ensures { result ≡ value self.now name.now }
     {
-        match self.table.row_value(name) {
-            Some(keysym) => Some(keysym),
-            None => form_value(name.as_bytes()),
-        }
+        self.table.lookup(name)
     }
 
     /// How a keysym is printed: its first name in the order of the table; else, where it stands for a character by its number, `U` and at

@@ -5,8 +5,9 @@ ghost use Rattle.keysym_core.specs.Header.{with_name, with_noted, with_entry, wi
 
 use crate::fault::NameFault;
 use crate::form::form_value;
-use crate::header::{Entry, entry_of, first_line};
+use crate::header::{Entry, entry_of};
 use crate::keysym::Keysym;
+use crate::newlines::first_line;
 use crate::table::NameTable;
 use std::str;
 
@@ -17,8 +18,7 @@ pub(crate) fn with_lines(table: NameTable, header: &[u8]) -> Result<NameTable, N
     let mut grown = table;
     let mut rest = header;
     let mut line = 0;
-    while !rest.is_empty() {
-        let (bytes, others) = first_line(rest);
+    while let Some((bytes, others)) = first_line(rest) {
         line += 1;
         take_line(&mut grown, line, bytes)?;
         rest = others;

@@ -1,14 +1,19 @@
 //! How keysyms and characters are printed in a fault.
+ghost use Rattle.std.specs.Prelude.{◌++◌, codes, true, Some};
+ghost use Rattle.std.specs.Fmt.{digits};
+ghost use Rattle.keysym_core.specs.Printed.{at_least_four, shown_keysym, key_list};
+
 use crate::keysym::Keysym;
 use arrayvec::ArrayVec;
 use std::fmt;
-use std::fmt::Write;
 
 /// A keysym, printed as `0x` and lower case digits.
 #[derive(Clone, Copy, Debug)]
 pub struct ShownKeysym(pub Keysym);
 
 impl fmt::Display for ShownKeysym {
+    ghost output = { λ shown. Some (shown_keysym shown.0) };
+
     fn fmt<W: fmt::Write>(&self, f: &mut fmt::Formatter<W>) -> fmt::Result {
         let number = self.0.value();
         write!(f, "0x{number:x}")
@@ -20,6 +25,8 @@ impl fmt::Display for ShownKeysym {
 pub struct ShownChar(pub char);
 
 impl fmt::Display for ShownChar {
+    ghost output = { λ shown. Some (codes "U+" ++ at_least_four (digits 16 true shown.0)) };
+
     fn fmt<W: fmt::Write>(&self, f: &mut fmt::Formatter<W>) -> fmt::Result {
         let number = u32::from(self.0);
         write!(f, "U+{number:04X}")
@@ -31,13 +38,17 @@ impl fmt::Display for ShownChar {
 pub struct KeyList(pub ArrayVec<Keysym, 32>);
 
 impl fmt::Display for KeyList {
+    ghost output = { λ list. Some (key_list list.0.items) };
+
     fn fmt<W: fmt::Write>(&self, f: &mut fmt::Formatter<W>) -> fmt::Result {
-        for (index, key) in self.0.iter().enumerate() {
-            if index > 0 {
-                f.write_str(",")?;
-            }
+        let Some((first, others)) = self.0.split_first() else {
+            return Ok(());
+        };
+        let number = first.value();
+        write!(f, "0x{number:x}")?;
+        for key in others {
             let number = key.value();
-            write!(f, "0x{number:x}")?;
+            write!(f, ",0x{number:x}")?;
         }
         Ok(())
     }

@@ -7,6 +7,7 @@ ghost use Rattle.keysym_core.specs.Table.{character_rows, is_addable, are_addabl
 ghost use Rattle.std.specs.List.{list_all};
 
 use crate::character_index::CharacterEntry;
+use crate::form::form_value;
 use crate::keysym::Keysym;
 use indexmap::IndexMap;
 use std::alloc::{AllocError, Global};
@@ -65,6 +66,17 @@ impl NameTable {
             table.add_name(name, keysym)?;
         }
         Ok(table)
+    }
+
+    /// The keysym of a name. One that is a form needs no search, since a row of that name agrees with it. O(1).
+    pub(crate) fn lookup(&self, name: &str) -> Option<Keysym>
+        ensures { result ≡ value self.now name.now }
+    {
+        let names = &self.names;
+        match form_value(name.as_bytes()) {
+            Some(keysym) => Some(keysym),
+            None => names.get(name).copied(),
+        }
     }
 
     /// The value of the row with this name. O(1).
