@@ -1,13 +1,13 @@
 -- The bytes of a raw text, checked for being a text.
-use Rattle.std.proofs.Common.{◌≡◌, ℕ, ◌+◌, ◌≤◌, List, [], ◌∷◌, length, Bool, true, false, cond, nat_lt, refl, sym, ◌∙◌, ap, subst, arith}
-use Rattle.std.specs.Prelude.{◌==◌, Result, Ok, Err, IfOk}
+use Rattle.std.proofs.Common.{◌≡◌, ℕ, ◌+◌, ◌≤◌, List, [], ◌∷◌, ◌++◌, length, Bool, true, false, cond, nat_lt, refl, sym, ◌∙◌, ap, subst, arith}
+use Rattle.std.specs.Prelude.{◌==◌, Result, Ok, Err, IfOk, OnOk}
 use Rattle.std.specs.List.{list_any}
 use Rattle.std.specs.Str.{IsUtf8, is_utf8}
 use Rattle.std.proofs.lemmas.Bool.{or_parts, false_from_ne_true}
 use Rattle.std.proofs.lemmas.Str.{is_utf8-from_IsUtf8, IsUtf8-from_is_utf8}
 use Rattle.std.proofs.lemmas.List.{take_all}
 use Rattle.compose_lex.specs.Escape.{bytes_from, text_or, text_of, Unescapes, IsText}
-use Rattle.compose_lex.specs.Lexed.{Is}
+use Rattle.compose_lex.specs.Lexed.{Is, PushGives}
 use Rattle.compose_lex.specs.Steps.{len_check, IsDecoded}
 use Rattle.compose_lex.specs.declared.LexFault.{LexFault}
 use Rattle.compose_lex.specs.declared.LexFault.TheVariants.{EmptyText, TextTooLong, TextNotUtf8}
@@ -19,6 +19,9 @@ no_escape at [] h = refl
 no_escape at (b ∷ rest) h =
     let parts = or_parts (b == 92) (list_any (λ b. b == 92) rest) h in
     rw (parts.0, no_escape (1 + at) rest parts.1) refl
+
+pub text_without_escapes : (raw : List ℕ) → list_any (λ b. b == 92) raw ≡ false → text_of raw ≡ text_or (Ok raw)
+text_without_escapes raw none = ap text_or (no_escape 0 raw none)
 
 -- ---- the length is looked at first, and UTF-8 then
 
@@ -45,21 +48,23 @@ not_text bytes u h t = by_length bytes (Ok u) h ∙ ap (λ b. cond {A = Result (
 
 -- ---- what was decoded
 
-pub decoded_fault : (raw items bytes : List ℕ) (len : ℕ) (e : LexFault) → items ≡ raw → bytes_from 0 0 items ≡ Ok bytes → len ≡ length bytes → len_check len ≡ Err e → text_of raw ≡ Err e
-decoded_fault raw items bytes len e same read is h = ap text_of (sym same) ∙ ap text_or read ∙ bad_length bytes e (ap len_check (sym is) ∙ h)
-
 all_kept : (kept bytes : List ℕ) (len : ℕ) → IsDecoded kept len bytes → len ≤ 255 → kept ≡ bytes
 all_kept kept bytes len d few = d.0 ∙ take_all 255 bytes (let l = d.1 in omega arith)
 
-pub decoded_text : (raw items bytes kept : List ℕ) (len : ℕ) (u : Unit {0}) → items ≡ raw → bytes_from 0 0 items ≡ Ok bytes → IsDecoded kept len bytes → len_check len ≡ Ok u → len ≤ 255 → IsUtf8 kept → text_of raw ≡ Ok kept
-decoded_text raw items bytes kept len u same read d h few t =
+pub decoded_right : (kept bytes : List ℕ) (len : ℕ) (u : Unit {0}) → IsDecoded kept len bytes → len_check len ≡ Ok u → len ≤ 255 → IsUtf8 kept → text_or (Ok bytes) ≡ Ok kept
+decoded_right kept bytes len u d h few t =
     let all = all_kept kept bytes len d few in
-    ap text_of (sym same) ∙ ap text_or read ∙ right_text bytes u (ap len_check (sym d.1) ∙ h) (subst IsUtf8 all t) ∙ ap (λ x. let r : Result (List ℕ) LexFault = Ok x in r) (sym all)
+    right_text bytes u (ap len_check (sym d.1) ∙ h) (subst IsUtf8 all t) ∙ ap (λ x. let r : Result (List ℕ) LexFault = Ok x in r) (sym all)
 
-pub decoded_other : (raw items bytes kept : List ℕ) (len : ℕ) (u : Unit {0}) → items ≡ raw → bytes_from 0 0 items ≡ Ok bytes → IsDecoded kept len bytes → len_check len ≡ Ok u → len ≤ 255 → (IsUtf8 kept → ⊥) → text_of raw ≡ Err TextNotUtf8
-decoded_other raw items bytes kept len u same read d h few t =
-    let all = all_kept kept bytes len d few in
-    ap text_of (sym same) ∙ ap text_or read ∙ not_text bytes u (ap len_check (sym d.1) ∙ h) (λ v. t (subst IsUtf8 (sym all) v))
+pub decoded_other : (kept bytes : List ℕ) (len : ℕ) (u : Unit {0}) → IsDecoded kept len bytes → len_check len ≡ Ok u → len ≤ 255 → (IsUtf8 kept → ⊥) → text_or (Ok bytes) ≡ Err TextNotUtf8
+decoded_other kept bytes len u d h few t = not_text bytes u (ap len_check (sym d.1) ∙ h) (λ v. t (subst IsUtf8 (sym (all_kept kept bytes len d few)) v))
+
+-- ---- a text behind another
+
+-- what is pushed is what the raw text stands for
+pub found_pushed : (old new raw : List ℕ) (r : Result (Unit {0}) LexFault) → PushGives old new r (text_of raw) → OnOk r ((bytes : List ℕ) × (new ≡ old ++ bytes) × Unescapes raw bytes × IsText bytes)
+found_pushed old new raw (Ok u) p = let t = text_said raw p.0 p.1 in (p.0, p.2, t.0, t.1)
+found_pushed old new raw (Err e) p = tt
 
 -- what is given is what the raw text stands for
 pub found_text : {X : Type 0} (view : X → List ℕ) (r : Result X LexFault) (raw : List ℕ) → Is view r (text_of raw) → IfOk r (λ x. Unescapes raw (view x) × IsText (view x))

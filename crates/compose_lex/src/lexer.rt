@@ -1,14 +1,30 @@
 //! A line, read token by token from the left; the first place where no needed token begins is its fault.
-ghost use Rattle.std.specs.Prelude.{◌≡◌, ◌∷◌, ℕ, List, [], map, option_copied, drop, false, true, IfOk, MatchOption};
+ghost use Rattle.std.specs.Prelude.{◌≡◌, ◌-◌, ℕ, List, [], length, map, option_copied, drop, false, true, IfOk, MatchOption};
 ghost use Rattle.std.specs.Char.{is_ascii_alphabetic};
-ghost use Rattle.compose_lex.specs.Line.{IsLine};
+ghost use Rattle.compose_lex.specs.Line.{IsLine, include};
 ghost use Rattle.compose_lex.specs.Fault as fault;
-ghost use Rattle.compose_lex.specs.Lexed.{reading, Is};
+ghost use Rattle.compose_lex.specs.Lexed.{reading, said_reading, event_names, names_in, Is};
 ghost use Rattle.compose_lex.specs.Steps.{with_front, IsNext};
 
 use crate::token::{byte_at, end_at, name_at, offset, skip_blanks, split_name, string_at};
 use crate::{LexFault, Line, law_right_reading};
 use arrayvec::ArrayVec;
+
+/// What a line says beside the names of its events; its tokens are slices of the line.
+#[derive(Clone, Copy, Debug, PartialEq, Eq, Drop)]
+pub enum Said<'a> {
+    /// Nothing but blanks and perhaps a comment.
+    Blank,
+    /// An include, with the raw text of its string.
+    Include(&'a str),
+    /// The raw text of the string, the name of the result keysym, or both.
+    Production {
+        /// What stands between the quotes of the string, escapes and all.
+        raw_text: Option<&'a str>,
+        /// The name of the result keysym, not looked up.
+        result_name: Option<&'a str>,
+    },
+}
 
 /// What stands behind an event: the colon, or the `<` of a further event; with what stands behind it.
 #[derive(Clone, Copy, Debug, Drop)]
@@ -17,8 +33,8 @@ pub(crate) enum Next<'a> {
     Event(&'a str),
 }
 
-/// The events of a production, and what stands behind its colon.
-type Events<'a> = (ArrayVec<&'a str, 32>, &'a str);
+/// The names of the events of a production.
+type Events<'a> = ArrayVec<&'a str, 32>;
 
 /// The result of a production: its raw text, the name of its keysym, and what stands behind them.
 type Outcome<'a> = (Option<&'a str>, Option<&'a str>, &'a str);
@@ -57,20 +73,19 @@ fn next_at(line_len: usize, rest: &str) -> Result<Next<'_>, LexFault>
     }
 }
 
-/// The events behind the first one, up to the colon. O(bytes).
+/// Puts the names of the further events, up to the colon, behind those in the list, and gives what stands behind the
+/// colon. O(bytes).
 fn events_at<'a>(
     line_len: usize,
-    first: &'a str,
-    behind_first: &'a str,
-) -> Result<Events<'a>, LexFault>
-    ensures { Is (λ x. (map (λ e. e.now) x.0.items, x.1.now)) result (with_front (first.now ∷ []) (fault.events_at line_len 31 behind_first.now)) }
+    behind_event: &'a str,
+    events: &mut Events<'a>,
+) -> Result<&'a str, LexFault>
+    ensures { Is (λ behind. (map (λ e. e.now) events.new.items, behind.now)) result (with_front (map (λ e. e.now) events.old.items) (fault.events_at line_len (32 - length events.old.items) behind_event.now)) }
 {
-    let mut events = ArrayVec::new();
-    events.push(first);
-    let mut rest = behind_first;
+    let mut rest = behind_event;
     loop {
         match next_at(line_len, skip_blanks(rest))? {
-            Next::Colon(behind) => return Ok((events, behind)),
+            Next::Colon(behind) => return Ok(behind),
             Next::Event(_) if events.is_full() => return Err(LexFault::TooManyKeysyms),
             Next::Event(behind) => {
                 let (name, behind) = event_at(line_len, behind)?;
@@ -112,28 +127,34 @@ fn result_at(line_len: usize, rest: &str) -> Result<Outcome<'_>, LexFault>
 }
 
 /// A production, behind its first `<`.
-fn production_at(line_len: usize, rest: &str) -> Result<Line<'_>, LexFault>
-    ensures { Is reading result (fault.production_at line_len rest.now) }
+fn production_at<'a>(
+    line_len: usize,
+    rest: &'a str,
+    events: &mut Events<'a>,
+) -> Result<Said<'a>, LexFault>
+    requires { events.old.items ≡ [] }
+    ensures exact { Is (said_reading (map (λ e. e.now) events.new.items)) result (fault.production_at line_len rest.now) }
+    ensures listed { IfOk result (λ said. event_names (said_reading (map (λ e. e.now) events.new.items) said) ≡ map (λ e. e.now) events.new.items) }
 {
     let (first, rest) = event_at(line_len, rest)?;
-    let (events, rest) = events_at(line_len, first, rest)?;
+    events.push(first);
+    let rest = events_at(line_len, rest, events)?;
     let (raw_text, result_name, rest) = result_at(line_len, skip_blanks(rest))?;
     end_at(line_len, skip_blanks(rest))?;
-    Ok(Line::Production {
-        events,
+    Ok(Said::Production {
         raw_text,
         result_name,
     })
 }
 
-/// An include, behind its word.
-fn include_at(line_len: usize, rest: &str) -> Result<Line<'_>, LexFault>
-    ensures { Is reading result (fault.include_at line_len rest.now) }
+/// The raw text of an include, behind its word.
+fn include_at(line_len: usize, rest: &str) -> Result<&str, LexFault>
+    ensures { Is (λ raw. include raw.now) result (fault.include_at line_len rest.now) }
 {
     let rest = byte_at(line_len, b'"', skip_blanks(rest))?;
     let (raw, rest) = string_at(line_len, rest)?;
     end_at(line_len, skip_blanks(rest))?;
-    Ok(Line::Include(raw))
+    Ok(raw)
 }
 
 /// What stands behind the word `include` at the front, which no letter, digit or underscore follows.
@@ -145,17 +166,42 @@ fn behind_include(rest: &str) -> Option<&str>
 }
 
 /// A line, behind its first blanks.
-fn reading_at(line_len: usize, rest: &str) -> Result<Line<'_>, LexFault>
-    ensures { Is reading result (fault.reading_at line_len rest.now) }
+fn reading_at<'a>(
+    line_len: usize,
+    rest: &'a str,
+    events: &mut Events<'a>,
+) -> Result<Said<'a>, LexFault>
+    requires { events.old.items ≡ [] }
+    ensures exact { Is (said_reading (map (λ e. e.now) events.new.items)) result (fault.reading_at line_len rest.now) }
+    ensures listed { IfOk result (λ said. event_names (said_reading (map (λ e. e.now) events.new.items) said) ≡ map (λ e. e.now) events.new.items) }
 {
     match rest.as_bytes().first() {
-        None | Some(b'#') => Ok(Line::Blank),
-        Some(b'<') => production_at(line_len, &rest[1..]),
+        None | Some(b'#') => Ok(Said::Blank),
+        Some(b'<') => production_at(line_len, &rest[1..], events),
         Some(_) => match behind_include(rest) {
-            Some(behind) => include_at(line_len, behind),
+            Some(behind) => Ok(Said::Include(include_at(line_len, behind)?)),
             None => Err(event_fault(line_len, rest)),
         },
     }
+}
+
+/// The same as `lex_line`, with the names of the events in the caller's list, which is empty where the line has none or
+/// a fault. Takes no memory and copies no list. O(bytes).
+pub fn lex_line_into<'a>(
+    line: &'a str,
+    events: &mut ArrayVec<&'a str, 32>,
+) -> Result<Said<'a>, LexFault>
+    ensures exact { Is (said_reading (map (λ e. e.now) events.new.items)) result (fault.reading_of line.now) }
+    ensures listed { map (λ e. e.now) events.new.items ≡ names_in (fault.reading_of line.now) }
+    ensures found { IfOk result (λ said. IsLine line.now (said_reading (map (λ e. e.now) events.new.items) said)) }
+{
+    law_right_reading();
+    events.clear();
+    let said = reading_at(line.len(), skip_blanks(line), events);
+    if said.is_err() {
+        events.clear();
+    }
+    said
 }
 
 /// What the line says, or its fault; its tokens are slices of the line. Takes no memory. O(bytes).
@@ -163,6 +209,18 @@ pub fn lex_line<'a>(line: &'a str) -> Result<Line<'a>, LexFault>
     ensures exact { Is reading result (fault.reading_of line.now) }
     ensures found { IfOk result (λ said. IsLine line.now (reading said)) }
 {
-    law_right_reading();
-    reading_at(line.len(), skip_blanks(line))
+    let mut events = ArrayVec::new();
+    let said = lex_line_into(line, &mut events)?;
+    Ok(match said {
+        Said::Blank => Line::Blank,
+        Said::Include(raw) => Line::Include(raw),
+        Said::Production {
+            raw_text,
+            result_name,
+        } => Line::Production {
+            events,
+            raw_text,
+            result_name,
+        },
+    })
 }

@@ -1,5 +1,5 @@
 //! Worked lines and texts, and the printed faults.
-use crate::{LexFault, Line, lex_line, quote, read_text, unescape};
+use crate::{LexFault, Line, Said, lex_line, lex_line_into, push_text, quote, read_text, unescape};
 use arrayvec::ArrayVec;
 use std::alloc::{AllocError, Global};
 use std::test::Fail;
@@ -45,6 +45,37 @@ fn reads_lines(rt: HostRuntime) -> Result<(), Fail> {
     assert_eq!(rt; lex_line(line)?, said);
     assert_eq!(rt; lex_line(" \t# <a>")?, Line::Blank);
     assert_eq!(rt; lex_line("include \"%L\"\r")?, Line::Include("%L"));
+    Ok(())
+}
+
+#[test]
+fn reads_lines_into_one_list(rt: HostRuntime) -> Result<(), Fail> {
+    let mut events = ArrayVec::new();
+    let said = Said::Production {
+        raw_text: Some("é"),
+        result_name: Some("eacute"),
+    };
+    let line = "<Multi_key> <apostrophe> <e> : \"é\" eacute # e acute";
+    assert_eq!(rt; lex_line_into(line, &mut events)?, said);
+    assert_eq!(rt;
+        events.as_slice(),
+        ["Multi_key", "apostrophe", "e"].as_slice()
+    );
+    let said = Said::Production {
+        raw_text: None,
+        result_name: Some("b"),
+    };
+    assert_eq!(rt; lex_line_into("<a>:b", &mut events)?, said);
+    assert_eq!(rt; events.as_slice(), ["a"].as_slice());
+    assert_eq!(rt;
+        lex_line_into("include \"%L\"", &mut events)?,
+        Said::Include("%L")
+    );
+    assert!(rt; events.is_empty());
+    assert_eq!(rt; lex_line_into("# <a>", &mut events)?, Said::Blank);
+    assert!(rt; events.is_empty());
+    assert!(rt; lex_line_into("<a> <b> :", &mut events).is_err());
+    assert!(rt; events.is_empty());
     Ok(())
 }
 
@@ -96,6 +127,19 @@ fn reads_texts(rt: HostRuntime) -> Result<(), Fail> {
         quote(rt.alloc(), "a\"b\\\n\u{7f}é")?.as_str(),
         "\"a\\\"b\\\\\\012\\177é\""
     );
+    Ok(())
+}
+
+#[test]
+fn pushes_texts(rt: HostRuntime) -> Result<(), Fail> {
+    let mut text = String::from_str(rt.alloc(), "a")?;
+    push_text(&mut text, "é")?;
+    push_text(&mut text, "\\303\\251\\n")?;
+    assert_eq!(rt; text.as_str(), "aéé\n");
+    for raw in ["", "\\q", "b\\0", "\\xff"] {
+        assert!(rt; push_text(&mut text, raw).is_err(), "{raw}");
+        assert_eq!(rt; text.as_str(), "aéé\n");
+    }
     Ok(())
 }
 

@@ -1,9 +1,10 @@
 //! The text that a string's raw text stands for.
-ghost use Rattle.std.specs.Prelude.{◌≡◌, ◌==◌, ◌≤◌, ◌<◌, ℕ, List, length, not, true, false, Ok, Err, IfOk, OnOk, string_bytes};
+ghost use Rattle.std.specs.Prelude.{◌≡◌, ◌==◌, ◌≤◌, ◌<◌, ◌++◌, ℕ, List, length, not, true, false, Ok, Err, IfOk, OnOk, string_bytes};
+ghost use Rattle.std.specs.List.{list_any};
 ghost use Rattle.std.specs.Str.{IsUtf8};
 ghost use Rattle.compose_lex.specs.Escape as escapes;
-ghost use Rattle.compose_lex.specs.Lexed.{text_bytes, Is, Gives};
-ghost use Rattle.compose_lex.specs.Steps.{len_check};
+ghost use Rattle.compose_lex.specs.Lexed.{text_bytes, Is, Gives, PushGives};
+ghost use Rattle.compose_lex.specs.Steps.{len_check, IsDecoded};
 
 use crate::escapes::decode;
 use crate::{LexFault, law_one_text};
@@ -43,6 +44,13 @@ fn check_len(len: usize) -> Result<(), LexFault>
     }
 }
 
+/// Whether a raw text has a backslash.
+fn has_escapes(raw: &str) -> bool
+    ensures { result ≡ list_any (λ b. b == 92) raw.now }
+{
+    raw.as_bytes().contains(&b'\\')
+}
+
 /// A raw text without a backslash.
 fn plain_text(raw: &str) -> Result<Text<'_>, LexFault>
     ensures { Is text_bytes result (escapes.text_or (Ok raw.now)) }
@@ -51,15 +59,24 @@ fn plain_text(raw: &str) -> Result<Text<'_>, LexFault>
     Ok(Text::Raw(raw))
 }
 
+/// The text of the bytes of a raw text, of which there are `len` and the first 255 were kept.
+fn decoded_text(kept: &[u8], len: usize) -> Result<&str, LexFault>
+    ensures exact { (bytes : List ℕ) → IsDecoded kept.now len bytes → Is (λ text. text.now) result (escapes.text_or (Ok bytes)) }
+    ensures kept { IfOk result (λ text. text.now ≡ kept.now) }
+{
+    check_len(len)?;
+    match str::from_utf8(kept) {
+        Ok(text) => Ok(text),
+        Err(_) => Err(LexFault::TextNotUtf8),
+    }
+}
+
 /// A raw text with escapes.
 fn unescaped_text(raw: &str) -> Result<Text<'_>, LexFault>
     ensures { Is text_bytes result (escapes.text_of raw.now) }
 {
     let (bytes, len) = decode(raw.as_bytes())?;
-    check_len(len)?;
-    let Ok(text) = str::from_utf8(bytes.as_slice()) else {
-        return Err(LexFault::TextNotUtf8);
-    };
+    let text = decoded_text(bytes.as_slice(), len)?;
     let mut kept = ArrayString::new();
     kept.push_str(text);
     Ok(Text::Unescaped(kept))
@@ -71,7 +88,7 @@ pub fn read_text<'a>(raw: &'a str) -> Result<Text<'a>, LexFault>
     ensures found { IfOk result (λ text. escapes.Unescapes raw.now (text_bytes text) × escapes.IsText (text_bytes text)) }
 {
     law_one_text();
-    if raw.as_bytes().contains(&b'\\') {
+    if has_escapes(raw) {
         unescaped_text(raw)
     } else {
         plain_text(raw)
@@ -86,5 +103,37 @@ pub fn unescape(alloc: Global, raw: &str) -> Result<String, LexFault>
     match read_text(raw) {
         Ok(text) => Ok(String::from_str(alloc, text.as_str())?),
         Err(fault) => Err(fault),
+    }
+}
+
+/// Pushes a raw text without a backslash.
+fn push_plain(text: &mut String, raw: &str) -> Result<(), LexFault>
+    ensures { PushGives (string_bytes text.old) (string_bytes text.new) result (escapes.text_or (Ok raw.now)) }
+{
+    check_len(raw.len())?;
+    text.push_str(raw)?;
+    Ok(())
+}
+
+/// Pushes the text of a raw text with escapes.
+fn push_unescaped(text: &mut String, raw: &str) -> Result<(), LexFault>
+    ensures { PushGives (string_bytes text.old) (string_bytes text.new) result (escapes.text_of raw.now) }
+{
+    let (bytes, len) = decode(raw.as_bytes())?;
+    text.push_str(decoded_text(bytes.as_slice(), len)?)?;
+    Ok(())
+}
+
+/// Puts the text that a raw text stands for behind another text; a fault changes nothing. A raw text without a
+/// backslash is put there as it stands. Takes memory only to grow the text. O(bytes).
+pub fn push_text(text: &mut String, raw: &str) -> Result<(), LexFault>
+    ensures exact { PushGives (string_bytes text.old) (string_bytes text.new) result (escapes.text_of raw.now) }
+    ensures found { OnOk result ((bytes : List ℕ) × (string_bytes text.new ≡ string_bytes text.old ++ bytes) × escapes.Unescapes raw.now bytes × escapes.IsText bytes) }
+{
+    law_one_text();
+    if has_escapes(raw) {
+        push_unescaped(text, raw)
+    } else {
+        push_plain(text, raw)
     }
 }

@@ -49,10 +49,9 @@ loop-behind-preserved c =
     let front = map (λ e. e.now) items in
     let few : length items < 32 = search rules in
     let w = one_more n (length items) front c.loop-behind.rest.now c.in-Event.field-0.now c.in_ok-name-in-Event-2.name.now c.in_ok-name-in-Event-2.behind.now few (λ event. ap (λ x. colon_or n x event) (sym c.skip_blanks.ensures) ∙ c.in_ok-behind.ensures event ∙ ap (λ x. follow x event) c.in-Event.is) c.in_ok-name-in-Event-2.ensures in
-    let pushed = c.push-in-Event-2.ensures.items in
+    let pushed = c.push.ensures.items in
     record {
       text = search rules;
-      few = search rules;
       read = ap (λ xs. with_front (map (λ e. e.now) xs) (events_at n (32 - length xs) c.in_ok-name-in-Event-2.behind.now)) pushed
           ∙ rw (map_push (λ e. e.now) items c.in_ok-name-in-Event-2.name, length_push items c.in_ok-name-in-Event-2.name) (sym w ∙ c.loop-behind.invariant.read);
     }

@@ -1,4 +1,4 @@
-use Rattle.std.proofs.Common.{◌≡◌, ◌-◌, ◌≤◌, ◌∷◌, [], map, length}
+use Rattle.std.proofs.Common.{◌≡◌, ◌-◌, map, length}
 use denote.Text.{Utf8}
 use denote.Shadow.{shadow}
 use Rattle.compose_lex.specs.Fault.{events_at}
@@ -9,8 +9,8 @@ use Rattle.compose_lex.proofs.lexer.events_at.Given as goal
 abbrev pub invariant-loop-behind : goal.invariant-loop-behind
 invariant-loop-behind l = record {
   text : shadow (Utf8 l.rest);
-  few : length l.events.items ≤ 32;
-  read : with_front (map (λ e. e.now) l.events.items) (events_at l.line_len (32 - length l.events.items) l.rest) ≡ with_front (l.fn.first ∷ []) (events_at l.line_len 31 l.fn.behind_first);
+  read : with_front (map (λ e. e.now) l.events.items) (events_at l.line_len (32 - length l.events.items) l.rest)
+      ≡ with_front (map (λ e. e.now) l.fn.events.items) (events_at l.line_len (32 - length l.fn.events.items) l.fn.behind_event);
 }
 
 abbrev pub decreases-loop-behind : goal.decreases-loop-behind
