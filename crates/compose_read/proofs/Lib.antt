@@ -6,11 +6,13 @@ pub mod SameSettled
 pub mod Neighbours
 pub mod Begins
 pub mod Turns
+pub mod Pools
+pub mod Places
+pub mod SettledRows
 pub mod SettledTable
 pub mod Events
 pub mod Faults
 pub mod OneLine
-pub mod Cut
 pub mod ReadOn
 pub mod Visits
 pub mod Overlaps

@@ -1,11 +1,11 @@
 -- What one line gives, by what is read of it.
-use Rattle.std.proofs.Common.{◌≡◌, ◌<◌, ℕ, List, cond, length, sym, ◌∙◌, ap, subst, inl, inr}
+use Rattle.std.proofs.Common.{◌≡◌, ◌<◌, ℕ, List, true, cond, length, sym, ◌∙◌, ap, subst, inl, inr}
 use Rattle.std.specs.Prelude.{Option, Some, None, Result, Ok, Err}
 use Rattle.std.specs.Str.{IsUtf8, is_utf8}
 use Rattle.std.proofs.lemmas.Bool.{cases_Bool}
 use Rattle.std.proofs.lemmas.Str.{IsUtf8-from_is_utf8, is_utf8-from_IsUtf8}
 use Rattle.keysym_core.specs.Names.{KeysymNames}
-use Rattle.compose_model.specs.Table.{Definition}
+use Rattle.compose_model.specs.Table.{Definition, is_definition}
 use Rattle.compose_lex.specs.Line.{Reading, blank, include, production}
 use Rattle.compose_lex.specs.Fault.{reading_of}
 use Rattle.compose_lex.specs.declared.LexFault.{LexFault}
@@ -19,7 +19,7 @@ use Rattle.compose_read.specs.declared.line.Place.{Place}
 use Rattle.compose_read.specs.declared.ReadFault.{ReadFault}
 use Rattle.compose_read.specs.declared.ReadFault.TheVariants as faults
 
-module _ (names : KeysymNames) (sources : List Source) (place : Place) (bytes : List ℕ) where
+module _ (names : KeysymNames) (sources : List Source) (place : Place) (bytes : List ℕ) (row : Definition) where
   pub not_utf8 : (IsUtf8 bytes → ⊥) → line_gives names sources (visit place bytes) ≡ Err (faults.NotUtf8 place.source place.line)
   not_utf8 n = elim (cases_Bool (is_utf8 bytes)) [
     | inl h ↦ absurd (n (IsUtf8-from_is_utf8 bytes h))
@@ -38,27 +38,27 @@ module _ (names : KeysymNames) (sources : List Source) (place : Place) (bytes : 
     pub blank_line : reading_of bytes ≡ Ok blank → (line_gives names sources (visit place bytes) ≡ Ok None) × (included sources bytes ≡ None)
     blank_line h = (given (Ok blank) h, goes_to (Ok blank) h)
 
-    pub faulty_line : (fault : LexFault) (f : ReadFault) → reading_of bytes ≡ Err fault → f ≡ lifted place fault → FindsLine names sources (visit place bytes) (Err f)
-    faulty_line fault f h e = subst (λ f. FindsLine names sources (visit place bytes) (Err f)) (sym e) (go fault (given (Err fault) h))
+    pub faulty_line : (fault : LexFault) (f : ReadFault) → reading_of bytes ≡ Err fault → f ≡ lifted place fault → FindsLine names sources (visit place bytes) row (Err f)
+    faulty_line fault f h e = subst (λ f. FindsLine names sources (visit place bytes) row (Err f)) (sym e) (go fault (given (Err fault) h))
       where
-        go : (fault : LexFault) → line_gives names sources (visit place bytes) ≡ Err (faults.Lex place.source place.line fault) → FindsLine names sources (visit place bytes) (Err (lifted place fault))
+        go : (fault : LexFault) → line_gives names sources (visit place bytes) ≡ Err (faults.Lex place.source place.line fault) → FindsLine names sources (visit place bytes) row (Err (lifted place fault))
         go lex_faults.NoMemory h = tt
         go fault h = h
 
     pub include_line : (name : List ℕ) (source : ℕ) → reading_of bytes ≡ Ok (include name) → include_fault sources (visit place bytes) name ≡ Ok no_definition → included_by sources (Ok (include name)) ≡ Some source → place.depth < 8 → source < length sources
-        → FindsLine names sources (visit place bytes) (Ok (found.Include source))
+        → FindsLine names sources (visit place bytes) row (Ok (found.Include source))
     include_line name source h e i d w = (given (Ok (include name)) h ∙ e, goes_to (Ok (include name)) h ∙ i, d, w)
 
     pub refused_include : (name : List ℕ) (f : ReadFault) → reading_of bytes ≡ Ok (include name) → ReadGives (λ (s : ℕ). no_definition) (Err f) (include_fault sources (visit place bytes) name)
-        → FindsLine names sources (visit place bytes) (Err f)
+        → FindsLine names sources (visit place bytes) row (Err f)
     refused_include name faults.NoMemory h e = tt
     refused_include name f h e = given (Ok (include name)) h ∙ e
 
     module _ (events : List (List ℕ)) (raw name : Option (List ℕ)) (h : reading_of bytes ≡ Ok (production events raw name)) where
-      pub production_line : (d : Definition) → definition_of names (visit place bytes) events raw name ≡ Ok d → FindsLine names sources (visit place bytes) (Ok (found.Definition d))
-      production_line d e =
-          (given (Ok (production events raw name)) h ∙ ap (λ r. r >>= (λ d. let x : Result (Option Definition) ReadFault = Ok (Some d) in x)) e, goes_to (Ok (production events raw name)) h)
+      pub production_line : definition_of names (visit place bytes) events raw name ≡ Ok row → is_definition row ≡ true → FindsLine names sources (visit place bytes) row (Ok found.Definition)
+      production_line e is =
+          (given (Ok (production events raw name)) h ∙ ap (λ r. r >>= (λ d. let x : Result (Option Definition) ReadFault = Ok (Some d) in x)) e, goes_to (Ok (production events raw name)) h, is)
 
-      pub refused_production : (f : ReadFault) → ReadGives (λ (d : Definition). d) (Err f) (definition_of names (visit place bytes) events raw name) → FindsLine names sources (visit place bytes) (Err f)
+      pub refused_production : (f : ReadFault) → ReadGives (λ (_ : Unit {0}). row) (Err f) (definition_of names (visit place bytes) events raw name) → FindsLine names sources (visit place bytes) row (Err f)
       refused_production faults.NoMemory e = tt
       refused_production f e = given (Ok (production events raw name)) h ∙ ap (λ r. r >>= (λ d. let x : Result (Option Definition) ReadFault = Ok (Some d) in x)) e

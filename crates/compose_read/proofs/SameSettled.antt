@@ -1,5 +1,5 @@
 -- Tables that say the same of every sequence settle to the same rows, and a stable sort keeps what a table says.
-use Rattle.std.proofs.Common.{◌≡◌, ℕ, List, [], ◌∷◌, Bool, true, false, cond, not, ◌&&◌, filter, map, refl, sym, ◌∙◌, ap, inl, inr}
+use Rattle.std.proofs.Common.{◌≡◌, ℕ, List, [], ◌∷◌, Bool, true, false, cond, not, ◌&&◌, filter, map, refl, sym, ◌∙◌, ap, ap₂, ◌⊎◌, inl, inr}
 use Rattle.std.specs.Prelude.{Option, Some, None, Ok, unwrap_or}
 use Rattle.std.specs.Option.{option_or}
 use Rattle.std.specs.List.{find}
@@ -24,17 +24,6 @@ or_none : {X : Type 0} (o : Option X) → o ≡ option_or o None
 or_none None = refl
 or_none (Some x) = refl
 
--- where the part keeps each definition of v
-text_of_part : (p : Definition → Bool) (v : List ℕ) (table : List Definition) → ((d : Definition) → same v d.sequence ≡ true → p d ≡ true) → text_at (filter p table) v ≡ text_at table v
-text_of_part p v [] f = refl
-text_of_part p v (d ∷ table) f = go (p d) (same v d.sequence) (f d) (text_of_part p v table f) refl
-  where
-    go : (b c : Bool) → (c ≡ true → b ≡ true) → text_at (filter p table) v ≡ text_at table v → same v d.sequence ≡ c
-        → text_at (cond b (d ∷ filter p table) (filter p table)) v ≡ option_or (text_at table v) (cond c (Some d.text) None)
-    go true c g e s = ap (λ o. option_or o (cond (same v d.sequence) (Some d.text) None)) e ∙ ap (λ y. option_or (text_at table v) (cond y (Some d.text) None)) s
-    go false true g e s = absurd (let n : false ≡ true = g refl in cc)
-    go false false g e s = e ∙ or_none (text_at table v)
-
 -- where the part keeps none
 text_left_out : (p : Definition → Bool) (v : List ℕ) (table : List Definition) → ((d : Definition) → same v d.sequence ≡ true → p d ≡ false) → text_at (filter p table) v ≡ None
 text_left_out p v [] f = refl
@@ -47,18 +36,50 @@ text_left_out p v (d ∷ table) f = go (p d) (same v d.sequence) (f d) (text_lef
 
 -- ---- a stable sort
 
-abbrev pub precedes : Definition → Definition → Bool
-precedes d e = comes_before d.sequence e.sequence
+module _ {X : Type 0} (f : X → Definition) where
+  -- where the part keeps each definition of v
+  text_of_part : (p : X → Bool) (v : List ℕ) (xs : List X) → ((x : X) → same v (f x).sequence ≡ true → p x ≡ true) → text_at (map f (filter p xs)) v ≡ text_at (map f xs) v
+  text_of_part p v [] h = refl
+  text_of_part p v (x ∷ xs) h = go (p x) (same v (f x).sequence) (h x) (text_of_part p v xs h) refl
+    where
+      go : (b c : Bool) → (c ≡ true → b ≡ true) → text_at (map f (filter p xs)) v ≡ text_at (map f xs) v → same v (f x).sequence ≡ c
+          → text_at (map f (cond b (x ∷ filter p xs) (filter p xs))) v ≡ option_or (text_at (map f xs) v) (cond c (Some (f x).text) None)
+      go true c g e s = ap (λ o. option_or o (cond (same v (f x).sequence) (Some (f x).text) None)) e ∙ ap (λ y. option_or (text_at (map f xs) v) (cond y (Some (f x).text) None)) s
+      go false true g e s = absurd (let n : false ≡ true = g refl in cc)
+      go false false g e s = e ∙ or_none (text_at (map f xs) v)
 
-pub stable_same : (xs ys : List Definition) → IsStableBy precedes xs ys → IsSameTable ys xs
-stable_same xs ys stable v =
-    sym (text_of_part (ties precedes at) v ys tied) ∙ ap (λ t. text_at t v) (stable at) ∙ text_of_part (ties precedes at) v xs tied
-  where
-    at : Definition
-    at = record { sequence = v; text = [] }
+  -- an element with the sequence v, if there is one
+  with_sequence : (xs : List X) (v : List ℕ) → ((x : X) × (v ≡ (f x).sequence)) ⊎ (text_at (map f xs) v ≡ None)
+  with_sequence [] v = inr refl
+  with_sequence (x ∷ xs) v = go (same v (f x).sequence) refl (with_sequence xs v)
+    where
+      go : (b : Bool) → same v (f x).sequence ≡ b → ((x : X) × (v ≡ (f x).sequence)) ⊎ (text_at (map f xs) v ≡ None)
+          → ((x : X) × (v ≡ (f x).sequence)) ⊎ (text_at (map f (x ∷ xs)) v ≡ None)
+      go true e r = inl (x, same_is v (f x).sequence e)
+      go false e (inl r) = inl r
+      go false e (inr n) = inr (ap₂ (λ o b. option_or o (cond b (Some (f x).text) None)) n e)
 
-    tied : (d : Definition) → same v d.sequence ≡ true → ties precedes at d ≡ true
-    tied d h = ap (λ s. not (comes_before v s) && not (comes_before s v)) (sym (same_is v d.sequence h)) ∙ ap (λ b. not b && not b) (not_itself v)
+  -- elements of one sequence tie
+  abbrev pub SameTie : (X → X → Bool) → Type 0
+  SameTie lt = (x y : X) → (f x).sequence ≡ (f y).sequence → ties lt x y ≡ true
+
+  pub stable_same : (lt : X → X → Bool) (xs ys : List X) → SameTie lt → IsStableBy lt xs ys → IsSameTable (map f ys) (map f xs)
+  stable_same lt xs ys tie stable v = elim (with_sequence ys v) [
+    | inl t ↦ by t.0 t.1
+    | inr absent ↦ elim (with_sequence xs v) [
+      | inl t ↦ by t.0 t.1
+      | inr before ↦ absent ∙ sym before
+    ]
+  ]
+    where
+      by : (x : X) → v ≡ (f x).sequence → text_at (map f ys) v ≡ text_at (map f xs) v
+      by x is =
+          let tied = λ (y : X) (e : same v (f y).sequence ≡ true). tie x y (sym is ∙ same_is v (f y).sequence e) in
+          sym (text_of_part (ties lt x) v ys tied) ∙ ap (λ zs. text_at (map f zs) v) (stable x) ∙ text_of_part (ties lt x) v xs tied
+
+  pub sequences_tie : SameTie (λ x y. comes_before (f x).sequence (f y).sequence)
+  sequences_tie x y e =
+      ap (λ s. not (comes_before s (f y).sequence) && not (comes_before (f y).sequence s)) e ∙ ap (λ b. not b && not b) (not_itself (f y).sequence)
 
 -- ---- the same rows
 

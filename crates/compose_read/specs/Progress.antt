@@ -1,10 +1,10 @@
 -- What is read so far, and what is read on from there. Words for private functions.
-use Rattle.std.specs.Prelude.{◌≡◌, ◌<◌, [], ◌++◌, ℕ, List, length, Option, Some, None, Result, Ok, Err}
+use Rattle.std.specs.Prelude.{◌≡◌, ◌<◌, [], ◌++◌, ℕ, List, length, Option, Some, None, Result, Ok, Err, IsTrue}
 use Rattle.std.specs.Option.{option_map_or}
 use Rattle.keysym_core.specs.Names.{KeysymNames, text}
 use Rattle.compose_lex.specs.declared.LexFault.{LexFault}
 use Rattle.compose_lex.specs.declared.LexFault.TheVariants as lex_faults
-use Rattle.compose_model.specs.Table.{Definition}
+use Rattle.compose_model.specs.Table.{Definition, is_definition}
 use Rattle.compose_read.specs.Lines.{Source, Visit, included, max_depth}
 use Rattle.compose_read.specs.Read.{read_on, line_gives}
 use Rattle.compose_read.specs.declared.ReadFault.{ReadFault}
@@ -33,16 +33,16 @@ lifted place fault = faults.Lex place.source place.line fault
 abbrev pub keysym_text : KeysymNames → Option ℕ → List ℕ
 keysym_text names keysym = option_map_or (text names) keysym []
 
--- what is found on a line is what the line gives, or the source that it includes
-abbrev pub IsFound : KeysymNames → List Source → Visit → Found → Type 0
-IsFound names sources v found.Nothing = (line_gives names sources v ≡ Ok None) × (included sources v.bytes ≡ None)
-IsFound names sources v (found.Include source) = (line_gives names sources v ≡ Ok None) × (included sources v.bytes ≡ Some source) × (v.depth < max_depth) × (source < length sources)
-IsFound names sources v (found.Definition d) = (line_gives names sources v ≡ Ok (Some d)) × (included sources v.bytes ≡ None)
+-- what is found on a line is what the line gives, the definition d or none, or the source that it includes
+abbrev pub IsFound : KeysymNames → List Source → Visit → Definition → Found → Type 0
+IsFound names sources v d found.Nothing = (line_gives names sources v ≡ Ok None) × (included sources v.bytes ≡ None)
+IsFound names sources v d (found.Include source) = (line_gives names sources v ≡ Ok None) × (included sources v.bytes ≡ Some source) × (v.depth < max_depth) × (source < length sources)
+IsFound names sources v d found.Definition = (line_gives names sources v ≡ Ok (Some d)) × (included sources v.bytes ≡ None) × IsTrue (is_definition d)
 
-abbrev pub FindsLine : KeysymNames → List Source → Visit → Result Found ReadFault → Type 0
-FindsLine names sources v (Ok f) = IsFound names sources v f
-FindsLine names sources v (Err faults.NoMemory) = Unit {0}
-FindsLine names sources v (Err e) = line_gives names sources v ≡ Err e
+abbrev pub FindsLine : KeysymNames → List Source → Visit → Definition → Result Found ReadFault → Type 0
+FindsLine names sources v d (Ok f) = IsFound names sources v d f
+FindsLine names sources v d (Err faults.NoMemory) = Unit {0}
+FindsLine names sources v d (Err e) = line_gives names sources v ≡ Err e
 
 -- ---- all lines
 

@@ -21,6 +21,7 @@ ghost use Rattle.compose_read.specs.declared.ReadFault.TheVariants.{NoMemory};
 mod definitions;
 mod line;
 mod reading;
+mod rows;
 mod sequences;
 mod settling;
 mod sources;

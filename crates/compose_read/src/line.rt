@@ -1,5 +1,5 @@
 //! What one line gives: nothing, a definition, an included source, or a fault.
-ghost use Rattle.std.specs.Prelude.{◌≡◌, ◌≤◌, ◌<◌, ℕ, List, map, length, Option, Some, None, Ok, Err, IfOk, IfErr, IfSome, IsTrue, string_bytes, option_copied, option_map};
+ghost use Rattle.std.specs.Prelude.{◌≡◌, ◌≤◌, ◌<◌, ℕ, List, [], map, length, Option, Some, None, Ok, Err, IfOk, IfErr, IfSome, OnOk, IsTrue, string_bytes, option_copied};
 ghost use Rattle.std.specs.List.{list_all};
 ghost use Rattle.keysym_core.specs.Names.{text, value};
 ghost use Rattle.compose_lex.specs.Line.{include};
@@ -8,12 +8,14 @@ ghost use Rattle.compose_read.specs.Lines.{included_by};
 ghost use Rattle.compose_read.specs.Read.{event_keysym, sequence_of, string_text, result_text, definition_of, include_fault};
 ghost use Rattle.compose_read.specs.Given.{ReadGives};
 ghost use Rattle.compose_read.specs.Progress.{visit, lifted, no_definition, keysym_text, FindsLine};
+ghost use Rattle.compose_read.specs.Rows.{row_read};
 ghost use Rattle.compose_read.specs.Sequence.{is_fed, AreFed};
 
 use crate::ReadFault;
-use crate::definitions::Row;
+use crate::rows::Row;
 use crate::sources::Sources;
-use compose_lex::{LexFault, Line, lex_line, unescape};
+use arrayvec::ArrayVec;
+use compose_lex::{LexFault, Said, lex_line_into, push_text};
 use keysym_core::{Keysym, Names};
 use std::alloc::{AllocError, Global};
 
@@ -28,48 +30,61 @@ pub(crate) struct Place {
     pub(crate) depth: usize,
 }
 
-/// What is found on a line.
+/// What is found on a line; a definition is left in the buffer's row.
 #[derive(Drop)]
 pub(crate) enum Found {
     Nothing,
     Include(usize),
-    Definition(Row),
+    Definition,
+}
+
+/// The names of the events and the row of the line that was read last. Each line uses it anew, so that none takes memory of its own.
+#[derive(Drop)]
+pub(crate) struct LineBuffer<'a> {
+    pub(crate) events: ArrayVec<&'a str, 32>,
+    pub(crate) row: Row,
+}
+
+impl<'a> LineBuffer<'a> {
+    /// A buffer for any number of lines. It takes no memory.
+    pub(crate) fn new(alloc: Global) -> LineBuffer<'a> {
+        LineBuffer {
+            events: ArrayVec::new(),
+            row: Row {
+                sequence: Vec::new(alloc),
+                text: String::new(alloc),
+            },
+        }
+    }
 }
 
 /// What the line at this place gives.
-pub(crate) fn read_line(
-    alloc: Global,
+pub(crate) fn read_line<'a>(
     names: &Names,
     sources: &Sources,
     place: Place,
-    bytes: &[u8],
+    bytes: &'a [u8],
+    buffer: &mut LineBuffer<'a>,
 ) -> Result<Found, ReadFault>
-    ensures { FindsLine names.now sources.now (visit place bytes.now) result }
+    ensures { FindsLine names.now sources.now (visit place bytes.now) (row_read buffer.new.row) result }
 {
     let (source, line) = (place.source, place.line);
     let Ok(text) = str::from_utf8(bytes) else {
         return Err(ReadFault::NotUtf8 { source, line });
     };
-    match lex_line(text) {
+    match lex_line_into(text, &mut buffer.events) {
         Err(fault) => Err(lex_fault(place, fault)),
-        Ok(Line::Blank) => Ok(Found::Nothing),
-        Ok(Line::Include(name)) => Ok(Found::Include(include(sources, place, name)?)),
+        Ok(Said::Blank) => Ok(Found::Nothing),
+        Ok(Said::Include(name)) => Ok(Found::Include(include(sources, place, name)?)),
         Ok(
-            Line::Production {
-                events,
+            Said::Production {
                 raw_text,
                 result_name,
             },
         ) => {
-            let row = read_production(
-                alloc,
-                names,
-                place,
-                events.as_slice(),
-                raw_text,
-                result_name,
-            )?;
-            Ok(Found::Definition(row))
+            let events = buffer.events.as_slice();
+            read_production(names, place, events, raw_text, result_name, &mut buffer.row)?;
+            Ok(Found::Definition)
         }
     }
 }
@@ -104,43 +119,50 @@ fn lex_fault(place: Place, fault: LexFault) -> ReadFault
     }
 }
 
-/// The definition of a production.
+/// Reads the definition of a production into the row.
 fn read_production(
-    alloc: Global,
     names: &Names,
     place: Place,
     events: &[&str],
     raw_text: Option<&str>,
     result_name: Option<&str>,
-) -> Result<Row, ReadFault>
+    row: &mut Row,
+) -> Result<(), ReadFault>
     requires { (0 < length events.now) × (length events.now ≤ 32) }
-    ensures { (bytes : List ℕ) → ReadGives (λ row. row) result (definition_of names.now (visit place bytes) (map (λ e. e.now) events.now) (option_copied raw_text.entry) (option_copied result_name.entry)) }
+    ensures exact { (bytes : List ℕ) → ReadGives (λ _. row_read row.new) result (definition_of names.now (visit place bytes) (map (λ e. e.now) events.now) (option_copied raw_text.entry) (option_copied result_name.entry)) }
+    ensures definition { OnOk result (IsTrue (is_definition (row_read row.new))) }
 {
-    let sequence = read_sequence(alloc, names, place, events)?;
-    let string = read_string(alloc, place, raw_text)?;
-    let keysym = result_keysym(names, place, events.len(), result_name)?;
-    let text = match string {
-        Some(text) => text,
-        None => text_of(alloc, names, keysym)?,
-    };
-    Ok(Row::new(sequence, text))
+    row.sequence.clear();
+    row.text.clear();
+    read_sequence(names, place, events, &mut row.sequence)?;
+    match raw_text {
+        Some(raw) => {
+            read_string(place, raw, &mut row.text)?;
+            result_keysym(names, place, events.len(), result_name)?;
+        }
+        None => {
+            let keysym = result_keysym(names, place, events.len(), result_name)?;
+            push_keysym_text(names, keysym, &mut row.text)?;
+        }
+    }
+    Ok(())
 }
 
-/// The keysyms of the events.
+/// Reads the keysyms of the events into an empty list.
 fn read_sequence(
-    alloc: Global,
     names: &Names,
     place: Place,
     events: &[&str],
-) -> Result<Vec<Keysym>, ReadFault>
-    ensures exact { (bytes : List ℕ) → ReadGives (λ v. v.items) result (sequence_of names.now (visit place bytes) 0 (map (λ e. e.now) events.now)) }
-    ensures fed { IfOk result (λ v. AreFed v.items × (length v.items ≡ length events.now)) }
+    sequence: &mut Vec<Keysym>,
+) -> Result<(), ReadFault>
+    requires { sequence.old.items ≡ [] }
+    ensures exact { (bytes : List ℕ) → ReadGives (λ _. sequence.new.items) result (sequence_of names.now (visit place bytes) 0 (map (λ e. e.now) events.now)) }
+    ensures fed { OnOk result (AreFed sequence.new.items × (length sequence.new.items ≡ length events.now)) }
 {
-    let mut sequence = Vec::with_capacity(alloc, events.len())?;
     for (index, event) in events.iter().enumerate() {
         sequence.push(event_keysym(names, place, index, event)?)?;
     }
-    Ok(sequence)
+    Ok(())
 }
 
 /// The keysym of the event at this index.
@@ -164,17 +186,15 @@ fn event_keysym(names: &Names, place: Place, index: usize, event: &str) -> Resul
     Ok(keysym)
 }
 
-/// The text of a raw text, if there is one.
-fn read_string(alloc: Global, place: Place, raw: Option<&str>) -> Result<Option<String>, ReadFault>
-    ensures exact { (bytes : List ℕ) → ReadGives (option_map string_bytes) result (string_text (visit place bytes) (option_copied raw.entry)) }
-    ensures fits { IfOk result (λ o. IfSome o (λ t. length (string_bytes t) ≤ 255)) }
+/// Reads the text of a raw text into an empty one.
+fn read_string(place: Place, raw: &str, text: &mut String) -> Result<(), ReadFault>
+    requires { string_bytes text.old ≡ [] }
+    ensures exact { (bytes : List ℕ) → ReadGives (λ _. Some (string_bytes text.new)) result (string_text (visit place bytes) (Some raw.now)) }
+    ensures fits { OnOk result (length (string_bytes text.new) ≤ 255) }
 {
-    match raw {
-        None => Ok(None),
-        Some(raw) => match unescape(alloc, raw) {
-            Ok(text) => Ok(Some(text)),
-            Err(fault) => Err(lex_fault(place, fault)),
-        },
+    match push_text(text, raw) {
+        Ok(()) => Ok(()),
+        Err(fault) => Err(lex_fault(place, fault)),
     }
 }
 
@@ -198,16 +218,20 @@ fn result_keysym(
     Ok(Some(keysym))
 }
 
-/// The text of a result keysym; empty where there is none.
-fn text_of(alloc: Global, names: &Names, keysym: Option<Keysym>) -> Result<String, AllocError>
-    ensures same { IfOk result (λ text. string_bytes text ≡ keysym_text names.now keysym) }
-    ensures fits { IfOk result (λ text. length (string_bytes text) ≤ 255) }
+/// Puts the text of a result keysym, if there is one, into an empty text.
+fn push_keysym_text(
+    names: &Names,
+    keysym: Option<Keysym>,
+    text: &mut String,
+) -> Result<(), AllocError>
+    requires { string_bytes text.old ≡ [] }
+    ensures same { OnOk result (string_bytes text.new ≡ keysym_text names.now keysym) }
+    ensures fits { OnOk result (length (string_bytes text.new) ≤ 255) }
 {
-    let mut text = String::new(alloc);
     if let Some(keysym) = keysym {
         if let Some(character) = names.text_of(keysym) {
             text.push(character)?;
         }
     }
-    Ok(text)
+    Ok(())
 }

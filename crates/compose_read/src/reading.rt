@@ -1,6 +1,5 @@
 //! Reading a source with all that it includes.
-ghost use Rattle.std.specs.Prelude.{◌≡◌, ◌≤◌, ◌<◌, ◌-◌, [], ◌∷◌, ◌==◌, List, length, position, IfOk, IfSome, IsTrue};
-ghost use Rattle.keysym_core.specs.Lines.{lines_of};
+ghost use Rattle.std.specs.Prelude.{◌≡◌, ◌≤◌, ◌<◌, [], ◌∷◌, List, length, IfOk, IfSome, IsTrue};
 ghost use Rattle.compose_model.specs.Table.{Definition, is_table};
 ghost use Rattle.compose_read.specs.Lines.{visits_below, included, without_mark};
 ghost use Rattle.compose_read.specs.Read.{definitions_of};
@@ -9,9 +8,9 @@ ghost use Rattle.compose_read.specs.Progress.{visit, ReadsOn};
 
 use crate::ReadFault;
 use crate::definitions::Definitions;
-use crate::line::{Found, MAX_DEPTH, Place, read_line};
+use crate::line::{Found, LineBuffer, MAX_DEPTH, Place, read_line};
 use crate::sources::Sources;
-use keysym_core::Names;
+use keysym_core::{Names, first_line};
 use std::alloc::Global;
 
 /// The most lines that are read, included ones each time.
@@ -44,18 +43,26 @@ pub fn read_definitions(
         lines: 0,
         definitions: Definitions::new(alloc),
     };
-    read_source(alloc, names, sources, source, MAX_DEPTH, &mut progress)?;
+    let mut buffer = LineBuffer::new(alloc);
+    read_source(
+        names,
+        sources,
+        source,
+        MAX_DEPTH,
+        &mut buffer,
+        &mut progress,
+    )?;
     let _ = progress.definitions.len();
     Ok(progress.definitions)
 }
 
 /// Reads all lines of a source on, and behind each include those of the included source; so many levels are left below it.
-fn read_source(
-    alloc: Global,
+fn read_source<'a>(
     names: &Names,
-    sources: &Sources,
+    sources: &'a Sources,
     source: usize,
     left: usize,
+    buffer: &mut LineBuffer<'a>,
     progress: &mut Progress,
 ) -> Result<(), ReadFault>
     requires within { source < length sources.now }
@@ -65,8 +72,7 @@ fn read_source(
     let depth = MAX_DEPTH - left;
     let mut rest = without_mark(sources.bytes(source));
     let mut line = 0;
-    while !rest.is_empty() {
-        let (bytes, behind) = first_line(rest);
+    while let Some((bytes, behind)) = first_line(rest) {
         rest = behind;
         line += 1;
         let place = Place {
@@ -74,20 +80,20 @@ fn read_source(
             line,
             depth,
         };
-        if let Some(included) = take_line(alloc, names, sources, place, bytes, progress)? {
-            read_source(alloc, names, sources, included, left - 1, progress)?;
+        if let Some(included) = take_line(names, sources, place, bytes, buffer, progress)? {
+            read_source(names, sources, included, left - 1, buffer, progress)?;
         }
     }
     Ok(())
 }
 
 /// Reads the line at this place on. Where it includes a source, the answer is the place of this one.
-fn take_line(
-    alloc: Global,
+fn take_line<'a>(
     names: &Names,
     sources: &Sources,
     place: Place,
-    bytes: &[u8],
+    bytes: &'a [u8],
+    buffer: &mut LineBuffer<'a>,
     progress: &mut Progress,
 ) -> Result<Option<usize>, ReadFault>
     ensures reads { ReadsOn names.now sources.now (visit place bytes.now ∷ []) progress.old progress.new result }
@@ -98,16 +104,16 @@ fn take_line(
     if progress.lines >= MAX_LINES {
         return Err(ReadFault::TooManyLines { source, line });
     }
-    let found = read_line(alloc, names, sources, place, bytes)?;
+    let found = read_line(names, sources, place, bytes, buffer)?;
     progress.lines += 1;
     match found {
         Found::Nothing => Ok(None),
         Found::Include(included) => Ok(Some(included)),
-        Found::Definition(row) => {
+        Found::Definition => {
             if progress.definitions.len() >= MAX_DEFINITIONS {
                 return Err(ReadFault::TooManyDefinitions { source, line });
             }
-            progress.definitions.push(row)?;
+            progress.definitions.push(&buffer.row)?;
             Ok(None)
         }
     }
@@ -122,23 +128,4 @@ fn without_mark(bytes: &[u8]) -> &[u8]
     } else {
         bytes
     }
-}
-
-/// The first line of these bytes, and what is left behind it.
-fn first_line(bytes: &[u8]) -> (&[u8], &[u8])
-    requires { 0 < length bytes.now }
-    ensures lines { lines_of bytes.now ≡ result.0.now ∷ lines_of result.1.now }
-    ensures shorter { length result.1.now < length bytes.now }
-{
-    match newline(bytes) {
-        Some(end) => (&bytes[..end], &bytes[end + 1..]),
-        None => (bytes, &[]),
-    }
-}
-
-/// The place of the first newline.
-fn newline(bytes: &[u8]) -> Option<usize>
-    ensures { result ≡ position (λ b. b == 10) bytes.now }
-{
-    bytes.iter().position(|byte| *byte == b'\n')
 }

@@ -1,12 +1,12 @@
 //! Settled sequences with their texts.
-use crate::definitions::Row;
+use crate::rows::Rows;
 use keysym_core::Keysym;
 use std::marker::Model;
 
 /// The settled sequences of a table, in rising order, each once, and none of which begins another.
 #[derive(Drop)]
 pub struct Sequences {
-    rows: Vec<Row>,
+    rows: Rows,
 }
 
 impl Model for Sequences {
@@ -16,9 +16,9 @@ impl Model for Sequences {
 
     ghost Value = { List Definition };
 
-    ghost view = { λ s. s.rows.items };
+    ghost view = { λ s. s.rows };
 
-    ghost invariant = { λ s. IsSettled s.rows.items };
+    ghost invariant = { λ s. IsSettled s.rows };
 }
 
 impl Sequences {
@@ -26,9 +26,9 @@ impl Sequences {
     ghost use Rattle.compose_read.specs.Settle.{IsSettled};
 
     /// The sequences of these rows.
-    pub(crate) fn from_rows(rows: Vec<Row>) -> Sequences
-        requires { IsSettled rows.items }
-        ensures { result ≡ rows.items }
+    pub(crate) fn from_rows(rows: Rows) -> Sequences
+        requires { IsSettled rows }
+        ensures { result ≡ rows }
     {
         Sequences { rows }
     }
@@ -46,7 +46,7 @@ impl Sequences {
         requires { index < length self.now }
         ensures { option_map (λ d. d.sequence) (slice_get self.now index) ≡ Some result.now }
     {
-        self.rows[index].sequence()
+        self.rows.sequence(index)
     }
 
     /// The text of the sequence at this place. O(1).
@@ -54,6 +54,6 @@ impl Sequences {
         requires { index < length self.now }
         ensures { option_map (λ d. d.text) (slice_get self.now index) ≡ Some result.now }
     {
-        self.rows[index].text()
+        self.rows.text(index)
     }
 }

@@ -1,6 +1,5 @@
-use Rattle.std.proofs.Common.{◌≡◌, ◌∙◌, ◌<◌, ◌+◌, ℕ, Vec, Global, length, sym, ap, subst, rules, arith}
+use Rattle.std.proofs.Common.{◌≡◌, ◌∙◌, ◌<◌, ◌+◌, ℕ, length, sym, ap, subst, rules, arith}
 use Rattle.std.specs.Prelude.{Err}
-use Rattle.keysym_core.specs.declared.keysym.Keysym.{Keysym}
 use Rattle.compose_read.specs.Progress.{visit}
 use Rattle.compose_read.specs.Sequence.{AreFed}
 use Rattle.compose_read.proofs.Events.{sequence_behind, event_taken, event_refused, events_all, fed_push}
@@ -11,9 +10,9 @@ pub returns-in_err-event_keysym-clause-exact : goal.returns-in_err-event_keysym-
 returns-in_err-event_keysym-clause-exact c = λ bytes.
     let names = c.args.names.now in let events = c.args.events.now in let v = visit c.args.place bytes in let index = c.loop-index.index in
     let fault = c.in_err-event_keysym.field-0.0 in
-    let is : c.from_residual-in_err-event_keysym.result ≡ Err fault = search rules in
+    let is : c.from_residual.result ≡ Err fault = search rules in
     let within : index < length events = omega arith in
-    passed_fault (λ (k : ℕ). k) (λ (w : Vec Keysym Global). w.items) fault _ _ _ is
+    passed_fault (λ (k : ℕ). k) (λ (_ : Unit {0}). c.loop-index.sequence.items) fault _ _ _ is
     (λ h. sym (events_all names v events) ∙ sym (c.loop-index.invariant.exact bytes) ∙ event_refused names v events c.loop-index.sequence.items index _ fault within h)
     (c.in_err-event_keysym.ensures.exact bytes)
 

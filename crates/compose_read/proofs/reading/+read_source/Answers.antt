@@ -5,8 +5,8 @@ use Rattle.compose_read.specs.Progress.{reading_on, ReadsOn}
 use Rattle.compose_read.proofs.Visits.{visits_are, left_to_visit, plain_turn, line_refused, include_turn, include_refused}
 use Rattle.compose_read.proofs.reading.+read_source.Goals as goal
 
-pub loop-rest-init : goal.loop-rest-init
-loop-rest-init t c =
+pub loop-bytes-init : goal.loop-bytes-init
+loop-bytes-init t c =
     let names = c.args.names.now in let sources = c.args.sources.now in let left = c.args.left in let source = c.args.source in record {
       reads = λ ws. ap (λ vs. reading_on names sources c.args.progress.now (vs ++ ws))
           (ap (left_to_visit sources left source (8 - left) 0) c.without_mark-rest.ensures ∙ sym (visits_are sources left source c.bytes.result.now c.requires.within c.bytes.ensures));
@@ -18,31 +18,31 @@ returns-in_err-included t c =
     let names = c.args.names.now in let sources = c.args.sources.now in let left = c.args.left in let source = c.args.source in let fault = c.in_err-included.field-0.0 in
     let is : c.from_residual.result ≡ Err fault = search rules in
     subst (ReadsOn names sources (visits_below sources left source) c.args.progress.now c.take_line.new.progress) (sym is)
-    (line_refused names sources left source (8 - left) c.loop-rest.line c.loop-rest.rest.now c.first_line.result.0.now c.first_line.result.1.now c.first_line.ensures.lines c.loop-rest.progress c.args.progress.now (visits_below sources left source)
-    c.loop-rest.invariant.reads c.take_line.new.progress c.take_line.new.progress fault c.in_err-included.ensures.reads)
+    (line_refused names sources left source (8 - left) c.loop-bytes.line c.loop-bytes.rest.now c.in-Some.bytes.now c.in-Some.behind.now c.in-Some.ensures.lines c.loop-bytes.progress c.args.progress.now (visits_below sources left source)
+    c.loop-bytes.invariant.reads c.take_line.new.progress c.take_line.new.progress fault c.in_err-included.ensures.reads)
 
-pub loop-rest-preserved : goal.loop-rest-preserved
-loop-rest-preserved t c =
+pub loop-bytes-preserved : goal.loop-bytes-preserved
+loop-bytes-preserved t c =
     let names = c.args.names.now in let sources = c.args.sources.now in let left = c.args.left in let source = c.args.source in record {
-      reads = plain_turn names sources left source (8 - left) c.loop-rest.line c.loop-rest.rest.now c.first_line.result.0.now c.first_line.result.1.now c.first_line.ensures.lines c.loop-rest.progress c.args.progress.now (visits_below sources left source)
-          c.loop-rest.invariant.reads c.take_line.new.progress (c.in_ok-included.ensures.source ∙ c.in_default.is) c.in_ok-included.ensures.reads;
-      counted = omega arith;
+      reads = plain_turn names sources left source (8 - left) c.loop-bytes.line c.loop-bytes.rest.now c.in-Some.bytes.now c.in-Some.behind.now c.in-Some.ensures.lines c.loop-bytes.progress c.args.progress.now (visits_below sources left source)
+          c.loop-bytes.invariant.reads c.take_line.new.progress (c.in_ok-included.ensures.source ∙ c.in_default-2.is) c.in_ok-included.ensures.reads;
+      counted = omega (arith, c.in-Some.ensures.shorter, c.loop-bytes.invariant.counted);
     }
 
-pub loop-rest-preserved-in-Continue-branch-3 : goal.loop-rest-preserved-in-Continue-branch-3
-loop-rest-preserved-in-Continue-branch-3 t c =
+pub loop-bytes-preserved-in-Continue-branch-3 : goal.loop-bytes-preserved-in-Continue-branch-3
+loop-bytes-preserved-in-Continue-branch-3 t c =
     let names = c.args.names.now in let sources = c.args.sources.now in let left = c.args.left in let source = c.args.source in
-    let deep = subst (λ o. IfSome o (λ s. (8 - left < 8) × (s < length sources))) c.in-Some.is c.in_ok-included.ensures.within in record {
-      reads = include_turn names sources left source (8 - left) c.loop-rest.line c.loop-rest.rest.now c.first_line.result.0.now c.first_line.result.1.now c.first_line.ensures.lines c.loop-rest.progress c.args.progress.now (visits_below sources left source)
-          c.loop-rest.invariant.reads c.take_line.new.progress c.in-Some.included (omega (arith, deep.0)) (c.in_ok-included.ensures.source ∙ c.in-Some.is) c.in_ok-included.ensures.reads c.read_source.new.progress c.in_ok-read_source.ensures;
-      counted = omega arith;
+    let deep = subst (λ o. IfSome o (λ s. (8 - left < 8) × (s < length sources))) c.in-Some-2.is c.in_ok-included.ensures.within in record {
+      reads = include_turn names sources left source (8 - left) c.loop-bytes.line c.loop-bytes.rest.now c.in-Some.bytes.now c.in-Some.behind.now c.in-Some.ensures.lines c.loop-bytes.progress c.args.progress.now (visits_below sources left source)
+          c.loop-bytes.invariant.reads c.take_line.new.progress c.in-Some-2.included (omega (arith, deep.0)) (c.in_ok-included.ensures.source ∙ c.in-Some-2.is) c.in_ok-included.ensures.reads c.read_source.new.progress c.in_ok-read_source.ensures;
+      counted = omega (arith, c.in-Some.ensures.shorter, c.loop-bytes.invariant.counted);
     }
 
 pub returns-in_err-read_source : goal.returns-in_err-read_source
 returns-in_err-read_source t c =
     let names = c.args.names.now in let sources = c.args.sources.now in let left = c.args.left in let source = c.args.source in let fault = c.in_err-read_source.field-0.0 in
-    let deep = subst (λ o. IfSome o (λ s. (8 - left < 8) × (s < length sources))) c.in-Some.is c.in_ok-included.ensures.within in
+    let deep = subst (λ o. IfSome o (λ s. (8 - left < 8) × (s < length sources))) c.in-Some-2.is c.in_ok-included.ensures.within in
     let is : c.from_residual-in_err-read_source.result ≡ Err fault = search rules in
     subst (ReadsOn names sources (visits_below sources left source) c.args.progress.now c.read_source.new.progress) (sym is)
-    (include_refused names sources left source (8 - left) c.loop-rest.line c.loop-rest.rest.now c.first_line.result.0.now c.first_line.result.1.now c.first_line.ensures.lines c.loop-rest.progress c.args.progress.now (visits_below sources left source)
-    c.loop-rest.invariant.reads c.take_line.new.progress c.in-Some.included (omega (arith, deep.0)) (c.in_ok-included.ensures.source ∙ c.in-Some.is) c.in_ok-included.ensures.reads c.read_source.new.progress c.read_source.new.progress fault c.in_err-read_source.ensures)
+    (include_refused names sources left source (8 - left) c.loop-bytes.line c.loop-bytes.rest.now c.in-Some.bytes.now c.in-Some.behind.now c.in-Some.ensures.lines c.loop-bytes.progress c.args.progress.now (visits_below sources left source)
+    c.loop-bytes.invariant.reads c.take_line.new.progress c.in-Some-2.included (omega (arith, deep.0)) (c.in_ok-included.ensures.source ∙ c.in-Some-2.is) c.in_ok-included.ensures.reads c.read_source.new.progress c.read_source.new.progress fault c.in_err-read_source.ensures)

@@ -7,11 +7,11 @@ use Rattle.compose_read.proofs.reading.+read_source.Given as goal
 abbrev pub decreases-read_source : goal.decreases-read_source
 decreases-read_source l = l.left
 
-abbrev pub invariant-loop-rest : goal.invariant-loop-rest
-invariant-loop-rest l = record {
+abbrev pub invariant-loop-bytes : goal.invariant-loop-bytes
+invariant-loop-bytes l = record {
   reads : (ws : List Visit) → reading_on l.names l.sources l.progress (left_to_visit l.sources l.left l.source l.depth l.line l.rest ++ ws) ≡ reading_on l.names l.sources l.fn.progress (visits_below l.sources l.left l.source ++ ws);
   counted : l.line + length l.rest ≤ length l.initial.rest;
 }
 
-abbrev pub decreases-loop-rest : goal.decreases-loop-rest
-decreases-loop-rest l = length l.rest
+abbrev pub decreases-loop-bytes : goal.decreases-loop-bytes
+decreases-loop-bytes l = length l.rest

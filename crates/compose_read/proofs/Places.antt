@@ -1,0 +1,95 @@
+-- Places in the order of the sequences that stand there, and passes over them.
+use Rattle.std.proofs.Common.{◌≡◌, ℕ, suc, ◌+◌, ◌≤◌, List, [], ◌∷◌, ◌++◌, Bool, true, false, not, ◌&&◌, nat_cmp, Less, Equal, Greater, length, map, drop, refl, sym, subst, ◌∙◌, ap, ap₂, arith}
+use Rattle.std.specs.Prelude.{Ok}
+use Rattle.std.specs.List.{All}
+use Rattle.std.specs.List.Sorted.{IsSortedBy}
+use Rattle.std.specs.Ordering.{is_lt, ordering_reverse}
+use Rattle.std.specs.declared.cmp.Ordering.{Ordering}
+use Rattle.std.proofs.lemmas.Cmp.{nat_cmp_total}
+use Rattle.std.proofs.lemmas.List.{get_or-map, length-map, length-take, map-append}
+use Rattle.std.proofs.lemmas.List.Elements.{All-push}
+use Rattle.compose_model.specs.Table.{Definition, comes_before}
+use Rattle.compose_model.specs.declared.Rule.{Rule}
+use Rattle.compose_read.specs.Neighbours.{SequencesAscend, stays_before, settled_neighbours, front}
+use Rattle.compose_read.specs.Rows.{sequence_at, definition_at, rows_of, IsPlaced, ArePlaced}
+use Rattle.compose_read.proofs.SameSettled.{SameTie}
+use Rattle.compose_read.proofs.Turns.{put_all, turn_kept, turn_left}
+use Rattle.compose_read.specs.declared.rows.RowPlace.{RowPlace}
+
+abbrev pub by_sequence : List ℕ → RowPlace → RowPlace → Bool
+by_sequence keysyms p q = comes_before (sequence_at keysyms p) (sequence_at keysyms q)
+
+abbrev pub by_key : (RowPlace → ℕ) → RowPlace → RowPlace → Bool
+by_key key p q = is_lt (nat_cmp (key p) (key q))
+
+-- places of one sequence have one front
+pub fronts_tie : (keysyms texts : List ℕ) → SameTie (definition_at keysyms texts) (by_key (λ p. front (sequence_at keysyms p)))
+fronts_tie keysyms texts p q e =
+    ap (λ s. not (is_lt (nat_cmp (front s) (front (sequence_at keysyms q)))) && not (is_lt (nat_cmp (front (sequence_at keysyms q)) (front s)))) e
+    ∙ ap (λ b. not b && not b) (not_below (front (sequence_at keysyms q)))
+  where
+    not_below : (n : ℕ) → is_lt (nat_cmp n n) ≡ false
+    not_below n = go (nat_cmp n n) (nat_cmp_total.antisymm n n)
+      where
+        go : (o : Ordering) → o ≡ ordering_reverse o → is_lt o ≡ false
+        go Less e = cc
+        go Equal e = refl
+        go Greater e = refl
+
+pub rows_ascend : (keysyms texts : List ℕ) (ps : List RowPlace) → IsSortedBy (by_sequence keysyms) ps → SequencesAscend (rows_of keysyms texts ps)
+rows_ascend keysyms texts ps h = λ k d low l.
+    let n = length-map ps (definition_at keysyms texts) in
+    let none : RowPlace = record { first_keysym = 0; first_byte = 0; keysym_count = 0; byte_count = 0 } in
+    ap₂ (λ (x y : Definition). comes_before x.sequence y.sequence)
+    (get_or-map (definition_at keysyms texts) ps (k + 1) none d (omega arith))
+    (get_or-map (definition_at keysyms texts) ps k none d (omega arith))
+    ∙ h k none low (omega arith)
+
+module _ {X : Type 0} (P : X → Type 0) (x : X) (xs : List X) (h : All P (x ∷ xs)) where
+  pub first_of : P x
+  first_of = h 0 x (omega arith)
+
+  pub others_of : All P xs
+  others_of = λ k d l. h (suc k) d (omega arith)
+
+-- ---- a pass over rows that keeps some and goes on with the others
+
+abbrev pub few : RowPlace → Type 0
+few p = p.keysym_count ≤ 32
+
+-- with these kept and these left, the pass gives what all places give
+abbrev pub PassesOn : List ℕ → Rule → List RowPlace → List RowPlace → List RowPlace → Type 0
+PassesOn keysyms rule places kept left =
+    ((texts : List ℕ) → put_all (rows_of keysyms texts kept) (settled_neighbours rule (rows_of keysyms texts left)) ≡ settled_neighbours rule (rows_of keysyms texts places))
+    × All few left
+    × ((texts : List ℕ) → ArePlaced keysyms texts places → ArePlaced keysyms texts kept × ArePlaced keysyms texts left)
+
+module _ (keysyms : List ℕ) (rule : Rule) (places kept left : List RowPlace) (p q : RowPlace) (pass : PassesOn keysyms rule places kept (p ∷ q ∷ left)) where
+  -- a row that stays is kept
+  pub pass_kept : (pushed : List RowPlace) → pushed ≡ kept ++ p ∷ [] → ((texts : List ℕ) → stays_before rule (definition_at keysyms texts p) (definition_at keysyms texts q) ≡ Ok true) → PassesOn keysyms rule places pushed (q ∷ left)
+  pass_kept pushed e stays = (
+    λ texts.
+        let f = definition_at keysyms texts in
+        ap (λ ks. put_all (map f ks) (settled_neighbours rule (map f (q ∷ left)))) e
+        ∙ ap (λ ds. put_all ds (settled_neighbours rule (map f (q ∷ left)))) (map-append f kept (p ∷ []))
+        ∙ sym (turn_kept rule (map f kept) (f p) (f q) (map f left) (stays texts)) ∙ pass.0 texts,
+    others_of few p (q ∷ left) pass.1,
+    λ texts h.
+        let all = pass.2 texts h in
+        (subst (ArePlaced keysyms texts) (sym e) (All-push (IsPlaced keysyms texts) kept p all.0 (first_of (IsPlaced keysyms texts) p (q ∷ left) all.1)), others_of (IsPlaced keysyms texts) p (q ∷ left) all.1),
+  )
+
+  -- another one is passed over
+  pub pass_left : ((texts : List ℕ) → stays_before rule (definition_at keysyms texts p) (definition_at keysyms texts q) ≡ Ok false) → PassesOn keysyms rule places kept (q ∷ left)
+  pass_left stays = (
+    λ texts. let f = definition_at keysyms texts in sym (turn_left rule (map f kept) (f p) (f q) (map f left) (stays texts)) ∙ pass.0 texts,
+    others_of few p (q ∷ left) pass.1,
+    λ texts h. let all = pass.2 texts h in (all.0, others_of (IsPlaced keysyms texts) p (q ∷ left) all.1),
+  )
+
+  -- both have at most 32 keysyms
+  pub both_few : (length (sequence_at keysyms p) ≤ 32) × (length (sequence_at keysyms q) ≤ 32)
+  both_few = (sequence_few p (first_of few p (q ∷ left) pass.1), sequence_few q (first_of few q left (others_of few p (q ∷ left) pass.1)))
+    where
+      sequence_few : (r : RowPlace) → r.keysym_count ≤ 32 → length (sequence_at keysyms r) ≤ 32
+      sequence_few r h = let n = length-take r.keysym_count (drop r.first_keysym keysyms) in omega arith

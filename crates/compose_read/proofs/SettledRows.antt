@@ -1,0 +1,21 @@
+-- Settling the places of rows settles what the rows say.
+use Rattle.std.proofs.Common.{◌≡◌, ℕ, List, sym, subst}
+use Rattle.compose_model.specs.Table.{Definition, IsSameTable}
+use Rattle.compose_model.specs.declared.Rule.{Rule}
+use Rattle.compose_read.specs.Settle.{settled}
+use Rattle.compose_read.specs.Neighbours.{settled_neighbours, SequencesAscend}
+use Rattle.compose_read.specs.Rows.{rows_of, ArePlaced}
+use Rattle.compose_read.specs.declared.rows.RowPlace.{RowPlace}
+use Rattle.compose_read.proofs.Neighbours.{sorted_settled}
+
+-- what was sorted, among the same keysyms
+module _ (rule : Rule) (table : List Definition) (keysyms seen texts : List ℕ) (places sorted : List RowPlace) (here : seen ≡ keysyms) where
+  pub sorted_placed : (ArePlaced seen texts places → ArePlaced seen texts sorted) → ArePlaced keysyms texts places → ArePlaced keysyms texts sorted
+  sorted_placed f h = subst (λ ks. ArePlaced ks texts sorted) here (f (subst (λ ks. ArePlaced ks texts places) (sym here) h))
+
+  -- settles as the table
+  pub sorted_settle : SequencesAscend (rows_of seen texts sorted) → IsSameTable (rows_of seen texts sorted) (rows_of seen texts places) → rows_of keysyms texts places ≡ table
+      → settled_neighbours rule (rows_of keysyms texts sorted) ≡ settled rule table
+  sorted_settle ascend same is =
+      sorted_settled rule table (rows_of keysyms texts sorted) (subst (λ ks. SequencesAscend (rows_of ks texts sorted)) here ascend)
+      (subst (IsSameTable (rows_of keysyms texts sorted)) is (subst (λ ks. IsSameTable (rows_of ks texts sorted) (rows_of ks texts places)) here same))

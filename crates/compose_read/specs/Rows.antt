@@ -1,0 +1,31 @@
+-- Rows in flat arrays: all keysyms one behind another, all texts one behind another, and where each row's stand.
+use Rattle.std.specs.Prelude.{ℕ, ◌+◌, ◌≤◌, List, map, length, take, drop, string_bytes}
+use Rattle.std.specs.List.{All}
+use Rattle.std.specs.Str.{IsCharBoundary}
+use Rattle.compose_model.specs.Table.{Definition}
+use Rattle.compose_read.specs.declared.rows.Row.{Row}
+use Rattle.compose_read.specs.declared.rows.RowPlace.{RowPlace}
+
+-- the definition of a row
+abbrev pub row_read : Row → Definition
+row_read r = record { sequence = r.sequence.items; text = string_bytes r.text }
+
+abbrev pub sequence_at : List ℕ → RowPlace → List ℕ
+sequence_at keysyms p = take p.keysym_count (drop p.first_keysym keysyms)
+
+-- the definition that stands at a place
+abbrev pub definition_at : List ℕ → List ℕ → RowPlace → Definition
+definition_at keysyms texts p = record { sequence = sequence_at keysyms p; text = take p.byte_count (drop p.first_byte texts) }
+
+abbrev pub rows_of : List ℕ → List ℕ → List RowPlace → List Definition
+rows_of keysyms texts places = map (definition_at keysyms texts) places
+
+-- its at most 32 keysyms are there, and its text is there and begins and ends with a character
+pub record IsPlaced (keysyms texts : List ℕ) (p : RowPlace) : Type 0 where
+  pub few : p.keysym_count ≤ 32
+  pub keysyms_within : p.first_keysym + p.keysym_count ≤ length keysyms
+  pub starts : IsCharBoundary texts p.first_byte
+  pub ends : IsCharBoundary texts (p.first_byte + p.byte_count)
+
+abbrev pub ArePlaced : List ℕ → List ℕ → List RowPlace → Type 0
+ArePlaced keysyms texts places = All (IsPlaced keysyms texts) places
