@@ -22,7 +22,7 @@ use Rattle.compose_tree.specs.declared.edge.Edge.{Edge}
 use Rattle.compose_tree.specs.declared.table.Target.{Target}
 use Rattle.compose_tree.specs.declared.table.Target.TheVariants.{Node, Leaf}
 use Rattle.compose_tree.specs.Targets.{target_of, leaf_number, leaf_text}
-use Rattle.compose_tree.specs.Rows.{NodeRow, where_to, edge_of, row_of, rows_of}
+use Rattle.compose_tree.specs.Rows.{NodeRow, where_to, edge_of, row_of, rows_of, keysyms_of}
 use Rattle.compose_tree.proofs.Prefixes.{Before, not_before_itself, all_found_keys}
 use Rattle.compose_tree.proofs.OneMore.{edges_sorted, edge_is_listed}
 use Rattle.compose_tree.proofs.NextIn.{head_before, tail_rises}
@@ -106,6 +106,56 @@ target_found table p i edge h at =
     let is : edge ≡ edge_of table p k = at ∙ get_or-map (edge_of table p) (edges table p) i 0 edge h in
     let listed = any_passes_from_place (λ j. k == j) (edges table p) i k (slice_get-get_or (edges table p) i 0 h) (eq-eqb k k refl) in
     ap (λ (e : Edge). target_of table p e.keysym) is ∙ target_at_edge table p k (listed_edge table p k listed) ∙ ap (λ (e : Edge). Some e.target) (sym is)
+
+place_in : (k : ℕ) (ks : List ℕ) → list_any (λ j. k == j) ks ≡ true → (m : ℕ) × (m < length ks) × (get_or ks m 0 ≡ k)
+place_in k [] h = cc
+place_in k (j ∷ ks) h = elim (or_cases (k == j) (list_any (λ i. k == i) ks) h) [
+  | inl e ↦ (0, omega arith, sym (eqb-true k j e))
+  | inr e ↦ (let q = place_in k ks e in (suc q.0, (let l = q.1 in omega arith), q.2))
+]
+
+-- where none of a node's keysyms is this one, it leads nowhere
+pub leads_nowhere : (table : List Definition) (p : List ℕ) (k : ℕ) (keys : List ℕ) → keys ≡ edges table p → ((m : ℕ) → m < length keys → get_or keys m 0 ≡ k → ⊥) → None ≡ target_of table p k
+leads_nowhere table p k keys are none = sym (target_is table p k ∙ ap (λ b. cond {A = Option Target} b (Some (where_to table (p ++ k ∷ []))) None) (no_edge (cases_Bool (has_edge table p k))))
+  where
+    no_edge : (has_edge table p k ≡ true) ⊎ (has_edge table p k ≡ false) → has_edge table p k ≡ false
+    no_edge (inl f) =
+        let q = place_in k (edges table p) (edge_is_listed table p k ∙ f) in
+        let n : length keys ≡ length (edges table p) = ap length are in
+        let l = q.1 in
+        absurd (none q.0 (omega arith) (ap (λ ks. get_or ks q.0 0) are ∙ q.2))
+    no_edge (inr f) = f
+
+-- what is read among a node's keysyms stands there
+pub key_read : (ks keys : List ℕ) (k i : ℕ) → keys ≡ ks → i < length keys → get_or keys i 0 ≡ k → (i < length ks) × (slice_get ks i ≡ Some k)
+key_read ks keys k i are h is =
+    let n : length keys ≡ length ks = ap length are in
+    let within : i < length ks = omega arith in
+    (within, slice_get-get_or ks i 0 within ∙ ap (λ j. Some j) (ap (λ x. get_or x i 0) (sym are) ∙ is))
+
+edge_keysyms : (table : List Definition) (p ks : List ℕ) → keysyms_of (map (edge_of table p) ks) ≡ ks
+edge_keysyms table p [] = refl
+edge_keysyms table p (k ∷ ks) = ap (λ z. k ∷ z) (edge_keysyms table p ks)
+
+scanned_keysyms : (table : List Definition) (p : List ℕ) (es : List Edge) → es ≡ map (edge_of table p) (edges table p) → keysyms_of es ≡ edges table p
+scanned_keysyms table p es e = ap keysyms_of e ∙ edge_keysyms table p (edges table p)
+
+pub keysym_at : (es : List Edge) (i : ℕ) (e : Edge) → i < length es → e ≡ get_or es i e → get_or (keysyms_of es) i 0 ≡ e.keysym
+keysym_at es i e h at = get_or-map (λ (e : Edge). e.keysym) es i e 0 h ∙ ap (λ (e : Edge). e.keysym) (sym at)
+
+keysyms_counted : (es : List Edge) → length (keysyms_of es) ≡ length es
+keysyms_counted es = length-map es (λ (e : Edge). e.keysym)
+
+pub scan_none : (table : List Definition) (p : List ℕ) (k : ℕ) (es : List Edge) → es ≡ map (edge_of table p) (edges table p) → ((m : ℕ) → m < length es → get_or (keysyms_of es) m 0 ≡ k → ⊥) → None ≡ target_of table p k
+scan_none table p k es e none =
+    let n = keysyms_counted es in
+    leads_nowhere table p k (keysyms_of es) (scanned_keysyms table p es e) (λ m h. none m (omega arith))
+
+pub scan_found : (table : List Definition) (p : List ℕ) (k i : ℕ) (es : List Edge) → es ≡ map (edge_of table p) (edges table p) → i < length es → get_or (keysyms_of es) i 0 ≡ k
+    → (i < length (edges table p)) × (slice_get (edges table p) i ≡ Some k)
+scan_found table p k i es e h is =
+    let n = keysyms_counted es in
+    key_read (edges table p) (keysyms_of es) k i (scanned_keysyms table p es e) (omega arith) is
 
 flipped : (j k : ℕ) → (k == j) ≡ false → nat_eq j k ≡ false
 flipped j k h = elim (cases_Bool (nat_eq j k)) [

@@ -1,17 +1,17 @@
 -- How the packed arrays are made, step by step, and what is found in them.
-use Rattle.std.proofs.Common.{◌≡◌, ℕ, zero, suc, ◌+◌, ◌-◌, ◌<◌, ◌≤◌, List, [], ◌∷◌, ◌++◌, true, false, cond, ◌⊎◌, length, map, get_or, slice_index, take, drop, refl, sym, ◌∙◌, ap, subst, arith, inl, inr, eqb-true, eq-eqb, add-one, add-zero, zero-add, append_assoc, length-append, drop-cons}
-use Rattle.std.specs.Prelude.{◌==◌, Option, Some, None, option_map, slice_get}
-use Rattle.std.specs.List.{list_any, list_all}
+use Rattle.std.proofs.Common.{◌≡◌, ℕ, zero, suc, ◌+◌, ◌-◌, ◌<◌, ◌≤◌, List, [], ◌∷◌, ◌++◌, true, ◌⊎◌, length, map, get_or, slice_index, take, drop, refl, sym, ◌∙◌, ap, subst, arith, inl, inr, eq-eqb, add-one, add-zero, zero-add, append_assoc, length-append, drop-cons}
+use Rattle.std.specs.Prelude.{◌==◌, Some, None, option_map, slice_get}
+use Rattle.std.specs.List.{list_all}
 use Rattle.std.specs.List.Sorted.{IsStrictlyIncreasing}
 use Rattle.std.specs.Str.{is_utf8, IsUtf8}
 use Rattle.std.proofs.Math.Nat.{eq-or-lt_of_le}
-use Rattle.std.proofs.lemmas.Bool.{and_from, or_cases, cases_Bool}
+use Rattle.std.proofs.lemmas.Bool.{and_from, cases_lt}
 use Rattle.std.proofs.lemmas.List.{get_or-map, length-map}
 use Rattle.std.proofs.lemmas.Map.Keys.{below_from_sorted, sorted_from_strictly_increasing, IsStrictlyIncreasing-from_sorted, any_passes_from_place}
 use Rattle.std.proofs.lemmas.Option.{slice_get-get_or}
 use Rattle.std.proofs.lemmas.Str.{is_utf8-from_IsUtf8}
 use Rattle.compose_model.specs.Table.{Definition}
-use Rattle.compose_model.specs.Nodes.{nodes, node, edges, has_edge}
+use Rattle.compose_model.specs.Nodes.{nodes, node, edges}
 use Rattle.compose_model.proofs.NodeLemmas.{listed_edge}
 use Rattle.compose_read.specs.Settle.{IsSettled}
 use Rattle.compose_tree.specs.declared.packed.PackedEdge.{PackedEdge}
@@ -20,8 +20,8 @@ use Rattle.compose_tree.specs.declared.table.Target.{Target}
 use Rattle.compose_tree.specs.Targets.{target_of}
 use Rattle.compose_tree.specs.Rows.{NodeRow, row_at, rows_of, row_of, edge_of, where_to}
 use Rattle.compose_tree.specs.Packed.{packed_edge, packed_nodes, packed_edges, packed_places, pool, texts_of, unpacked_target, unpacked, keys_of, with_texts, spelled, unpacked_texts, IsPacked}
-use Rattle.compose_tree.proofs.OneMore.{edges_sorted, edge_is_listed}
-use Rattle.compose_tree.proofs.Lookups.{text_read, target_is, target_at_edge}
+use Rattle.compose_tree.proofs.OneMore.{edges_sorted}
+use Rattle.compose_tree.proofs.Lookups.{text_read, target_at_edge, leads_nowhere, key_read}
 use Rattle.compose_tree.proofs.Unpacking.{piece, unpack_rows, unpack_texts, unpack_target, put_together}
 use Rattle.compose_tree.proofs.Spelling.{spelled_all}
 
@@ -56,13 +56,12 @@ key_there edges m e h at = get_or-map (λ (e : PackedEdge). e.keysym) edges m e 
 keys_length : (edges : List PackedEdge) → length (keys_of edges) ≡ length edges
 keys_length edges = length-map edges (λ (e : PackedEdge). e.keysym)
 
--- where the keysym at m is less, each up to m is less
-pub less_up_to : (edges : List PackedEdge) (key m : ℕ) → IsStrictlyIncreasing (keys_of edges) → m < length edges → slice_index (keys_of edges) m < key → (k : ℕ) → k < m + 1 → slice_index (keys_of edges) k < key
-less_up_to edges key m rise h less k le = go (eq-or-lt_of_le {n = k} {m = m} (omega (arith, le)))
-  where
-    go : (k ≡ m) ⊎ (k < m) → slice_index (keys_of edges) k < key
-    go (inl same) = let P : ℕ → Type 0 = λ n. slice_index (keys_of edges) n < key in subst P (sym same) less
-    go (inr lower) = (let n = keys_length edges in let l : slice_index (keys_of edges) k < slice_index (keys_of edges) m = below_from_sorted (keys_of edges) k m 0 (sorted_from_strictly_increasing (keys_of edges) rise) lower (omega arith) in omega arith)
+-- where the keysym at m is no greater, each below m is less
+pub less_below : (edges : List PackedEdge) (key m : ℕ) → IsStrictlyIncreasing (keys_of edges) → m < length edges → slice_index (keys_of edges) m ≤ key → (k : ℕ) → k < m → slice_index (keys_of edges) k < key
+less_below edges key m rise h less k lower =
+    let n = keys_length edges in
+    let l : slice_index (keys_of edges) k < slice_index (keys_of edges) m = below_from_sorted (keys_of edges) k m 0 (sorted_from_strictly_increasing (keys_of edges) rise) lower (omega arith) in
+    omega arith
 
 -- where the keysym at m is greater, each from m on is greater
 pub greater_from : (edges : List PackedEdge) (key m : ℕ) → IsStrictlyIncreasing (keys_of edges) → key < slice_index (keys_of edges) m → (k : ℕ) → m ≤ k → k < length edges → key < slice_index (keys_of edges) k
@@ -71,6 +70,17 @@ greater_from edges key m rise greater k le h = go (eq-or-lt_of_le le)
     go : (m ≡ k) ⊎ (m < k) → key < slice_index (keys_of edges) k
     go (inl same) = let P : ℕ → Type 0 = λ n. key < slice_index (keys_of edges) n in subst P same greater
     go (inr lower) = (let n = keys_length edges in let l : slice_index (keys_of edges) m < slice_index (keys_of edges) k = below_from_sorted (keys_of edges) m k 0 (sorted_from_strictly_increasing (keys_of edges) rise) lower (omega arith) in omega arith)
+
+-- where the keysym can be at one place alone and is not there, it is nowhere
+pub nowhere_else : (edges : List PackedEdge) (key first count : ℕ) → count ≤ 1 → ((k : ℕ) → k < first → slice_index (keys_of edges) k < key) → ((k : ℕ) → first + count ≤ k → k < length edges → key < slice_index (keys_of edges) k)
+    → (count ≡ 1 → slice_index (keys_of edges) first ≡ key → ⊥) → (k : ℕ) → k < length edges → slice_index (keys_of edges) k ≡ key → ⊥
+nowhere_else edges key first count few below above not_there k h same = elim (cases_lt k first) [
+  | inl lower ↦ (let l = below k lower in omega arith)
+  | inr from ↦ elim (cases_lt k (first + count)) [
+    | inl upper ↦ (let here : k ≡ first = omega arith in not_there (omega arith) (ap (slice_index (keys_of edges)) (sym here) ∙ same))
+    | inr behind ↦ (let g = above k behind h in omega arith)
+  ]
+]
 
 -- ---- the arrays of a table spell it
 
@@ -165,28 +175,18 @@ packed_keys table x (k ∷ ks) = ap (λ z. k ∷ z) (packed_keys table x ks)
 pub keys_rise : (table : List Definition) (x : List ℕ) (es : List PackedEdge) → es ≡ map packed_edge (map (edge_of table x) (edges table x)) → IsStrictlyIncreasing (keys_of es)
 keys_rise table x es e = subst IsStrictlyIncreasing (sym (ap keys_of e ∙ packed_keys table x (edges table x))) (IsStrictlyIncreasing-from_sorted (edges table x) (edges_sorted table x))
 
-place_in : (k : ℕ) (ks : List ℕ) → list_any (λ j. k == j) ks ≡ true → (m : ℕ) × (m < length ks) × (get_or ks m 0 ≡ k)
-place_in k [] h = cc
-place_in k (j ∷ ks) h = elim (or_cases (k == j) (list_any (λ i. k == i) ks) h) [
-  | inl e ↦ (0, omega arith, sym (eqb-true k j e))
-  | inr e ↦ (let q = place_in k ks e in (suc q.0, (let l = q.1 in omega arith), q.2))
-]
-
 -- where no edge has the keysym, it leads nowhere
 pub step_none : (table : List Definition) (x : List ℕ) (k : ℕ) (es : List PackedEdge) → es ≡ map packed_edge (map (edge_of table x) (edges table x)) → ((m : ℕ) → m < length es → slice_index (keys_of es) m ≡ k → ⊥) → None ≡ target_of table x k
-step_none table x k es e none = sym (target_is table x k ∙ ap (λ b. cond {A = Option Target} b (Some (where_to table (x ++ k ∷ []))) None) (no_edge (cases_Bool (has_edge table x k))))
-  where
-    keys : keys_of es ≡ edges table x
-    keys = ap keys_of e ∙ packed_keys table x (edges table x)
+step_none table x k es e none =
+    let n : length (keys_of es) ≡ length es = keys_length es in
+    leads_nowhere table x k (keys_of es) (ap keys_of e ∙ packed_keys table x (edges table x)) (λ m h. none m (omega arith))
 
-    no_edge : (has_edge table x k ≡ true) ⊎ (has_edge table x k ≡ false) → has_edge table x k ≡ false
-    no_edge (inl f) =
-        let q = place_in k (edges table x) (edge_is_listed table x k ∙ f) in
-        let n : length (keys_of es) ≡ length (edges table x) = ap length keys in
-        let m : length (keys_of es) ≡ length es = keys_length es in
-        let l = q.1 in
-        absurd (none q.0 (omega arith) (ap (λ ks. get_or ks q.0 0) keys ∙ q.2))
-    no_edge (inr f) = f
+-- the keysym at a place is that of the node's edge
+pub place_read : (table : List Definition) (x : List ℕ) (k i : ℕ) (es : List PackedEdge) → es ≡ map packed_edge (map (edge_of table x) (edges table x)) → i < length es → slice_index (keys_of es) i ≡ k
+    → (i < length (edges table x)) × (slice_get (edges table x) i ≡ Some k)
+place_read table x k i es e h is =
+    let n : length (keys_of es) ≡ length es = keys_length es in
+    key_read (edges table x) (keys_of es) k i (ap keys_of e ∙ packed_keys table x (edges table x)) (omega arith) is
 
 -- an edge that is packed is the table's edge of its keysym
 packed_edge_is : (table : List Definition) (x : List ℕ) (i : ℕ) (es : List PackedEdge) (e : PackedEdge) → es ≡ map packed_edge (map (edge_of table x) (edges table x)) → i < length es → e ≡ get_or es i e → e ≡ packed_edge (edge_of table x (get_or (edges table x) i 0))

@@ -22,6 +22,10 @@ edge_of table p k = record { keysym = k; target = where_to table (p ++ k ∷ [])
 abbrev pub row_of : List Definition → List ℕ → NodeRow
 row_of table p = record { depth = length p; edges = map (edge_of table p) (edges table p) }
 
+-- the keysyms of some edges
+abbrev pub keysyms_of : List Edge → List ℕ
+keysyms_of edges = map (λ e. e.keysym) edges
+
 -- a row for each node, in order
 abbrev pub rows_of : List Definition → List NodeRow
 rows_of table = map (row_of table) (nodes table)

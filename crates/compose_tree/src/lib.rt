@@ -12,6 +12,7 @@
 #![tactic(auto)]
 
 mod edge;
+mod guesses;
 mod list_table;
 mod packed;
 mod packed_table;

@@ -1,6 +1,7 @@
 //! The plain form of a table: its sequences, and a row of edges for each node.
-ghost use Rattle.std.specs.Prelude.{◌≡◌, nat_eq, option_map};
+ghost use Rattle.std.specs.Prelude.{◌≡◌, ◌<◌, ℕ, length, nat_eq, option_map, slice_index, MatchOption};
 ghost use Rattle.std.specs.List.{find};
+ghost use Rattle.compose_tree.specs.Rows.{keysyms_of};
 
 use crate::edge::Edge;
 use crate::rows::{Row, build_rows};
@@ -10,7 +11,7 @@ use keysym_core::Keysym;
 use std::alloc::Global;
 use std::marker::Model;
 
-/// A table as rows of nodes, with the sequences beside them. Its `step` is a scan, O(edges of the node).
+/// A table as rows of nodes, with the sequences beside them. Its `find` and `step` are scans, O(edges of the node).
 #[derive(Drop)]
 pub struct ListTable {
     sequences: Sequences,
@@ -39,6 +40,18 @@ fn target_in(edges: &[Edge], keysym: Keysym) -> Option<Target>
     for edge in edges {
         if edge.keysym == keysym {
             return Some(edge.target);
+        }
+    }
+    None
+}
+
+/// Where a keysym stands among a node's edges. O(edges).
+fn place_in(edges: &[Edge], keysym: Keysym) -> Option<usize>
+    ensures { MatchOption result ((k : ℕ) → k < length edges.now → slice_index (keysyms_of edges.now) k ≡ keysym → ⊥) (λ i. (i < length edges.now) × (slice_index (keysyms_of edges.now) i ≡ keysym)) }
+{
+    for (place, edge) in edges.iter().enumerate() {
+        if edge.keysym == keysym {
+            return Some(place);
         }
     }
     None
@@ -86,6 +99,13 @@ impl ComposeTable for ListTable {
     fn edge(&self, node: NodeId, index: u32) -> (Keysym, Target) {
         let edge = self.row(node).edges()[index as usize];
         (edge.keysym, edge.target)
+    }
+
+    fn find(&self, node: NodeId, keysym: Keysym) -> Option<u32> {
+        let Some(place) = place_in(self.row(node).edges(), keysym) else {
+            return None;
+        };
+        Some(place as u32)
     }
 
     fn step(&self, node: NodeId, keysym: Keysym) -> Option<Target> {

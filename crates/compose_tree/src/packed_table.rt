@@ -16,7 +16,8 @@
 //! texts             x        y z      w
 //! ```
 //!
-//! A node's edges stand together and rise by their keysyms; they end where the next node's begin.
+//! A node's edges stand together and rise by their keysyms; they end where the next node's begin. Beside the arrays are
+//! guesses of where each edge stands, which a search looks at first. They have no part in what the table means.
 ghost use Rattle.std.specs.Prelude.{◌≡◌, ◌<◌, ◌≤◌, ◌+◌, ◌++◌, ℕ, length, map, slice_index, MatchOption, IfOk, OnOk, IsTrue, string_bytes};
 ghost use Rattle.std.specs.List.{list_all};
 ghost use Rattle.std.specs.List.Sorted.{IsStrictlyIncreasing};
@@ -25,6 +26,7 @@ ghost use Rattle.compose_tree.specs.Packed as words;
 ghost use Rattle.compose_tree.specs.Packed.{keys_of, packed_edge, packed_target, unpacked_target, packed_nodes, packed_edges, packed_places, pool, texts_of};
 
 use crate::edge::Edge;
+use crate::guesses::Guesses;
 use crate::packed::{PackedEdge, PackedNode};
 use crate::rows::{Row, build_rows};
 use crate::table::{BuildFault, ComposeTable, LeafId, NodeId, Target};
@@ -33,13 +35,17 @@ use keysym_core::Keysym;
 use std::alloc::{AllocError, Global};
 use std::marker::Model;
 
-/// A table as flat arrays: 8 bytes a node, 8 bytes an edge, 4 bytes a leaf and its text.
+/// Every keysym is below this.
+const KEYSYMS: u32 = Keysym::GREATEST + 1;
+
+/// A table as flat arrays: 8 bytes a node, 12 bytes an edge (4 of them its guesses), 4 bytes a leaf and its text.
 #[derive(Drop)]
 pub struct PackedTable {
     nodes: Vec<PackedNode>,
     edges: Vec<PackedEdge>,
     places: Vec<u32>,
     texts: String,
+    guesses: Guesses,
 }
 
 impl Model for PackedTable {
@@ -157,27 +163,43 @@ fn pack_texts(alloc: Global, sequences: &Sequences, count: usize) -> Result<Stri
     Ok(texts)
 }
 
+/// 1 where the keysym is no greater than the other, and else 0. By arithmetic, since a comparison becomes a branch, which a
+/// search mispredicts half of the time.
+fn at_most(keysym: Keysym, other: Keysym) -> usize
+    ensures one { keysym ≤ other → result ≡ 1 }
+    ensures zero { other < keysym → result ≡ 0 }
+{
+    ((other.value() + KEYSYMS - keysym.value()) / KEYSYMS) as usize
+}
+
 /// Where a keysym stands among rising edges. O(log edges).
 fn place_of(edges: &[PackedEdge], keysym: Keysym) -> Option<usize>
     requires { IsStrictlyIncreasing (keys_of edges.now) }
     ensures { MatchOption result ((k : ℕ) → k < length edges.now → slice_index (keys_of edges.now) k ≡ keysym → ⊥) (λ i. (i < length edges.now) × (slice_index (keys_of edges.now) i ≡ keysym)) }
 {
-    let wanted = keysym.value();
-    let mut low = 0;
-    let mut high = edges.len();
-    while low < high {
-        let middle = low + (high - low) / 2;
-        let there = edges[middle].keysym.value();
-        if there == wanted {
-            return Some(middle);
-        }
-        if there < wanted {
-            low = middle + 1;
-        } else {
-            high = middle;
-        }
+    let mut first = 0;
+    let mut count = edges.len();
+    while count > 1 {
+        let half = count / 2;
+        first += half * at_most(edges[first + half].keysym, keysym);
+        count -= half;
     }
-    None
+    if count == 1 && edges[first].keysym == keysym {
+        Some(first)
+    } else {
+        None
+    }
+}
+
+/// Where a keysym stands among rising edges. O(1) where the guess is right, and else O(log edges).
+fn place_by_guess(edges: &[PackedEdge], keysym: Keysym, guess: usize) -> Option<usize>
+    requires { IsStrictlyIncreasing (keys_of edges.now) }
+    ensures { MatchOption result ((k : ℕ) → k < length edges.now → slice_index (keys_of edges.now) k ≡ keysym → ⊥) (λ i. (i < length edges.now) × (slice_index (keys_of edges.now) i ≡ keysym)) }
+{
+    if guess < edges.len() && edges[guess].keysym == keysym {
+        return Some(guess);
+    }
+    place_of(edges, keysym)
 }
 
 /// The table of these arrays, which are those of the sequences.
@@ -187,6 +209,7 @@ fn from_arrays(
     edges: Vec<PackedEdge>,
     places: Vec<u32>,
     texts: String,
+    guesses: Guesses,
 ) -> PackedTable
     requires { words.IsPacked nodes.items edges.items places.items (string_bytes texts) sequences.now }
     ensures { result ≡ sequences.now }
@@ -197,6 +220,7 @@ fn from_arrays(
         edges,
         places,
         texts,
+        guesses,
     }
 }
 
@@ -232,7 +256,8 @@ impl ComposeTable for PackedTable {
         let places = pack_places(alloc, &sequences)?;
         let byte_count = places.last().map_or(0, |end| *end as usize);
         let texts = pack_texts(alloc, &sequences, byte_count)?;
-        Ok(from_arrays(&sequences, nodes, edges, places, texts))
+        let guesses = Guesses::new(alloc, &rows, edge_count)?;
+        Ok(from_arrays(&sequences, nodes, edges, places, texts, guesses))
     }
 
     fn node_count(&self) -> u32 {
@@ -256,9 +281,18 @@ impl ComposeTable for PackedTable {
         (edge.keysym, unpack_target(edge.target))
     }
 
+    fn find(&self, node: NodeId, keysym: Keysym) -> Option<u32> {
+        let guess = self.guesses.place(node, keysym);
+        let Some(place) = place_by_guess(self.edges_of(node), keysym, guess) else {
+            return None;
+        };
+        Some(place as u32)
+    }
+
     fn step(&self, node: NodeId, keysym: Keysym) -> Option<Target> {
         let edges = self.edges_of(node);
-        let Some(place) = place_of(edges, keysym) else {
+        let guess = self.guesses.place(node, keysym);
+        let Some(place) = place_by_guess(edges, keysym, guess) else {
             return None;
         };
         Some(unpack_target(edges[place].target))

@@ -1,5 +1,5 @@
 //! What every table offers: its nodes, leaves and edges by number.
-ghost use Rattle.std.specs.Prelude.{◌≡◌, ◌<◌, ◌≤◌, ◌+◌, List, ℕ, Some, length, slice_get, IfOk, IfErr};
+ghost use Rattle.std.specs.Prelude.{◌≡◌, ◌<◌, ◌≤◌, ◌+◌, List, ℕ, Some, None, length, slice_get, MatchOption, IfOk, IfErr};
 ghost use Rattle.compose_model.specs.Table.{Definition};
 ghost use Rattle.compose_model.specs.Nodes as words;
 ghost use Rattle.compose_model.specs.Nodes.{nodes, leaves, edges};
@@ -99,6 +99,11 @@ pub trait ComposeTable: Sized + Drop {
         requires edge_in_range { index < length (edges (definitions self.now) (words.node (definitions self.now) node.0)) }
         ensures keysym { slice_get (edges (definitions self.now) (words.node (definitions self.now) node.0)) index ≡ Some result.0 }
         ensures target { target_of (definitions self.now) (words.node (definitions self.now) node.0) result.0 ≡ Some result.1 };
+
+    /// The place of the edge of this keysym among the node's edges, if the node has it. O(log edges of the node).
+    fn find(&self, node: NodeId, keysym: Keysym) -> Option<u32>
+        requires { node.0 < length (nodes (definitions self.now)) }
+        ensures { MatchOption result (target_of (definitions self.now) (words.node (definitions self.now) node.0) keysym ≡ None) (λ place. (place < length (edges (definitions self.now) (words.node (definitions self.now) node.0))) × (slice_get (edges (definitions self.now) (words.node (definitions self.now) node.0)) place ≡ Some keysym)) };
 
     /// Where the edge of this keysym leads, if the node has it. O(log edges of the node).
     fn step(&self, node: NodeId, keysym: Keysym) -> Option<Target>

@@ -2,7 +2,10 @@
 ghost use Rattle.std.specs.Prelude.{◌<◌, length};
 ghost use Rattle.compose_model.specs.Nodes.{nodes};
 
-use crate::{ComposeTable, LeafId, ListTable, NodeId, PackedTable, Target, read_table};
+use crate::{
+    BuildFault, ComposeTable, LeafId, ListTable, NodeId, PackedTable, TableFault, Target,
+    read_table,
+};
 use compose_model::Rule;
 use compose_read::Sources;
 use keysym_core::{Keysym, Names};
@@ -93,18 +96,18 @@ static MANY_NODES: [(u32, &str); 2] = [
 static TAIL: &str =
     "<a><a><a><a><a><a><a><a><a><a><a><a><a><a><a><a><a><a><a><a><a><a><a><a><a><a><a><a><a><a><a>:\"x\"\n";
 
-/// Prints an edge, and a mark where a step along it leads elsewhere.
+/// Prints an edge, and a mark unless it is found by its keysym.
 fn print_edge(
     text: &mut String,
     keysym: Keysym,
     target: Target,
-    step: Option<Target>,
+    found: bool,
 ) -> Result<(), AllocError> {
     let (kind, number) = match target {
         Target::Node(node) => ("n", node.0),
         Target::Leaf(leaf) => ("l", leaf.0),
     };
-    let mark = if step == Some(target) { "" } else { "!" };
+    let mark = if found { "" } else { "!" };
     let value = keysym.value();
     write!(text, "{value:x}={kind}{number}{mark},")?;
     Ok(())
@@ -118,7 +121,9 @@ fn print_node<T: ComposeTable>(text: &mut String, table: &T, node: NodeId) -> Re
     write!(text, "{depth}[")?;
     for index in 0..table.edge_count(node) {
         let (keysym, target) = table.edge(node, index);
-        print_edge(text, keysym, target, table.step(node, keysym))?;
+        let found = table.find(node, keysym) == Some(index)
+            && table.step(node, keysym) == Some(target);
+        print_edge(text, keysym, target, found)?;
     }
     text.push_str("]")?;
     Ok(())
@@ -292,4 +297,18 @@ fn lists_as_many_nodes_as_may_be(rt: HostRuntime) -> Result<(), Fail> {
 #[test]
 fn packs_as_many_nodes_as_may_be(rt: HostRuntime) -> Result<(), Fail> {
     check_nodes::<PackedTable>(&rt, rt.alloc(), &MANY_NODES)
+}
+
+#[test]
+fn prints_want_of_memory(rt: HostRuntime) -> Result<(), Fail> {
+    let alloc = rt.alloc();
+    assert_eq!(rt;
+        format!(in alloc; "{}", TableFault::NoMemory)?.as_str(),
+        "4 NoMemory"
+    );
+    assert_eq!(rt;
+        format!(in alloc; "{}", BuildFault::NoMemory)?.as_str(),
+        "2 NoMemory"
+    );
+    Ok(())
 }

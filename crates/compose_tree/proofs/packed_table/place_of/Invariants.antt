@@ -1,14 +1,14 @@
-use Rattle.std.proofs.Common.{◌-◌, ◌<◌, ◌≤◌, ℕ, length, slice_index}
+use Rattle.std.proofs.Common.{◌+◌, ◌<◌, ◌≤◌, ℕ, length, slice_index}
 use Rattle.compose_tree.specs.Packed.{keys_of}
 use Rattle.compose_tree.proofs.packed_table.place_of.Given as goal
 
-abbrev pub invariant-loop-low : goal.invariant-loop-low
-invariant-loop-low l = record {
-  ends : l.high ≤ length l.edges;
-  order : l.low ≤ l.high;
-  below : (k : ℕ) → k < l.low → slice_index (keys_of l.edges) k < l.wanted;
-  above : (k : ℕ) → l.high ≤ k → k < length l.edges → l.wanted < slice_index (keys_of l.edges) k;
+-- where the keysym is at all, it is at one of so many places from the first
+abbrev pub invariant-loop-count : goal.invariant-loop-count
+invariant-loop-count l = record {
+  within : l.first + l.count ≤ length l.edges;
+  below : (k : ℕ) → k < l.first → slice_index (keys_of l.edges) k < l.keysym;
+  above : (k : ℕ) → l.first + l.count ≤ k → k < length l.edges → l.keysym < slice_index (keys_of l.edges) k;
 }
 
-abbrev pub decreases-loop-low : goal.decreases-loop-low
-decreases-loop-low l = l.high - l.low
+abbrev pub decreases-loop-count : goal.decreases-loop-count
+decreases-loop-count l = l.count

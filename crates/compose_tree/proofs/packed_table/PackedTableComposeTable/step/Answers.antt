@@ -6,8 +6,8 @@ use Rattle.compose_tree.specs.Targets.{target_of}
 use Rattle.compose_tree.proofs.PackedLookups.{keys_rise, step_none, key_there, edge_read}
 use Rattle.compose_tree.proofs.packed_table.PackedTableComposeTable.step.Goals as goal
 
-pub place_of-requires : goal.place_of-requires
-place_of-requires c = keys_rise c.args.self.now (node c.args.self.now c.args.node.0) c.edges_of-edges.result.now c.edges_of-edges.ensures.value
+pub place_by_guess-requires : goal.place_by_guess-requires
+place_by_guess-requires c = keys_rise c.args.self.now (node c.args.self.now c.args.node.0) c.edges_of-edges.result.now c.edges_of-edges.ensures.value
 
 pub returns-in_default : goal.returns-in_default
 returns-in_default c = step_none c.args.self.now (node c.args.self.now c.args.node.0) c.args.keysym c.edges_of-edges.result.now c.edges_of-edges.ensures.value c.in_default.ensures

@@ -1,0 +1,59 @@
+//! Guesses of where an edge stands, by node and keysym.
+use crate::edge::Edge;
+use crate::rows::Row;
+use crate::table::NodeId;
+use keysym_core::Keysym;
+use std::alloc::{AllocError, Global};
+
+/// How many guesses there are for each edge: the more, the fewer edges fall together.
+const GUESSES_PER_EDGE: usize = 4;
+
+/// For the edges of all nodes, where each stands among its node's edges: 4 bytes an edge.
+///
+/// Where two edges fall together, the guess for one of them is wrong, and there is none for a place behind the 256th. So a guess is
+/// checked before it is used.
+#[derive(Drop)]
+pub struct Guesses {
+    places: Vec<u8>,
+}
+
+impl Guesses {
+    /// The guesses for these nodes, which have so many edges in all. O(edges).
+    pub fn new(alloc: Global, rows: &[Row], edge_count: usize) -> Result<Guesses, AllocError> {
+        let mut guesses = Guesses {
+            places: vec![in alloc; 0; edge_count.saturating_mul(GUESSES_PER_EDGE)]?,
+        };
+        let mut number = 0u32;
+        for row in rows {
+            guesses.note(NodeId(number), row.edges());
+            number = number.saturating_add(1);
+        }
+        Ok(guesses)
+    }
+
+    /// The guess for the edge of this keysym at the node. O(1).
+    pub fn place(&self, node: NodeId, keysym: Keysym) -> usize {
+        match self.places.get(self.slot(node, keysym)) {
+            Some(place) => usize::from(*place),
+            None => 0,
+        }
+    }
+
+    /// Notes where a node's edges stand.
+    fn note(&mut self, node: NodeId, edges: &[Edge]) {
+        for (place, edge) in edges.iter().enumerate() {
+            let slot = self.slot(node, edge.keysym);
+            if let (Some(guess), Ok(place)) = (self.places.get_mut(slot), u8::try_from(place)) {
+                *guess = place;
+            }
+        }
+    }
+
+    /// Which guess is that for this keysym at the node: a hash of both, scaled to the number of guesses.
+    fn slot(&self, node: NodeId, keysym: Keysym) -> usize {
+        let of_node = node.0.wrapping_mul(0x9e37_79b1);
+        let of_keysym = keysym.value().wrapping_mul(0x85eb_ca6b);
+        let hash = u64::from(of_node.wrapping_add(of_keysym));
+        (hash.wrapping_mul(self.places.len() as u64) >> 32) as usize
+    }
+}
