@@ -1,5 +1,5 @@
 //! A compose state: what is pending, and the status.
-ghost use Rattle.std.specs.Prelude.{◌≡◌, ◌≤◌, ◌<◌, length, [], ◌∷◌, ◌++◌, Some, true, if◌then◌else◌};
+ghost use Rattle.std.specs.Prelude.{◌≡◌, ◌≤◌, ◌<◌, length, [], ◌∷◌, ◌++◌, Some, option_map, true, if◌then◌else◌};
 ghost use Rattle.compose_model.specs.Step.{is_empty, pending};
 ghost use Rattle.compose_model.specs.declared.Status.TheVariants.{Nothing, Cancelled};
 ghost use Rattle.compose_model.specs.Nodes as words;
@@ -22,6 +22,8 @@ use std::marker::Model;
 #[derive(Drop)]
 pub struct ComposeState {
     pending: ArrayVec<Keysym, 31>,
+    // for each pending keysym, where its edge stood in the table that it was fed with: a hint, which is checked and never trusted
+    places: [u32; 31],
     status: Status,
 }
 
@@ -40,6 +42,7 @@ impl ComposeState {
     {
         ComposeState {
             pending: ArrayVec::new(),
+            places: [0; 31],
             status: Status::Nothing,
         }
     }
@@ -67,7 +70,8 @@ impl ComposeState {
         self.status = Status::Nothing;
     }
 
-    /// Feeds one key (xkb_compose_state_feed). Takes no memory; O(pending keysyms × log edges of a node).
+    /// Feeds one key (xkb_compose_state_feed). Takes no memory; O(pending keysyms + log edges of a node) where the pending
+    /// keysyms were fed with this table, and else O(pending keysyms × log edges of a node).
     pub fn feed<'t, T: ComposeTable>(
         &mut self,
         table: &'t T,
@@ -84,8 +88,9 @@ impl ComposeState {
                 text: FedText::Empty,
             };
         }
-        match target(table, self.pending.as_slice(), keysym) {
-            Some(Target::Node(_)) => {
+        match target(table, self.pending.as_slice(), &self.places, keysym) {
+            Some((place, Target::Node(_))) => {
+                self.places[self.pending.len()] = place;
                 self.pending.push(keysym);
                 self.status = Status::Composing;
                 return Fed {
@@ -94,7 +99,7 @@ impl ComposeState {
                     text: FedText::Empty,
                 };
             }
-            Some(Target::Leaf(leaf)) => {
+            Some((_, Target::Leaf(leaf))) => {
                 self.pending.clear();
                 self.status = Status::Composed;
                 return Fed {
@@ -109,7 +114,7 @@ impl ComposeState {
 
     /// Goes over to the table: the pending keysyms are fed to it from rest. The status becomes composing where something is
     /// pending then, and nothing where it was composing and nothing is pending; no text is committed.
-    /// Takes no memory; O(pending keysyms² × log edges of a node).
+    /// Takes no memory; O(pending keysyms × (pending keysyms + log edges of a node)).
     pub fn refeed<T: ComposeTable>(&mut self, table: &T, names: &Names)
         ensures { self.new ≡ loaded (T.definitions table.now) self.old }
     {
@@ -120,6 +125,7 @@ impl ComposeState {
             self.status = Status::Nothing;
         }
         self.pending = refed.pending;
+        self.places = refed.places;
     }
 
     /// Feeds a key that no sequence has behind what is pending: it passes where nothing is pending, and else cancels.
@@ -180,25 +186,51 @@ fn child<T: ComposeTable>(table: &T, node: NodeId, keysym: Keysym) -> Option<Nod
     }
 }
 
-/// The node of these keysyms, if they are a node of the table.
-fn node_of<T: ComposeTable>(table: &T, keysyms: &[Keysym]) -> Option<NodeId>
+/// The node behind the keysym, if a sequence goes on there. Looks at this place among the node's edges first.
+fn child_at<T: ComposeTable>(table: &T, node: NodeId, keysym: Keysym, place: u32) -> Option<NodeId>
+    requires { node.0 < length (nodes (T.definitions table.now)) }
+    ensures { result ≡ node_id (T.definitions table.now) (words.node (T.definitions table.now) node.0 ++ keysym ∷ []) }
+{
+    if place < table.edge_count(node) {
+        let (there, target) = table.edge(node, place);
+        if there == keysym {
+            return match target {
+                Target::Node(next) => Some(next),
+                Target::Leaf(_) => None,
+            };
+        }
+    }
+    child(table, node, keysym)
+}
+
+/// The node of these keysyms, if they are a node of the table. The places are hints.
+fn node_of<T: ComposeTable>(table: &T, keysyms: &[Keysym], places: &[u32; 31]) -> Option<NodeId>
+    requires { length keysyms.now ≤ 31 }
     ensures { result ≡ node_id (T.definitions table.now) keysyms.now }
 {
     let mut node = NodeId(0);
-    for keysym in keysyms {
-        node = child(table, node, *keysym)?;
+    for (index, keysym) in keysyms.iter().enumerate() {
+        node = child_at(table, node, *keysym, places[index])?;
     }
     Some(node)
 }
 
-/// Where the keysym leads behind the pending ones, if they are a node of the table and it has such an edge.
-fn target<T: ComposeTable>(table: &T, pending: &[Keysym], keysym: Keysym) -> Option<Target>
-    ensures value { result ≡ target_of (T.definitions table.now) pending.now keysym }
-    ensures room { (node : _) → result ≡ Some (Target.Node node) → length pending.now < 31 }
-    ensures leaf { (leaf : _) → result ≡ Some (Target.Leaf leaf) → leaf.0 < length (leaves (T.definitions table.now)) }
+/// The place of the keysym's edge and where it leads behind the pending ones, if they are a node of the table and it has such an edge.
+fn target<T: ComposeTable>(
+    table: &T,
+    pending: &[Keysym],
+    places: &[u32; 31],
+    keysym: Keysym,
+) -> Option<(u32, Target)>
+    requires { length pending.now ≤ 31 }
+    ensures value { option_map (λ found. found.1) result ≡ target_of (T.definitions table.now) pending.now keysym }
+    ensures room { (place : _) → (node : _) → result ≡ Some (place, Target.Node node) → length pending.now < 31 }
+    ensures leaf { (place : _) → (leaf : _) → result ≡ Some (place, Target.Leaf leaf) → leaf.0 < length (leaves (T.definitions table.now)) }
 {
     // every table is settled, which its count of nodes tells
     let _nodes = table.node_count();
-    let node = node_of(table, pending)?;
-    table.step(node, keysym)
+    let node = node_of(table, pending, places)?;
+    let place = table.find(node, keysym)?;
+    let (_, target) = table.edge(node, place);
+    Some((place, target))
 }

@@ -1,20 +1,20 @@
 use Rattle.std.proofs.Common.{sym, ◌∙◌}
-use Rattle.compose_state.proofs.Places.{at_root, at_in_range, at_next, at_stop, at_end}
+use Rattle.compose_state.proofs.Places.{at_root, at_in_range, at_next, at_stop}
 use Rattle.compose_state.proofs.state.node_of.Goals as goal
 
-pub loop-keysym-init : goal.loop-keysym-init
-loop-keysym-init g c = at_root (g.T.ComposeTable.definitions c.args.table.now) c.args.keysyms.now
+pub loop-index-init : goal.loop-index-init
+loop-index-init g c = at_root (g.T.ComposeTable.definitions c.args.table.now) c.args.keysyms.now
 
-pub child-requires : goal.child-requires
-child-requires g c = at_in_range (g.T.ComposeTable.definitions c.args.table.now) c.args.keysyms.now c.loop-keysym.keysym-index c.loop-keysym.node.0 c.loop-keysym.invariant
+pub child_at-requires : goal.child_at-requires
+child_at-requires g c = at_in_range (g.T.ComposeTable.definitions c.args.table.now) c.args.keysyms.now c.loop-index.index c.loop-index.node.0 c.loop-index.invariant
 
 pub returns-in_err-node : goal.returns-in_err-node
 returns-in_err-node g c =
     c.from_residual.ensures ∙
-    sym (at_stop (g.T.ComposeTable.definitions c.args.table.now) c.args.keysyms.now c.loop-keysym.keysym-index c.loop-keysym.node.0 c.keysym-item.result c.keysym-item.result
-    c.loop-keysym.invariant c.loop-keysym-test.true c.keysym-item.is (sym c.child.ensures ∙ c.in_err-node.was))
+    sym (at_stop (g.T.ComposeTable.definitions c.args.table.now) c.args.keysyms.now c.loop-index.index c.loop-index.node.0 c.index-keysyms-index.result c.index-keysyms-index.result
+    c.loop-index.invariant c.loop-index-test.true c.index-keysyms-index.is (sym c.child_at.ensures ∙ c.in_err-node.was))
 
-pub loop-keysym-preserved : goal.loop-keysym-preserved
-loop-keysym-preserved g c =
-    at_next (g.T.ComposeTable.definitions c.args.table.now) c.args.keysyms.now c.loop-keysym.keysym-index c.loop-keysym.node.0 c.keysym-item.result c.keysym-item.result c.in_ok-node.node
-    c.loop-keysym.invariant c.loop-keysym-test.true c.keysym-item.is (sym c.child.ensures ∙ c.in_ok-node.was)
+pub loop-index-preserved : goal.loop-index-preserved
+loop-index-preserved g c =
+    at_next (g.T.ComposeTable.definitions c.args.table.now) c.args.keysyms.now c.loop-index.index c.loop-index.node.0 c.index-keysyms-index.result c.index-keysyms-index.result c.in_ok-node.node
+    c.loop-index.invariant c.loop-index-test.true c.index-keysyms-index.is (sym c.child_at.ensures ∙ c.in_ok-node.was)
