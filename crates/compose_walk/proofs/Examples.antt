@@ -1,13 +1,21 @@
 -- Small tables, walked by the definitions.
-use Rattle.std.proofs.Common.{◌≡◌, ℕ, List, [], ◌∷◌, ◌++◌, refl, true, false}
+use Rattle.std.proofs.Common.{◌≡◌, ℕ, zero, suc, List, [], ◌∷◌, ◌++◌, map, refl, sym, subst, arith, true, false}
 use Rattle.std.specs.Prelude.{Some, codes}
 use Rattle.std.specs.Char.{encode_utf8}
+use Rattle.std.specs.Fmt.{digits}
+use Rattle.std.specs.List.Sorted.{IsPermutation, IsSortedBy}
+use Rattle.std.proofs.lemmas.List.Sorted.{IsPermutation-refl}
 use Rattle.keysym_core.specs.Names.{KeysymNames}
 use Rattle.compose_model.specs.Table.{Definition}
 use Rattle.compose_model.specs.Follows.{cancelled, text_differs, waiting}
-use Rattle.compose_walk.specs.Evidence.{comes_first}
-use Rattle.compose_walk.specs.Explained.{explained}
+use Rattle.compose_model.specs.Nodes.{nodes}
+use Rattle.compose_model.specs.Certificate.{AreFresh}
+use Rattle.compose_walk.specs.Evidence.{Evidence, AreDifferences, comes_first}
+use Rattle.compose_walk.specs.Explained.{explained, all_explained}
 use Rattle.compose_walk.specs.Pass.{difference_at, agrees, differing_edges, differing_starts}
+use Rattle.compose_walk.specs.Stands.{all_found, comes_sooner, evidence_found}
+use Rattle.compose_walk.specs.declared.pass.Found.{Found}
+use Rattle.compose_walk.proofs.Order.{all_differences}
 
 abbrev core : KeysymNames
 core = record { names = record { name = codes "dead_acute"; value = 0xfe51 } ∷ record { name = codes "e"; value = 0x65 } ∷ []; characters = [] }
@@ -113,3 +121,56 @@ shorter_before = refl
 
 not_deep_first : comes_first (0xfe50 ∷ 0x61 ∷ []) (0xfe51 ∷ []) ≡ false
 not_deep_first = refl
+
+-- ---- all differences of two tables
+
+abbrev named : KeysymNames
+named = record { names = record { name = codes "dead_grave"; value = 0xfe50 } ∷ record { name = codes "dead_acute"; value = 0xfe51 } ∷ record { name = codes "a"; value = 0x61 } ∷ []; characters = [] }
+
+-- <dead_grave> <a> : "x", and <dead_acute> <e> : "y" in its place
+abbrev grave_a : List Definition
+grave_a = record { sequence = 0xfe50 ∷ 0x61 ∷ []; text = codes "x" } ∷ []
+
+abbrev acute_e_line : List Definition
+acute_e_line = record { sequence = 0xfe51 ∷ 0x65 ∷ []; text = codes "y" } ∷ []
+
+-- the new table waits after dead_acute, and types no "x"
+abbrev both : List Evidence
+both = record { keys = 0xfe51 ∷ []; kind = waiting; old_text = []; new_text = [] } ∷ record { keys = 0xfe50 ∷ 0x61 ∷ []; kind = text_differs; old_text = codes "x"; new_text = codes "a" } ∷ []
+
+abbrev both_found : List Found
+both_found = record { depth = 0; node = 0; keysym = 0xfe51 } ∷ record { depth = 1; node = 1; keysym = 0x61 } ∷ []
+
+found_are : all_found named [] grave_a acute_e_line (nodes grave_a) ≡ both_found
+unfolding encode_utf8
+found_are = refl
+
+in_order : IsSortedBy comes_sooner both_found
+in_order zero d low high = refl
+in_order (suc k) d low high = absurd (omega arith)
+
+none_fresh : AreFresh [] grave_a
+none_fresh = record { rise = refl; none_ignored = refl; none_used = refl }
+
+told : map (evidence_found named grave_a acute_e_line) both_found ≡ both
+unfolding encode_utf8
+told = refl
+
+these_two : AreDifferences named [] grave_a acute_e_line both
+these_two =
+    subst (AreDifferences named [] grave_a acute_e_line) told
+    (all_differences named [] grave_a acute_e_line refl refl none_fresh both_found (subst (λ (xs : List Found). IsPermutation xs both_found) (sym found_are) (IsPermutation-refl both_found)) in_order)
+
+these_two_text : all_explained named both
+    ≡ codes "keys dead_acute" ++ 10 ∷ codes "kind waiting" ++ 10 ∷ codes "old " ++ 34 ∷ 34 ∷ 10 ∷ codes "new " ++ 34 ∷ 34 ∷ 10 ∷ 10 ∷ codes "keys dead_grave a" ++ 10 ∷ codes "kind text" ++ 10 ∷ codes "old " ++ 34 ∷ codes "x" ++ 34 ∷ 10 ∷ codes "new "
+    ++ 34 ∷ codes "a" ++ 34 ∷ 10 ∷ 10 ∷ codes "2 differences: 1 text, 0 cancelled, 1 waiting" ++ 10 ∷ []
+unfolding digits
+these_two_text = refl
+
+one_alone : all_explained named (record { keys = 0xfe51 ∷ []; kind = waiting; old_text = []; new_text = [] } ∷ [])
+    ≡ codes "keys dead_acute" ++ 10 ∷ codes "kind waiting" ++ 10 ∷ codes "old " ++ 34 ∷ 34 ∷ 10 ∷ codes "new " ++ 34 ∷ 34 ∷ 10 ∷ 10 ∷ codes "1 difference: 0 text, 0 cancelled, 1 waiting" ++ 10 ∷ []
+unfolding digits
+one_alone = refl
+
+none_text : all_explained named [] ≡ codes "follows" ++ 10 ∷ []
+none_text = refl

@@ -21,7 +21,7 @@ use Rattle.compose_model.proofs.Exact.{walked_simulate, refutes}
 use Rattle.compose_model.proofs.Sorted.{walked_rise}
 use Rattle.compose_walk.specs.Evidence.{Evidence, Shows, IsLeast, comes_first}
 use Rattle.compose_walk.specs.Pass.{difference_at, differs_at, agrees_from, agrees, is_differing_start, differing_starts, evidence}
-use Rattle.compose_walk.specs.Stands.{front, last_key, stand, found_at, found_behind, all_found, comes_sooner, stand_pairs}
+use Rattle.compose_walk.specs.Stands.{front, last_key, stand, found_at, found_behind, all_found, comes_sooner, IsPlace, stand_pairs}
 use Rattle.compose_walk.specs.Walks.{IsFollower}
 use Rattle.compose_walk.specs.declared.pass.Found.{Found}
 use Rattle.compose_walk.proofs.Reduction.{agreement, no_difference, Clear, Candidate}
@@ -88,7 +88,7 @@ pub all_append : {X : Type 0} (P : X → Type 0) (xs ys : List X) → AllByRecur
 all_append P [] ys a b = b
 all_append P (x ∷ xs) ys a b = (a.0, all_append P xs ys a.1 b)
 
-all_filtered : {Y : Type 0} (P : Y → Type 0) (f : ℕ → Y) (q : ℕ → Bool) (xs : List ℕ) → ((k : ℕ) → has_key xs k ≡ true → q k ≡ true → P (f k)) → AllByRecursion P (map f (filter q xs))
+pub all_filtered : {Y : Type 0} (P : Y → Type 0) (f : ℕ → Y) (q : ℕ → Bool) (xs : List ℕ) → ((k : ℕ) → has_key xs k ≡ true → q k ≡ true → P (f k)) → AllByRecursion P (map f (filter q xs))
 all_filtered P f q [] h = tt
 all_filtered P f q (x ∷ xs) h = go (q x) refl (all_filtered P f q xs (λ k m n. h k (or_right (k == x) (has_key xs k) m) n))
   where
@@ -96,7 +96,7 @@ all_filtered P f q (x ∷ xs) h = go (q x) refl (all_filtered P f q xs (λ k m n
     go true e a = (h x (or_left (x == x) (has_key xs x) (eq-eqb x x refl)) e, a)
     go false e a = a
 
-all_flat : {Y : Type 0} (P : Y → Type 0) (f : List ℕ → List Y) (ps : List (List ℕ)) → ((p : List ℕ) → list_any (same p) ps ≡ true → AllByRecursion P (f p)) → AllByRecursion P (flat_map f ps)
+pub all_flat : {Y : Type 0} (P : Y → Type 0) (f : List ℕ → List Y) (ps : List (List ℕ)) → ((p : List ℕ) → list_any (same p) ps ≡ true → AllByRecursion P (f p)) → AllByRecursion P (flat_map f ps)
 all_flat P f [] h = tt
 all_flat P f (p ∷ ps) h = all_append P (f p) (flat_map f ps) (h p (or_left (same p p) (list_any (same p) ps) (same_from p p refl))) (all_flat P f ps (λ q m. h q (or_right (same q p) (list_any (same q) ps) m)))
 
@@ -229,13 +229,7 @@ module _ (names : KeysymNames) (fresh : List ℕ) (old new : List Definition) (t
 
   -- ---- one that was found
 
-  pub record Place (f : Found) : Type 0 where
-    pub in_range : f.node < length (nodes old)
-    pub agree : agrees names old new (node old f.node) ≡ true
-    pub differ : differs_at names old new (node old f.node) f.keysym ≡ true
-    pub fed : is_ignored f.keysym ≡ false
-
-  pub place_of : (f : Found) → IsFound f → Place f
+  pub place_of : (f : Found) → IsFound f → IsPlace names old new f
   place_of f h = record {
     in_range = (let e : f.node ≡ number_of old h.before = ap (λ (g : Found). g.node) h.is in let l = number_below old h.before h.candidate.clear.reached.node in omega arith);
     agree = ap (agrees names old new) (at_node f h) ∙ h.agree;

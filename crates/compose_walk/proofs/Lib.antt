@@ -11,3 +11,4 @@ pub mod Traces
 pub mod Founds
 pub mod Told
 pub mod Firsts
+pub mod Order

@@ -1,15 +1,15 @@
 -- From a node that the pass found back to its keys.
-use Rattle.std.proofs.Common.{◌≡◌, ℕ, ◌+◌, ◌<◌, ◌≤◌, List, [], ◌∷◌, ◌++◌, true, false, cond, not, ◌&&◌, length, get_or, map, refl, sym, ◌∙◌, ap, inl, inr, arith, append_assoc, length-append, Option, Some, None}
-use Rattle.std.specs.Prelude.{◌==◌, nat_lt, nat_le, is_some}
+use Rattle.std.proofs.Common.{◌≡◌, ℕ, ◌+◌, ◌<◌, ◌≤◌, List, [], ◌∷◌, ◌++◌, true, false, cond, not, ◌&&◌, length, get_or, map, take, refl, sym, ◌∙◌, ap, ap₂, inl, inr, arith, append_assoc, length-append, Option, Some, None}
+use Rattle.std.specs.Prelude.{◌==◌, nat_lt, nat_le, is_some, unwrap_or}
 use Rattle.std.specs.List.{list_all}
 use Rattle.std.proofs.lemmas.Bool.{and_parts, or_cases, leb-true}
-use Rattle.std.proofs.lemmas.List.{get_or-map}
+use Rattle.std.proofs.lemmas.List.{get_or-map, map-append, take_more}
 use Rattle.keysym_core.specs.Keysym.{is_keysym, is_ignored}
 use Rattle.keysym_core.specs.Names.{KeysymNames}
 use Rattle.compose_model.specs.Table.{Definition, same, is_proper_prefix, is_extended, is_table, is_definition}
 use Rattle.std.specs.Option.{option_map}
 use Rattle.compose_model.specs.Step.{is_empty, pending, step}
-use Rattle.compose_model.specs.Follows.{Kind, difference}
+use Rattle.compose_model.specs.Follows.{Kind, text_differs, difference}
 use Rattle.compose_model.specs.Nodes.{nodes, is_node, node, number_of}
 use Rattle.compose_model.proofs.Tests.{both_at}
 use Rattle.compose_model.proofs.NodeLemmas.{same_is, node_means, node_at_number}
@@ -19,8 +19,9 @@ use Rattle.compose_walk.specs.Steps.{text_bytes, IsStep, difference_of}
 use Rattle.compose_walk.specs.declared.evidence.Kind.{Kind as Found_kind}
 use Rattle.compose_walk.specs.declared.step.KeyStep.{KeyStep}
 use Rattle.compose_walk.specs.Pass.{agrees, differs_at, difference_at, evidence}
-use Rattle.compose_walk.specs.Stands.{front, last_key, stand}
+use Rattle.compose_walk.specs.Stands.{front, last_key, stand, IsPlace, evidence_found}
 use Rattle.compose_walk.specs.declared.pass.Stand.{Stand}
+use Rattle.compose_walk.specs.declared.pass.Found.{Found}
 use Rattle.compose_walk.proofs.Places.{number_at_node, node_is_node, not_root, parent_before}
 use Rattle.compose_walk.proofs.Standing.{differ_alike, differs_alike, agrees_push, pushed, front_node}
 use Rattle.compose_walk.proofs.Nodes.{Standing, standing}
@@ -119,3 +120,20 @@ module _ (names : KeysymNames) (old new : List Definition) (p v : List ℕ) (k :
             old_text = (old_text ∙ old_step.text) i;
             new_text = (new_text ∙ new_step.text ∙ ap (λ y. (step names new y k).text) together) i;
           }
+
+-- ---- all evidence
+
+module _ (names : KeysymNames) (old new : List Definition) where
+  pub told : (f : Found) → IsPlace names old new f → (x : Evidence) → ((kind : Kind) → difference_at names old new (node old f.node) f.keysym ≡ Some kind → x ≡ evidence names old new (node old f.node) f.keysym kind) → x ≡ evidence_found names old new f
+  told f place x e = go (difference_at names old new (node old f.node) f.keysym) refl place.differ
+    where
+      go : (o : Option Kind) → difference_at names old new (node old f.node) f.keysym ≡ o → is_some o ≡ true → x ≡ evidence_found names old new f
+      go None d h = cc
+      go (Some kind) d h = e kind d ∙ ap (λ o. evidence names old new (node old f.node) f.keysym (unwrap_or o text_differs)) (sym d)
+
+  -- one more
+  pub told_more : (xs : List Found) (i : ℕ) (f : Found) (before after : List Evidence) (x : Evidence) → i < length xs → f ≡ get_or xs i f → before ≡ map (evidence_found names old new) (take i xs) → x ≡ evidence_found names old new f
+      → after ≡ before ++ x ∷ [] → after ≡ map (evidence_found names old new) (take (i + 1) xs)
+  told_more xs i f before after x h at b is a =
+      a ∙ ap₂ (λ ys y. ys ++ y ∷ []) b (is ∙ ap (evidence_found names old new) at)
+      ∙ sym (map-append (evidence_found names old new) (take i xs) (get_or xs i f ∷ [])) ∙ ap (map (evidence_found names old new)) (sym (take_more xs i f h))

@@ -1,5 +1,6 @@
--- Evidence as text (this project's profile): four lines.
-use Rattle.std.specs.Prelude.{ℕ, List, [], ◌∷◌, ◌++◌, flat_map, codes}
+-- Evidence as text (this project's profile): four lines; and all differences, with a line that counts them.
+use Rattle.std.specs.Prelude.{ℕ, Bool, true, false, ◌==◌, if◌then◌else◌, List, [], ◌∷◌, ◌++◌, length, filter, flat_map, codes}
+use Rattle.std.specs.Fmt.{decimal}
 use Rattle.keysym_core.specs.Names.{KeysymNames}
 use Rattle.keysym_core.specs.Printed.{printed}
 use Rattle.compose_lex.specs.Escape.{quote}
@@ -21,3 +22,40 @@ line bytes = bytes ++ 10 ∷ []
 
 abbrev pub explained : KeysymNames → Evidence → List ℕ
 explained names x = line (keys_line names x.keys) ++ line (codes "kind " ++ kind_word x.kind) ++ line (codes "old " ++ quote x.old_text) ++ line (codes "new " ++ quote x.new_text)
+
+-- ---- all differences
+
+abbrev pub is_same_kind : Kind → Kind → Bool
+is_same_kind text_differs text_differs = true
+is_same_kind cancelled cancelled = true
+is_same_kind waiting waiting = true
+is_same_kind _ _ = false
+
+-- how many are of this kind
+abbrev pub count_of : Kind → List Evidence → ℕ
+count_of kind xs = length (filter (λ x. is_same_kind x.kind kind) xs)
+
+-- the number, a blank (code 32), and the word
+abbrev pub counted : ℕ → List ℕ → List ℕ
+counted n word = decimal n ++ 32 ∷ word
+
+-- the word for so many differences
+abbrev pub count_word : ℕ → List ℕ
+count_word n = if n == 1 then codes "difference" else codes "differences"
+
+abbrev pub kind_counted : Kind → List Evidence → List ℕ
+kind_counted kind xs = counted (count_of kind xs) (kind_word kind)
+
+-- as `2 differences: 1 text, 1 cancelled, 0 waiting`
+abbrev pub count_line : List Evidence → List ℕ
+count_line xs =
+    line (counted (length xs) (count_word (length xs)) ++ codes ": " ++ kind_counted text_differs xs ++ codes ", " ++ kind_counted cancelled xs ++ codes ", " ++ kind_counted waiting xs)
+
+-- each difference with an empty line behind it
+abbrev pub each_explained : KeysymNames → List Evidence → List ℕ
+each_explained names xs = flat_map (λ x. explained names x ++ line []) xs
+
+-- and the line that counts them; or that the new table follows
+abbrev pub all_explained : KeysymNames → List Evidence → List ℕ
+all_explained names [] = line (codes "follows")
+all_explained names (x ∷ xs) = each_explained names (x ∷ xs) ++ count_line (x ∷ xs)

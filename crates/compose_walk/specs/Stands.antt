@@ -1,10 +1,13 @@
 -- What the pass keeps: for each old node what stands with it, and the keys that it found.
-use Rattle.std.specs.Prelude.{ℕ, ◌+◌, Bool, ◌&&◌, ◌||◌, ◌==◌, nat_lt, if◌then◌else◌, List, [], ◌∷◌, ◌++◌, length, map, flat_map, Option, Some, None}
+use Rattle.std.specs.Prelude.{◌≡◌, ℕ, ◌+◌, ◌<◌, Bool, true, false, ◌&&◌, ◌||◌, ◌==◌, nat_lt, if◌then◌else◌, List, [], ◌∷◌, ◌++◌, length, map, flat_map, Option, Some, None, unwrap_or}
+use Rattle.keysym_core.specs.Keysym.{is_ignored}
 use Rattle.keysym_core.specs.Names.{KeysymNames}
 use Rattle.compose_model.specs.Table.{Definition, has_key}
 use Rattle.compose_model.specs.Step.{is_empty, pending}
-use Rattle.compose_model.specs.Nodes.{nodes, number_of}
-use Rattle.compose_walk.specs.Pass.{agrees, differing_edges, differing_starts}
+use Rattle.compose_model.specs.Follows.{text_differs}
+use Rattle.compose_model.specs.Nodes.{nodes, node, number_of}
+use Rattle.compose_walk.specs.Evidence.{Evidence}
+use Rattle.compose_walk.specs.Pass.{difference_at, differs_at, agrees, differing_edges, differing_starts, evidence}
 use Rattle.compose_walk.specs.declared.pass.Stand.{Stand}
 use Rattle.compose_walk.specs.declared.pass.Found.{Found}
 
@@ -50,6 +53,18 @@ all_found names fresh old new ps = map (found_at old []) (differing_starts names
 -- a has fewer keys than b, or as many and comes before it: by the numbers of their nodes, then by their last keys
 abbrev pub comes_sooner : Found → Found → Bool
 comes_sooner a b = if a.depth == b.depth then (if a.node == b.node then nat_lt a.keysym b.keysym else nat_lt a.node b.node) else nat_lt a.depth b.depth
+
+-- the tables agree up to an old node, and then differ at a key that is not ignored
+pub record IsPlace (names : KeysymNames) (old new : List Definition) (f : Found) : Type 0 where
+  pub in_range : f.node < length (nodes old)
+  pub agree : agrees names old new (node old f.node) ≡ true
+  pub differ : differs_at names old new (node old f.node) f.keysym ≡ true
+  pub fed : is_ignored f.keysym ≡ false
+
+-- the evidence that it is (where the tables do not differ, the kind says nothing)
+abbrev pub evidence_found : KeysymNames → List Definition → List Definition → Found → Evidence
+evidence_found names old new f =
+    evidence names old new (node old f.node) f.keysym (unwrap_or (difference_at names old new (node old f.node) f.keysym) text_differs)
 
 -- the nodes with a stand, numbered from n on, each with its new node
 abbrev pub stand_pairs : ℕ → List (Option Stand) → List (ℕ × ℕ)

@@ -1,15 +1,17 @@
 //! Evidence as text.
-ghost use Rattle.std.specs.Prelude.{◌≡◌, ◌++◌, List, ℕ, string_bytes, IfOk, IfErr};
+ghost use Rattle.std.specs.Prelude.{◌≡◌, ◌++◌, List, ℕ, length, string_bytes, IfOk, IfErr};
 ghost use Rattle.compose_lex.specs.Escape.{quote};
 ghost use Rattle.keysym_core.specs.Printed.{printed};
-ghost use Rattle.compose_walk.specs.Explained.{keys_line, explained, kind_word};
+ghost use Rattle.compose_walk.specs.Explained.{keys_line, explained, kind_word, count_of, count_word, count_line, each_explained, all_explained};
 ghost use Rattle.compose_walk.specs.Kinds.{kind_of};
 
+use crate::all_differences::Differences;
 use crate::evidence::{Counterexample, Kind};
 use crate::fault::MakeFault;
 use compose_lex::quote;
 use keysym_core::{Keysym, Names};
 use std::alloc::{AllocError, Global};
+use std::fmt::Write;
 
 /// The four lines that tell a counterexample: the keys, how the tables differ at the last one, and the two texts.
 /// O(keys × look-up in the names + bytes of the texts).
@@ -24,6 +26,91 @@ pub fn explain(
     let mut text = String::new(alloc);
     push_explained(alloc, &mut text, names, counterexample)?;
     Ok(text)
+}
+
+/// All differences as text: four lines for each, with an empty line behind them, and a last line that counts them, as
+/// `2 differences: 1 text, 1 cancelled, 0 waiting`. Where there is none, the one line `follows`.
+/// O(keys × look-up in the names + bytes of the texts).
+pub fn explain_all(
+    alloc: Global,
+    names: &Names,
+    differences: &Differences,
+) -> Result<String, MakeFault>
+    ensures ok { IfOk result (λ text. string_bytes text ≡ all_explained names.now differences.now) }
+    ensures err { IfErr result (λ e. e ≡ MakeFault.NoMemory) }
+{
+    let mut text = String::new(alloc);
+    push_all(alloc, &mut text, names, differences.as_slice())?;
+    Ok(text)
+}
+
+/// Puts all differences and their count behind the text, or that there is none.
+fn push_all(
+    alloc: Global,
+    text: &mut String,
+    names: &Names,
+    differences: &[Counterexample],
+) -> Result<(), AllocError>
+    ensures { IfOk result (λ _. string_bytes text.new ≡ string_bytes text.old ++ all_explained names.now differences.now) }
+{
+    if differences.is_empty() {
+        return text.push_str("follows\n");
+    }
+    push_each(alloc, text, names, differences)?;
+    push_count(text, differences)
+}
+
+/// Puts each difference, with an empty line behind it, behind the text.
+fn push_each(
+    alloc: Global,
+    text: &mut String,
+    names: &Names,
+    differences: &[Counterexample],
+) -> Result<(), AllocError>
+    ensures { IfOk result (λ _. string_bytes text.new ≡ string_bytes text.old ++ each_explained names.now differences.now) }
+{
+    for difference in differences {
+        push_explained(alloc, text, names, difference)?;
+        text.push_str("\n")?;
+    }
+    Ok(())
+}
+
+/// Puts the line that counts the differences behind the text.
+fn push_count(text: &mut String, differences: &[Counterexample]) -> Result<(), AllocError>
+    ensures { IfOk result (λ _. string_bytes text.new ≡ string_bytes text.old ++ count_line differences.now) }
+{
+    let count = differences.len();
+    let word = count_word(count);
+    let texts = count_of(differences, Kind::Text);
+    let cancelled = count_of(differences, Kind::Cancelled);
+    let waiting = count_of(differences, Kind::Waiting);
+    write!(
+        text,
+        "{count} {word}: {texts} text, {cancelled} cancelled, {waiting} waiting\n"
+    )?;
+    Ok(())
+}
+
+/// The word for so many differences.
+fn count_word(count: usize) -> &'static str
+    ensures { result.now ≡ count_word count }
+{
+    if count == 1 {
+        "difference"
+    } else {
+        "differences"
+    }
+}
+
+/// How many of the differences are of this kind. O(n).
+fn count_of(differences: &[Counterexample], kind: Kind) -> usize
+    ensures { result ≡ count_of (kind_of kind) differences.now }
+{
+    differences
+        .iter()
+        .filter(|difference| difference.kind == kind)
+        .count()
 }
 
 /// Puts the four lines behind the text.

@@ -8,6 +8,7 @@ ghost use Rattle.compose_model.specs.Follows.{Follows};
 ghost use Rattle.compose_model.specs.Certificate.{AreFresh};
 ghost use Rattle.compose_walk.specs.Evidence.{Evidence, IsLeast, AreDifferences};
 
+mod all_differences;
 mod evidence;
 mod evidence_text;
 mod fault;
@@ -18,12 +19,13 @@ mod step;
 mod trace;
 mod walker;
 
+pub use all_differences::Differences;
 pub use evidence::{Counterexample, Kind};
-pub use evidence_text::explain;
+pub use evidence_text::{explain, explain_all};
 pub use fault::MakeFault;
 pub use outcome::Walk;
 pub use pairs::Pairs;
-pub use walker::walk;
+pub use walker::{differences, walk};
 
 /// Of all differences of two tables, in order, the first is the least counterexample; where there is none, the new table follows.
 pub fn law_differences()

@@ -1,6 +1,7 @@
 //! One pass over the old nodes in the order of their numbers, with the new node that stands with each.
 ghost use Rattle.std.specs.Prelude.{◌≡◌, ◌<◌, ◌+◌, ◌++◌, ◌∷◌, [], ℕ, List, Some, true, IsTrue, length, map, take, slice_get, OnOk, IfOk, IfErr};
 ghost use Rattle.std.specs.List.{filter};
+ghost use Rattle.std.specs.List.Sorted.{IsPermutation, IsSortedBy};
 ghost use Rattle.compose_model.specs.Table.{has_key, is_table};
 ghost use Rattle.compose_model.specs.Step.{pending};
 ghost use Rattle.compose_model.specs.Nodes as words;
@@ -174,6 +175,16 @@ impl Pass {
             pass.take_node(old, new, names, NodeId(number), stand.new_node)?;
         }
         Ok(pass)
+    }
+
+    /// Puts what was found in order: those with fewer keys first, and of as many the first in order. O(n log n).
+    pub fn sort_found(&mut self)
+        ensures stands { self.new.stands.items ≡ self.old.stands.items }
+        ensures same { IsPermutation self.old.found.items self.new.found.items }
+        ensures sorted { IsSortedBy comes_sooner self.new.found.items }
+    {
+        self.found
+            .sort_unstable_by_key(|found| (found.depth, found.node, found.keysym));
     }
 }
 

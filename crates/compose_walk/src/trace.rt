@@ -1,5 +1,6 @@
 //! From a key that the pass found to the evidence that it is.
-ghost use Rattle.std.specs.Prelude.{◌≡◌, ◌<◌, ◌≤◌, ◌++◌, ◌∷◌, [], Some, true, false, IsTrue, IsSome, length, map};
+ghost use Rattle.std.specs.Prelude.{◌≡◌, ◌<◌, ◌≤◌, ◌++◌, ◌∷◌, [], Some, true, false, IsTrue, IsSome, IfOk, IfErr, length, map};
+ghost use Rattle.std.specs.List.{All};
 ghost use Rattle.keysym_core.specs.Keysym as keysyms;
 ghost use Rattle.compose_model.specs.Table.{is_table};
 ghost use Rattle.compose_model.specs.Follows as follows;
@@ -7,15 +8,17 @@ ghost use Rattle.compose_model.specs.Nodes as words;
 ghost use Rattle.compose_model.specs.Nodes.{nodes};
 ghost use Rattle.compose_walk.specs.Kinds.{kind_of};
 ghost use Rattle.compose_walk.specs.Pass.{agrees, differs_at, difference_at, evidence};
-ghost use Rattle.compose_walk.specs.Stands.{stand};
+ghost use Rattle.compose_walk.specs.Stands.{stand, IsPlace, evidence_found};
 ghost use Rattle.compose_walk.specs.Steps.{text_bytes, difference_of};
 
 use crate::evidence::Counterexample;
+use crate::fault::MakeFault;
 use crate::pass::{Found, Pass};
 use crate::step::{KeyStep, difference, key_step};
 use arrayvec::{ArrayString, ArrayVec};
 use compose_tree::{ComposeTable, NodeId};
 use keysym_core::{Keysym, Names};
+use std::alloc::Global;
 
 impl Pass {
     /// The evidence that a key is at which the tables differ. O(keys²), and a look-up among the edges of each table.
@@ -46,6 +49,27 @@ impl Pass {
         let new_target = new.step(new_node, keysym);
         let new_step = key_step(new, names, new_node, keysym, new_target);
         counterexample(keys, &old_step, &new_step)
+    }
+
+    /// The evidence of each key that was found, in their order. O(found × (keys² + log edges)); 672 bytes each.
+    pub fn all_evidence<T: ComposeTable, U: ComposeTable>(
+        &self,
+        alloc: Global,
+        old: &T,
+        new: &U,
+        names: &Names,
+    ) -> Result<Vec<Counterexample>, MakeFault>
+        requires table { IsTrue (is_table (T.definitions old.now)) }
+        requires stands { self.now.stands.items ≡ map (stand names.now (T.definitions old.now) (U.definitions new.now)) (nodes (T.definitions old.now)) }
+        requires places { All (IsPlace names.now (T.definitions old.now) (U.definitions new.now)) self.now.found.items }
+        ensures evidence { IfOk result (λ differences. differences.items ≡ map (evidence_found names.now (T.definitions old.now) (U.definitions new.now)) self.now.found.items) }
+        ensures err { IfErr result (λ e. e ≡ MakeFault.NoMemory) }
+    {
+        let mut differences = Vec::new(alloc);
+        for found in &self.found {
+            differences.push(self.evidence(old, new, names, *found))?;
+        }
+        Ok(differences)
     }
 
     /// The keysyms that lead to the old node of the key, and the key. O(keys²).

@@ -3,9 +3,11 @@ ghost use Rattle.std.specs.Prelude.{◌≡◌, ◌<◌, ◌≤◌, ◌++◌, ◌
 ghost use Rattle.std.specs.List.{IsFirstBest};
 ghost use Rattle.compose_model.specs.Certificate.{AreFresh};
 ghost use Rattle.compose_check.specs.Demands.{first_unmet, fresh_demands};
+ghost use Rattle.compose_walk.specs.Evidence.{AreDifferences};
 ghost use Rattle.compose_walk.specs.Stands.{comes_sooner, stand_pairs};
 ghost use Rattle.compose_walk.specs.Walks.{IsWalk};
 
+use crate::all_differences::Differences;
 use crate::fault::MakeFault;
 use crate::outcome::Walk;
 use crate::pairs::Pairs;
@@ -36,6 +38,27 @@ pub fn walk<T: ComposeTable, U: ComposeTable>(
 {
     accept_fresh(old, fresh)?;
     walk_accepted(alloc, old, new, names, fresh)
+}
+
+/// All differences of the tables, but for what begins with a fresh keysym: the shortest first, and those of one length in the
+/// order of their keys.
+///
+/// `BadFresh` and `TooManyFresh` come before any memory is taken. O(edges × log edges + differences × (keys² + log edges +
+/// log differences)) time; 16 bytes an old node, and 684 a difference.
+pub fn differences<T: ComposeTable, U: ComposeTable>(
+    alloc: Global,
+    old: &T,
+    new: &U,
+    names: &Names,
+    fresh: &[Keysym],
+) -> Result<Differences, MakeFault>
+    ensures bad_fresh { (fault : CheckFault) → first_unmet (fresh_demands (T.definitions old.now) fresh.now) ≡ Some fault → result ≡ Err (MakeFault.BadFresh fault) }
+    ensures too_many { first_unmet (fresh_demands (T.definitions old.now) fresh.now) ≡ None → 1048576 < length fresh.now → result ≡ Err MakeFault.TooManyFresh }
+    ensures answer { first_unmet (fresh_demands (T.definitions old.now) fresh.now) ≡ None → length fresh.now ≤ 1048576
+        → MatchResult result (AreDifferences names.now fresh.now (T.definitions old.now) (U.definitions new.now)) (λ e. e ≡ MakeFault.NoMemory) }
+{
+    accept_fresh(old, fresh)?;
+    differences_accepted(alloc, old, new, names, fresh)
 }
 
 /// Refuses keysyms that are not fresh for the old table, or too many of them.
@@ -73,6 +96,25 @@ fn walk_accepted<T: ComposeTable, U: ComposeTable>(
     }
     let least = pass.found[least_of(&pass.found)];
     Ok(Walk::Differs(pass.evidence(old, new, names, least)))
+}
+
+/// The differences, once the keysyms are known to be fresh.
+fn differences_accepted<T: ComposeTable, U: ComposeTable>(
+    alloc: Global,
+    old: &T,
+    new: &U,
+    names: &Names,
+    fresh: &[Keysym],
+) -> Result<Differences, MakeFault>
+    requires { AreFresh fresh.now (T.definitions old.now) }
+    ensures { MatchResult result (AreDifferences names.now fresh.now (T.definitions old.now) (U.definitions new.now)) (λ e. e ≡ MakeFault.NoMemory) }
+{
+    let _ = old.node_count();
+    let _ = new.node_count();
+    let mut pass = Pass::run(alloc, old, new, names, fresh)?;
+    pass.sort_found();
+    let differences = pass.all_evidence(alloc, old, new, names)?;
+    Ok(Differences::new(differences))
 }
 
 /// The pairs of the old nodes that have a new node with them. O(nodes).
