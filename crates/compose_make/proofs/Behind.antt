@@ -1,21 +1,20 @@
 -- What the pass has looked at: the sequences behind a node by some of its keys, and in the end all of them.
-use Rattle.std.proofs.Common.{◌≡◌, ◌⊎◌, ℕ, ◌+◌, ◌<◌, ◌≤◌, List, [], ◌∷◌, ◌++◌, Bool, true, false, not, ◌&&◌, ◌||◌, length, get_or, take, refl, sym, ◌∙◌, ap, subst, inl, inr, arith, append_assoc, eqb-true, eq-eqb}
-use Rattle.std.specs.Prelude.{Option, Some, None, ◌==◌, encode_utf8, slice_get}
-use Rattle.std.specs.Option.{option_map_or}
+use Rattle.std.proofs.Common.{◌≡◌, ℕ, ◌+◌, ◌≤◌, List, [], ◌∷◌, ◌++◌, Bool, true, false, ◌&&◌, ◌||◌, length, take, refl, sym, ◌∙◌, ap, inl, inr, eqb-true, eq-eqb}
+use Rattle.std.specs.Prelude.{Some, None, ◌==◌, encode_utf8, slice_get}
 use Rattle.std.specs.List.{list_any, list_all}
 use Rattle.std.proofs.lemmas.List.{take_more, take_all}
 use Rattle.std.proofs.lemmas.Option.{get_or_from_slice_get, slice_get_cases}
-use Rattle.std.proofs.lemmas.List.Folds.{list_all-append, list_any-append}
-use Rattle.std.proofs.lemmas.Bool.{and_parts, and_from, or_cases, or_left, or_right, or_from, cases_Bool}
-use Rattle.compose_model.specs.Table.{Definition, same, is_proper_prefix, is_sequence, is_extended, is_table, is_prefix_free, text_at}
-use Rattle.compose_model.specs.Nodes.{nodes, node, is_node, has_edge, edges}
+use Rattle.std.proofs.lemmas.List.Folds.{list_any-append}
+use Rattle.std.proofs.lemmas.Bool.{and_parts, and_from, or_cases, or_left, or_right, cases_Bool}
+use Rattle.compose_model.specs.Table.{Definition, same, is_proper_prefix, is_sequence, is_extended, text_at}
+use Rattle.compose_model.specs.Nodes.{has_edge, edges}
 use Rattle.compose_model.specs.Certificate.{Repertoire, is_key}
 use Rattle.compose_model.proofs.Tests.{list_any-weaker}
 use Rattle.compose_model.proofs.NodeLemmas.{same_is, same_from, edge_extends, edge_listed}
 use Rattle.compose_make.specs.Least.{are_keys, spells, is_whole}
 use Rattle.std.proofs.Common.{map}
 use Rattle.compose_make.specs.Wanted.{WantedCharacter, AreLeast, offered, begins, is_behind, is_through}
-use Rattle.compose_make.proofs.Reduction.{Whole, whole_parts, whole_from, ends}
+use Rattle.compose_make.proofs.Reduction.{whole_parts, whole_from, ends}
 use Rattle.compose_make.proofs.Rows.{are_same, are_offered}
 use Rattle.keysym_core.specs.Names.{KeysymNames}
 use Rattle.compose_read.specs.Settle.{IsSettled}

@@ -1,15 +1,14 @@
 -- What is made keeps to the limits of a certificate, and is valid.
-use Rattle.std.proofs.Common.{◌≡◌, ◌⊎◌, ℕ, ◌+◌, ◌<◌, ◌≤◌, List, [], ◌∷◌, Bool, true, false, cond, ◌&&◌, length, map, refl, sym, ◌∙◌, ap, subst, inl, inr, arith}
+use Rattle.std.proofs.Common.{◌≡◌, ℕ, ◌<◌, ◌≤◌, List, [], ◌∷◌, true, ◌&&◌, length, refl, sym, ◌∙◌, ap, inl, inr, arith}
 use Rattle.std.specs.Prelude.{Option, Some, None, Result, Ok, Err, nat_lt, nat_le, encode_utf8}
-use Rattle.std.specs.List.{list_any, list_all, AllByRecursion}
+use Rattle.std.specs.List.{list_all, AllByRecursion}
 use Rattle.std.proofs.lemmas.List.{length-map}
-use Rattle.std.proofs.lemmas.Bool.{and_parts, and_from, or_cases, le-leb, cases_lt}
+use Rattle.std.proofs.lemmas.Bool.{and_from, or_cases, le-leb, cases_lt}
 use Rattle.std.proofs.Common.{lt-ltb, replicate, ◌-◌, ◌++◌}
 use Rattle.keysym_core.specs.Names.{KeysymNames}
-use Rattle.keysym_core.specs.Keysym.{is_keysym, is_ignored}
-use Rattle.compose_model.specs.Table.{Definition, same, is_definition, is_table}
+use Rattle.compose_model.specs.Table.{Definition, same, is_definition}
 use Rattle.compose_model.specs.Follows.{Types}
-use Rattle.compose_model.specs.Certificate.{Certificate, Repertoire, Typing, TypesAll, IsValid, AreFresh, is_key, walked_pairs}
+use Rattle.compose_model.specs.Certificate.{Repertoire, Typing, AreFresh, is_key}
 use Rattle.compose_model.proofs.Tests.{both_at}
 use Rattle.compose_model.proofs.NodeLemmas.{same_is}
 use Rattle.compose_read.specs.Settle.{IsSettled}
@@ -22,7 +21,6 @@ use Rattle.compose_check.specs.declared.fault.CheckFault.{CheckFault}
 use Rattle.compose_check.specs.Demands.{first_unmet, fresh_demands}
 use Rattle.compose_walk.specs.declared.fault.MakeFault.{MakeFault}
 use Rattle.compose_walk.specs.declared.fault.MakeFault.TheVariants.{BadFresh, TooManyFresh}
-use Rattle.compose_walk.specs.Evidence.{comes_first}
 use Rattle.compose_walk.specs.Walks.{IsFollower}
 use Rattle.compose_make.specs.Least.{are_keys, is_candidate, is_plain, is_whole, IsLeastTyping, AreLeastTypings}
 use Rattle.compose_make.specs.Depth.{IsGreatestDepth}

@@ -1,11 +1,11 @@
 -- The answers of the rows, once they are the least of all candidates.
-use Rattle.std.proofs.Common.{◌≡◌, ◌⊎◌, ℕ, zero, suc, ◌+◌, ◌<◌, ◌≤◌, List, [], ◌∷◌, ◌++◌, Bool, true, false, cond, ◌&&◌, ◌||◌, length, get_or, take, drop, map, refl, sym, ◌∙◌, ap, ap₂, subst, inl, inr, arith, eqb-true, eq-eqb}
+use Rattle.std.proofs.Common.{◌≡◌, ℕ, ◌<◌, List, [], ◌∷◌, ◌++◌, Bool, true, false, cond, ◌||◌, map, refl, sym, ◌∙◌, ap, subst, inl, inr, arith, eqb-true, eq-eqb}
 use Rattle.std.specs.Prelude.{Option, Some, None, ◌==◌, nat_lt, is_some, unwrap_or, Result, Ok, Err, IfOk}
 use Rattle.std.specs.List.{AllByRecursion}
 use Rattle.std.proofs.lemmas.Bool.{and_parts, ltb-true, or_cases, or_left, or_right}
 use Rattle.keysym_core.specs.Names.{KeysymNames}
-use Rattle.compose_model.specs.Table.{Definition, has_key, is_table, is_prefix_free, is_proper_prefix}
-use Rattle.compose_model.specs.Certificate.{Repertoire, Typing, keys_rise}
+use Rattle.compose_model.specs.Table.{Definition, has_key}
+use Rattle.compose_model.specs.Certificate.{Repertoire, keys_rise}
 use Rattle.compose_read.specs.Settle.{IsSettled}
 use Rattle.compose_make.specs.Least.{is_plain, is_whole, is_candidate, IsLeastOf, IsLeastTyping, AreLeastTypings, IsUnreachable}
 use Rattle.compose_make.specs.Wanted.{WantedCharacter, AreLeast, characters_of, typing_of, first_missing, is_behind}

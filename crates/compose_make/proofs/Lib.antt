@@ -1,3 +1,4 @@
+mod Examples
 pub mod Order
 pub mod Reduction
 pub mod Rows

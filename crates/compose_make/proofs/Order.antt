@@ -1,5 +1,5 @@
 -- The order of typings is total, so the better of two is found by comparing them.
-use Rattle.std.proofs.Common.{◌≡◌, ◌⊎◌, ℕ, ◌<◌, List, [], ◌∷◌, Bool, true, false, cond, ◌&&◌, ◌||◌, length, refl, sym, ◌∙◌, ap, subst, inl, inr, arith, lt-ltb, eqb-true, eq-eqb, Ordering, Less, Equal, Greater, nat_cmp}
+use Rattle.std.proofs.Common.{◌≡◌, ◌⊎◌, ℕ, ◌<◌, List, Bool, true, false, cond, ◌&&◌, ◌||◌, length, refl, sym, ◌∙◌, ap, inl, inr, arith, lt-ltb, eqb-true, eq-eqb, Ordering, Less, Equal, Greater, nat_cmp}
 use Rattle.std.specs.Prelude.{Option, Some, None, ◌==◌, nat_lt}
 use Rattle.std.specs.Ordering.{ordering_reverse, is_lt, ordering_index}
 use Rattle.std.specs.Cmp.Lexicographic.{slice_cmp}

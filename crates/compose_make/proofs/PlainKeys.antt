@@ -1,7 +1,7 @@
 -- Keys that type a character by themselves.
-use Rattle.std.proofs.Common.{◌≡◌, ◌⊎◌, ℕ, ◌+◌, ◌<◌, ◌≤◌, List, [], ◌∷◌, ◌++◌, Bool, true, false, cond, not, ◌&&◌, ◌||◌, refl, sym, ◌∙◌, ap, inl, inr, arith, Ordering, Less, Equal, Greater, nat_cmp}
+use Rattle.std.proofs.Common.{◌≡◌, ◌⊎◌, ℕ, ◌<◌, ◌≤◌, List, [], ◌∷◌, ◌++◌, Bool, true, false, cond, not, ◌&&◌, ◌||◌, refl, sym, ◌∙◌, ap, inl, inr, arith, Ordering, Less, Equal, Greater, nat_cmp}
 use Rattle.std.specs.Prelude.{Option, Some, None, is_some, encode_utf8}
-use Rattle.std.specs.Option.{option_map, option_map_or}
+use Rattle.std.specs.Option.{option_map_or}
 use Rattle.std.proofs.lemmas.Bool.{and_parts, cases_lt, cases_Bool}
 use Rattle.std.proofs.lemmas.Map.Keys.{ge_from_not_lt}
 use Rattle.std.proofs.lemmas.Map.Lookups.{exact_unsigned}
@@ -9,7 +9,7 @@ use Rattle.std.specs.Ordering.{is_lt}
 use Rattle.keysym_core.specs.Names.{KeysymNames, text, character_of}
 use Rattle.keysym_core.specs.Next.{IsNextOf, from_above}
 use Rattle.keysym_core.specs.Keysym.{is_ignored}
-use Rattle.compose_model.specs.Table.{Definition, same, is_sequence}
+use Rattle.compose_model.specs.Table.{Definition, is_sequence}
 use Rattle.compose_model.specs.Nodes.{is_node, number_of, has_edge}
 use Rattle.compose_model.specs.Certificate.{Repertoire, is_key}
 use Rattle.compose_model.proofs.NodeLemmas.{same_is, same_from}

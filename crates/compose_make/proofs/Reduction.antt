@@ -1,13 +1,13 @@
 -- The reduction: what types a character has, no later in the order, a plain key or a whole sequence that types it.
-use Rattle.std.proofs.Common.{◌≡◌, ◌⊎◌, ℕ, ◌+◌, ◌-◌, ◌<◌, ◌≤◌, List, [], ◌∷◌, ◌++◌, Bool, true, false, cond, not, ◌&&◌, ◌||◌, length, map, replicate, refl, sym, ◌∙◌, ap, subst, inl, inr, arith, append-nil, append_assoc, length-append, eq-eqb, suc}
+use Rattle.std.proofs.Common.{◌≡◌, ◌⊎◌, ℕ, ◌+◌, ◌-◌, ◌<◌, ◌≤◌, List, [], ◌∷◌, ◌++◌, Bool, true, false, not, ◌&&◌, length, map, replicate, refl, sym, ◌∙◌, ap, subst, inl, inr, arith, append-nil, append_assoc, length-append, eq-eqb, suc}
 use Rattle.std.specs.Prelude.{Option, Some, None, unwrap_or, encode_utf8, ◌==◌, nat_lt, nat_le}
 use Rattle.std.specs.Option.{option_map_or}
-use Rattle.std.specs.List.{list_any, list_all}
+use Rattle.std.specs.List.{list_all}
 use Rattle.std.proofs.lemmas.Str.{length-encode, len_utf8_bounds}
 use Rattle.std.specs.Char.{len_utf8}
-use Rattle.std.proofs.lemmas.List.{map_push, replicate_more, same_from_push}
+use Rattle.std.proofs.lemmas.List.{map_push, same_from_push}
 use Rattle.std.proofs.lemmas.List.Folds.{list_all-append}
-use Rattle.std.proofs.lemmas.Bool.{and_parts, and_from, or_cases, or_left, or_right, or_from, or_parts, not-true, not_from_false, cases_Bool}
+use Rattle.std.proofs.lemmas.Bool.{and_parts, and_from, or_cases, or_left, or_right, or_from, or_parts, not-true, not_from_false}
 use Rattle.keysym_core.specs.Keysym.{is_keysym, is_ignored}
 use Rattle.keysym_core.specs.Names.{KeysymNames, text}
 use Rattle.compose_model.specs.Table.{Definition, same, is_proper_prefix, is_sequence, is_extended, is_table, is_definition, is_prefix_free, text_at}

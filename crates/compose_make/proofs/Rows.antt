@@ -1,10 +1,9 @@
 -- Rows of wanted characters: the search for a character, and what an offer does to them.
-use Rattle.std.proofs.Common.{◌≡◌, ◌⊎◌, ℕ, zero, suc, ◌+◌, ◌<◌, ◌≤◌, List, [], ◌∷◌, ◌++◌, Bool, true, false, cond, ◌&&◌, ◌||◌, length, get_or, map, refl, sym, ◌∙◌, ap, ap₂, subst, inl, inr, arith, append-nil}
-use Rattle.std.specs.Prelude.{Option, Some, None, nat_lt, encode_utf8, slice_set}
-use Rattle.std.specs.List.{AllByRecursion}
+use Rattle.std.proofs.Common.{◌≡◌, ℕ, zero, suc, ◌+◌, ◌<◌, ◌≤◌, List, [], ◌∷◌, Bool, true, false, cond, ◌&&◌, ◌||◌, length, get_or, map, refl, sym, ◌∙◌, ap, ap₂, subst, inl, inr, arith, append-nil}
+use Rattle.std.specs.Prelude.{nat_lt, encode_utf8, slice_set}
 use Rattle.std.proofs.lemmas.Str.{encode_same}
 use Rattle.std.proofs.lemmas.List.{length-map}
-use Rattle.std.proofs.lemmas.Bool.{and_parts, ltb-true, cases_Bool, cases_lt, or_cases}
+use Rattle.std.proofs.lemmas.Bool.{and_parts, ltb-true, cases_Bool, cases_lt}
 use Rattle.compose_model.specs.Table.{same}
 use Rattle.compose_model.specs.Certificate.{keys_rise}
 use Rattle.compose_model.proofs.NodeLemmas.{same_is, same_from}

@@ -1,5 +1,5 @@
 -- The characters that are wanted, each with the first of the lists of keys that were looked at.
-use Rattle.std.specs.Prelude.{ℕ, Bool, true, ◌||◌, ◌&&◌, if◌then◌else◌, List, [], ◌∷◌, ◌++◌, map, Option, Some, None, is_some, unwrap_or}
+use Rattle.std.specs.Prelude.{ℕ, Bool, ◌||◌, ◌&&◌, if◌then◌else◌, List, [], ◌∷◌, ◌++◌, map, Option, Some, None, is_some, unwrap_or}
 use Rattle.std.specs.List.{list_any, AllByRecursion}
 use Rattle.compose_model.specs.Table.{Definition, same, is_proper_prefix}
 use Rattle.compose_model.specs.Certificate.{Typing, Repertoire}

@@ -1,4 +1,4 @@
-use Rattle.std.proofs.Common.{◌≡◌, ◌∙◌, ◌≤◌, length, sym, ap, subst, arith}
+use Rattle.std.proofs.Common.{subst, arith}
 use Rattle.compose_check.proofs.FreshKeysyms.{are_fresh}
 use Rattle.compose_walk.specs.Walks.{IsWalk}
 use Rattle.compose_make.proofs.Certified.{accepted, pairs_few}

@@ -1,11 +1,11 @@
-use Rattle.std.proofs.Common.{◌≡◌, ◌∙◌, ◌≤◌, ◌<◌, ◌+◌, ◌||◌, ◌&&◌, ℕ, List, Bool, ◌∷◌, ◌++◌, [], length, take, map, sym, ap, subst, arith, true, false}
-use Rattle.std.specs.Prelude.{IsTrue, Option, Some, slice_get}
+use Rattle.std.proofs.Common.{◌≡◌, ◌∙◌, ◌≤◌, ◌<◌, ◌+◌, ◌||◌, ℕ, List, ◌∷◌, ◌++◌, [], length, take, map, sym, ap, subst, arith, true}
+use Rattle.std.specs.Prelude.{Some}
 use Rattle.keysym_core.specs.Names.{KeysymNames}
 use Rattle.compose_model.specs.Table.{Definition, is_table, is_extended, is_sequence, text_at}
-use Rattle.compose_model.specs.Nodes.{nodes, node, edges, is_node, leaves}
+use Rattle.compose_model.specs.Nodes.{nodes, node, edges}
 use Rattle.compose_model.specs.Certificate.{is_key, keys_rise}
 use Rattle.compose_model.proofs.NodeLemmas.{node_at_number}
-use Rattle.compose_tree.specs.Targets.{target_of, leaf_text}
+use Rattle.compose_tree.specs.Targets.{target_of}
 use Rattle.compose_tree.specs.declared.table.Target.{Target}
 use Rattle.compose_tree.specs.declared.table.Target.TheVariants.{Node, Leaf}
 use Rattle.compose_tree.proofs.Lookups.{node_few, node_listed}

@@ -2,7 +2,7 @@ use Rattle.std.proofs.Common.{◌≡◌, ◌∙◌, [], not, sym, ap}
 use Rattle.std.specs.Prelude.{is_some}
 use Rattle.keysym_core.specs.Keysym.{is_ignored}
 use Rattle.compose_tree.proofs.Lookups.{some_node}
-use Rattle.compose_model.specs.Nodes.{node, has_edge}
+use Rattle.compose_model.specs.Nodes.{has_edge}
 use Rattle.compose_model.specs.Certificate.{is_key}
 use Rattle.compose_model.proofs.NodeLemmas.{node_zero}
 use Rattle.compose_tree.specs.Targets.{target_of}

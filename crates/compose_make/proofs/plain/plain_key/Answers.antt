@@ -1,7 +1,4 @@
-use Rattle.std.proofs.Common.{◌≡◌, ◌∙◌, ◌∷◌, [], sym, ap, subst}
-use Rattle.std.specs.Prelude.{Option, None, Some}
-use Rattle.std.specs.Option.{option_map}
-use Rattle.compose_make.specs.Least.{is_plain, IsLeastOf}
+use Rattle.std.proofs.Common.{◌∙◌, sym}
 use Rattle.compose_make.proofs.PlainKeys.{none_plain, next_plain, next_passed}
 use Rattle.compose_make.proofs.plain.plain_key.Goals as goal
 

@@ -1,4 +1,4 @@
-use Rattle.std.proofs.Common.{◌≡◌, ◌<◌, ◌-◌, ℕ, Bool, false}
+use Rattle.std.proofs.Common.{◌≡◌, ◌<◌, ◌-◌, ℕ, false}
 use Rattle.keysym_core.specs.Next.{from_above}
 use Rattle.compose_make.specs.Least.{is_plain_key}
 use Rattle.compose_make.proofs.plain.plain_key.Given as goal

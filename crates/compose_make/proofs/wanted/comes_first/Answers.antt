@@ -1,4 +1,4 @@
-use Rattle.std.proofs.Common.{◌≡◌, ◌∙◌, sym, ap}
+use Rattle.std.proofs.Common.{◌∙◌}
 use Rattle.compose_make.proofs.Order.{as_long}
 use Rattle.compose_make.proofs.wanted.comes_first.Goals as goal
 

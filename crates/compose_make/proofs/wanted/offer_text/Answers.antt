@@ -1,7 +1,7 @@
 use Rattle.std.specs.Prelude.{slice_set}
 use Rattle.compose_make.specs.Wanted.{WantedCharacter, better}
 use Rattle.compose_make.proofs.Rows.{no_character, not_wanted, taken}
-use Rattle.std.proofs.Common.{◌≡◌, ◌∙◌, sym, ap, subst}
+use Rattle.std.proofs.Common.{◌∙◌, sym, ap}
 use Rattle.compose_make.proofs.wanted.offer_text.Goals as goal
 
 pub returns-in_default : goal.returns-in_default

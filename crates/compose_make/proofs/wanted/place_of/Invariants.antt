@@ -1,4 +1,4 @@
-use Rattle.std.proofs.Common.{◌-◌, ◌≡◌, ◌<◌, ◌≤◌, ℕ, length, get_or}
+use Rattle.std.proofs.Common.{◌-◌, ◌<◌, ◌≤◌, ℕ, length, get_or}
 use Rattle.compose_make.specs.Wanted.{characters_of}
 use Rattle.compose_make.proofs.wanted.place_of.Given as goal
 
