@@ -22,9 +22,20 @@ fn verdict<T: ComposeTable, U: ComposeTable>(alloc: Global, row: &Row) -> Result
     let names = Names::core(alloc)?;
     let old: T = table(alloc, &names, row.old)?;
     let new: U = table(alloc, &names, row.new)?;
+    verdict_over(alloc, &names, &old, &new, row)
+}
+
+/// The verdict on the certificate of a row for these tables.
+fn verdict_over<T: ComposeTable, U: ComposeTable>(
+    alloc: Global,
+    names: &Names,
+    old: &T,
+    new: &U,
+    row: &Row,
+) -> Result<String, Fail> {
     let repertoire = Repertoire::read(alloc, row.repertoire.as_bytes())?;
     let certificate = Certificate::read(alloc, row.certificate.as_bytes())?;
-    printed(alloc, check(&old, &new, &names, &repertoire, &certificate))
+    printed(alloc, check(old, new, names, &repertoire, &certificate))
 }
 
 /// The verdict on the bytes of a row.
@@ -42,43 +53,57 @@ fn verdict_on_bytes<T: ComposeTable>(alloc: Global, row: &Row) -> Result<String,
     printed(alloc, check_bytes::<T>(alloc, &input)?)
 }
 
+/// The first row on which the verdict is another one.
+fn first_wrong<T: ComposeTable, U: ComposeTable>(
+    alloc: Global,
+    rows: &[Row],
+) -> Result<Option<&'static str>, Fail> {
+    for row in rows {
+        if verdict::<T, U>(alloc, row)?.as_str() != row.says {
+            return Ok(Some(row.name));
+        }
+    }
+    Ok(None)
+}
+
+/// The first row on whose bytes the verdict is another one.
+fn first_wrong_bytes(alloc: Global, rows: &[Row]) -> Result<Option<&'static str>, Fail> {
+    for row in rows {
+        if verdict_on_bytes::<PackedTable>(alloc, row)?.as_str() != row.says {
+            return Ok(Some(row.name));
+        }
+    }
+    Ok(None)
+}
+
 #[test]
 fn verdicts_over_both_tables(rt: HostRuntime) -> Result<(), Fail> {
-    for row in &CHECKED {
-        assert_eq!(rt;
-            verdict::<ListTable, ListTable>(rt.alloc(), row)?.as_str(),
-            row.says
-        );
-        assert_eq!(rt;
-            verdict::<PackedTable, PackedTable>(rt.alloc(), row)?.as_str(),
-            row.says
-        );
-    }
+    assert_eq!(rt;
+        first_wrong::<ListTable, ListTable>(rt.alloc(), &CHECKED)?,
+        None
+    );
+    assert_eq!(rt;
+        first_wrong::<PackedTable, PackedTable>(rt.alloc(), &CHECKED)?,
+        None
+    );
     Ok(())
 }
 
 #[test]
 fn verdicts_over_one_of_each(rt: HostRuntime) -> Result<(), Fail> {
-    for row in &CHECKED {
-        assert_eq!(rt;
-            verdict::<ListTable, PackedTable>(rt.alloc(), row)?.as_str(),
-            row.says
-        );
-        assert_eq!(rt;
-            verdict::<PackedTable, ListTable>(rt.alloc(), row)?.as_str(),
-            row.says
-        );
-    }
+    assert_eq!(rt;
+        first_wrong::<ListTable, PackedTable>(rt.alloc(), &CHECKED)?,
+        None
+    );
+    assert_eq!(rt;
+        first_wrong::<PackedTable, ListTable>(rt.alloc(), &CHECKED)?,
+        None
+    );
     Ok(())
 }
 
 #[test]
 fn verdicts_on_bytes(rt: HostRuntime) -> Result<(), Fail> {
-    for row in &CHECKED {
-        assert_eq!(rt;
-            verdict_on_bytes::<PackedTable>(rt.alloc(), row)?.as_str(),
-            row.says
-        );
-    }
+    assert_eq!(rt; first_wrong_bytes(rt.alloc(), &CHECKED)?, None);
     Ok(())
 }

@@ -15,31 +15,57 @@ fn printed<T: ComposeTable, U: ComposeTable>(
     let names = Names::core(alloc)?;
     let old: T = table(alloc, &names, row.old)?;
     let new: U = table(alloc, &names, row.new)?;
-    match walk(alloc, &old, &new, &names, &[])? {
-        Walk::Follows(_) => Ok(String::from_str(alloc, "follows\n")?),
-        Walk::Differs(counterexample) => Ok(explain(alloc, &names, &counterexample)?),
+    printed_over(alloc, &names, &old, &new)
+}
+
+/// What is printed of these tables.
+fn printed_over<T: ComposeTable, U: ComposeTable>(
+    alloc: Global,
+    names: &Names,
+    old: &T,
+    new: &U,
+) -> Result<String, Fail> {
+    match walk(alloc, old, new, names, &[])? {
+        Walk::Follows(_pairs) => Ok(String::from_str(alloc, "follows\n")?),
+        Walk::Differs(counterexample) => Ok(explain(alloc, names, &counterexample)?),
     }
+}
+
+/// The first row of which something else is printed.
+fn first_wrong<T: ComposeTable, U: ComposeTable>(
+    alloc: Global,
+    rows: &[Explained],
+) -> Result<Option<&'static str>, Fail> {
+    for row in rows {
+        if printed::<T, U>(alloc, row)?.as_str() != row.prints {
+            return Ok(Some(row.name));
+        }
+    }
+    Ok(None)
 }
 
 #[test]
 fn evidence_over_both_tables(rt: HostRuntime) -> Result<(), Fail> {
-    for row in &EXPLAINED {
-        assert_eq!(rt;
-            printed::<ListTable, ListTable>(rt.alloc(), row)?.as_str(),
-            row.prints
-        );
-        assert_eq!(rt;
-            printed::<PackedTable, PackedTable>(rt.alloc(), row)?.as_str(),
-            row.prints
-        );
-        assert_eq!(rt;
-            printed::<ListTable, PackedTable>(rt.alloc(), row)?.as_str(),
-            row.prints
-        );
-        assert_eq!(rt;
-            printed::<PackedTable, ListTable>(rt.alloc(), row)?.as_str(),
-            row.prints
-        );
-    }
+    assert_eq!(rt;
+        first_wrong::<ListTable, ListTable>(rt.alloc(), &EXPLAINED)?,
+        None
+    );
+    assert_eq!(rt;
+        first_wrong::<PackedTable, PackedTable>(rt.alloc(), &EXPLAINED)?,
+        None
+    );
+    Ok(())
+}
+
+#[test]
+fn evidence_over_one_of_each(rt: HostRuntime) -> Result<(), Fail> {
+    assert_eq!(rt;
+        first_wrong::<ListTable, PackedTable>(rt.alloc(), &EXPLAINED)?,
+        None
+    );
+    assert_eq!(rt;
+        first_wrong::<PackedTable, ListTable>(rt.alloc(), &EXPLAINED)?,
+        None
+    );
     Ok(())
 }

@@ -4,7 +4,13 @@
 #[cfg(test)]
 mod checking;
 #[cfg(test)]
+mod differing;
+#[cfg(test)]
 mod explaining;
+#[cfg(test)]
+mod faults;
+#[cfg(test)]
+mod loading;
 #[cfg(test)]
 mod making;
 #[cfg(test)]
@@ -12,4 +18,8 @@ mod rows;
 #[cfg(test)]
 mod tables;
 #[cfg(test)]
+mod tools;
+#[cfg(test)]
 mod typing;
+#[cfg(test)]
+mod typings;

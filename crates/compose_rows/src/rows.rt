@@ -438,6 +438,40 @@ pub static EXPLAINED: [Explained; 10] = [
 ];
 
 #[rattlefmt::skip]
+pub static ALL_EXPLAINED: [Explained; 5] = [
+    Explained {
+        name: "all-of-a-dropped-sequence",
+        old: "<Multi_key> <apostrophe> <e> : \"é\" eacute # e acute\n<dead_acute> <e> : \"é\"\n",
+        new: "<Multi_key> <apostrophe> <e> : \"é\" eacute # e acute\n<Multi_key> <apostrophe> <a> : \"á\"\n",
+        prints: "keys dead_acute e\nkind text\nold \"é\"\nnew \"e\"\n\n1 difference: 1 text, 0 cancelled, 0 waiting\n",
+    },
+    Explained {
+        name: "all-where-it-follows",
+        old: "<dead_grave> <dead_acute> <e> : \"x\"\n<dead_acute> <e> : \"x\"\n",
+        new: "<dead_acute> <e> : \"x\"\n",
+        prints: "follows\n",
+    },
+    Explained {
+        name: "all-of-three-texts",
+        old: "<dead_grave> <a> : \"x\"\n<dead_circumflex> : \"z\"\n<dead_acute> : \"y\"\n",
+        new: "",
+        prints: "keys dead_acute\nkind text\nold \"y\"\nnew \"\"\n\nkeys dead_circumflex\nkind text\nold \"z\"\nnew \"\"\n\nkeys dead_grave a\nkind text\nold \"x\"\nnew \"a\"\n\n3 differences: 3 text, 0 cancelled, 0 waiting\n",
+    },
+    Explained {
+        name: "all-of-two-kinds",
+        old: "<dead_grave> <dead_acute> <c> : \"c\"\n",
+        new: "<dead_grave> <d> : \"y\"\n<dead_tilde> <a> : \"ã\"\n",
+        prints: "keys dead_tilde\nkind waiting\nold \"\"\nnew \"\"\n\nkeys dead_grave dead_acute\nkind cancelled\nold \"\"\nnew \"\"\n\n2 differences: 0 text, 1 cancelled, 1 waiting\n",
+    },
+    Explained {
+        name: "all-of-each-kind",
+        old: "<dead_grave> <dead_acute> <c> : \"c\"\n<dead_circumflex> : \"z\"\n",
+        new: "<dead_grave> <d> : \"y\"\n<dead_caron> <c> : \"č\"\n",
+        prints: "keys dead_circumflex\nkind text\nold \"z\"\nnew \"\"\n\nkeys dead_caron\nkind waiting\nold \"\"\nnew \"\"\n\nkeys dead_grave dead_acute\nkind cancelled\nold \"\"\nnew \"\"\n\n3 differences: 1 text, 1 cancelled, 1 waiting\n",
+    },
+];
+
+#[rattlefmt::skip]
 pub static MADE: [Asked; 6] = [
     Asked {
         name: "make-dropped-sequence",

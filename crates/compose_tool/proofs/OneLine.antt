@@ -1,5 +1,5 @@
 -- One line more of a manifest: the listing goes on, or the fault is the whole manifest's.
-use Rattle.std.proofs.Common.{◌≡◌, ℕ, ◌+◌, List, [], ◌∷◌, refl, sym, ◌∙◌, ap, arith}
+use Rattle.std.proofs.Common.{◌≡◌, ℕ, ◌+◌, List, ◌∷◌, sym, ◌∙◌, ap, arith}
 use Rattle.std.specs.Prelude.{Result, Ok, Err}
 use Rattle.compose_tool.specs.Manifest.{Listing, with_line, lines_on, some_entries}
 use Rattle.compose_tool.specs.Given.{ManifestGives, SaidGives}

@@ -1,28 +1,37 @@
 //! `composecheck check`: whether a certificate shows that the new table follows the old one.
-use crate::inputs::{read_file, read_header, read_sources};
+use crate::inputs::{MoveFiles, read_file};
 use crate::outcome::Outcome;
-use crate::refusal::{Part, Refusal};
+use crate::refusal::Refusal;
 use clap::ArgMatches;
 use compose_check::{CheckInput, Verdict, check_bytes};
 use compose_tree::PackedTable;
 
 /// Checks the certificate, and prints the verdict.
-pub fn check_migration(rt: &HostRuntime, given: &ArgMatches<'_>) -> Result<Outcome, Refusal> {
-    let header = read_header(rt, given.get_str("names"))?;
-    let old = read_sources(rt, Part::Old, given.get_str("OLD").unwrap_or(""))?;
-    let new = read_sources(rt, Part::New, given.get_str("NEW").unwrap_or(""))?;
+pub fn check(rt: &HostRuntime, given: &ArgMatches<'_>) -> Result<Outcome, Refusal> {
+    let files = MoveFiles::read(rt, given)?;
     let repertoire = read_file(rt, given.get_str("REPERTOIRE").unwrap_or(""))?;
     let certificate = read_file(rt, given.get_str("CERTIFICATE").unwrap_or(""))?;
+    print_verdict(rt, check_files(rt, &files, &repertoire, &certificate)?)
+}
+
+/// The verdict on the certificate for the tables of the files.
+fn check_files(
+    rt: &HostRuntime,
+    files: &MoveFiles,
+    repertoire: &[u8],
+    certificate: &[u8],
+) -> Result<Verdict, Refusal> {
+    let (old, new) = (files.old.input(), files.new.input());
     let input = CheckInput {
-        header: header.as_deref().unwrap_or(&[]),
-        old: &old.sources,
-        new: &new.sources,
+        header: &files.header,
+        old: old.sources,
+        new: new.sources,
         old_rule: old.rule,
         new_rule: new.rule,
-        repertoire: &repertoire,
-        certificate: &certificate,
+        repertoire,
+        certificate,
     };
-    print_verdict(rt, check_bytes::<PackedTable>(rt.alloc(), &input)?)
+    Ok(check_bytes::<PackedTable>(rt.alloc(), &input)?)
 }
 
 /// Prints `yes`, or `no` and the first demand that is not met.

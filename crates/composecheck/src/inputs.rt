@@ -1,9 +1,9 @@
-//! Files, and the tables and names that they hold.
+//! Files, and what they hold.
 use crate::refusal::{Part, Refusal};
+use clap::ArgMatches;
 use compose_model::Rule;
 use compose_read::{SourceFault, Sources};
-use compose_tool::{Manifest, read_manifest};
-use compose_tree::{PackedTable, read_table};
+use compose_tool::{KeyFault, Manifest, TableInput, fresh_keysyms, look_up_keys, read_manifest};
 use keysym_core::{Keysym, Names};
 use std::{fs, io};
 
@@ -18,25 +18,49 @@ pub fn read_file(rt: &HostRuntime, path: &str) -> Result<Vec<u8>, Refusal> {
     }
 }
 
-/// The sources of a table, and what is done with its overlaps.
-#[derive(Drop)]
-pub struct TableInput {
-    pub sources: Sources,
-    pub rule: Rule,
+/// The bytes of the file of names; none where no file is given.
+pub fn read_header(rt: &HostRuntime, given: &ArgMatches<'_>) -> Result<Vec<u8>, Refusal> {
+    match given.get_str("names") {
+        Some(path) => read_file(rt, path),
+        None => Ok(Vec::new(rt.alloc())),
+    }
 }
 
-/// Reads a manifest and the files that it lists.
-pub fn read_sources(rt: &HostRuntime, part: Part, path: &str) -> Result<TableInput, Refusal> {
-    let bytes = read_file(rt, path)?;
-    let manifest = read_manifest(rt.alloc(), &bytes)?;
+/// The sources of a table, and what is done with its overlaps.
+#[derive(Drop)]
+pub struct TableFiles {
+    sources: Sources,
+    rule: Rule,
+}
+
+impl TableFiles {
+    /// Reads a manifest and the files that it lists.
+    pub fn read(rt: &HostRuntime, part: Part, path: &str) -> Result<TableFiles, Refusal> {
+        let bytes = read_file(rt, path)?;
+        let manifest = read_manifest(rt.alloc(), &bytes)?;
+        let sources = read_sources(rt, part, &manifest)?;
+        Ok(TableFiles {
+            sources,
+            rule: manifest.rule(),
+        })
+    }
+
+    /// The table that they are to give.
+    pub fn input(&self) -> TableInput<'_> {
+        TableInput {
+            sources: &self.sources,
+            rule: self.rule,
+        }
+    }
+}
+
+/// Reads the files that the manifest lists.
+fn read_sources(rt: &HostRuntime, part: Part, manifest: &Manifest) -> Result<Sources, Refusal> {
     let mut sources = Sources::new(rt.alloc());
     for index in 0..manifest.count() {
-        add_source(rt, part, &manifest, index, &mut sources)?;
+        add_source(rt, part, manifest, index, &mut sources)?;
     }
-    Ok(TableInput {
-        sources,
-        rule: manifest.rule(),
-    })
+    Ok(sources)
 }
 
 /// Reads the file at this place of the manifest, and adds it to the sources.
@@ -58,54 +82,34 @@ fn add_source(
     }
 }
 
-/// The bytes of the file of names, if one is given.
-pub fn read_header(rt: &HostRuntime, path: Option<&str>) -> Result<Option<Vec<u8>>, Refusal> {
-    match path {
-        Some(path) => Ok(Some(read_file(rt, path)?)),
-        None => Ok(None),
-    }
+/// The files of a move from an old table to a new one.
+#[derive(Drop)]
+pub struct MoveFiles {
+    pub header: Vec<u8>,
+    pub old: TableFiles,
+    pub new: TableFiles,
 }
 
-/// The names of the header, or the core names where there is none.
-pub fn read_names(rt: &HostRuntime, header: Option<&[u8]>) -> Result<Names, Refusal> {
-    Ok(match header {
-        Some(bytes) => Names::read(rt.alloc(), bytes)?,
-        None => Names::core(rt.alloc())?,
-    })
-}
-
-/// The table of these sources.
-pub fn read_packed(
-    rt: &HostRuntime,
-    names: &Names,
-    part: Part,
-    input: &TableInput,
-) -> Result<PackedTable, Refusal> {
-    let root = input.sources.name(0).unwrap_or("");
-    match read_table(rt.alloc(), names, &input.sources, root, input.rule) {
-        Ok(table) => Ok(table),
-        Err(fault) => Err(Refusal::of_table(part, fault)),
+impl MoveFiles {
+    /// Reads the file of names, and the files of both tables.
+    pub fn read(rt: &HostRuntime, given: &ArgMatches<'_>) -> Result<MoveFiles, Refusal> {
+        let header = read_header(rt, given)?;
+        let old = TableFiles::read(rt, Part::Old, given.get_str("OLD").unwrap_or(""))?;
+        let new = TableFiles::read(rt, Part::New, given.get_str("NEW").unwrap_or(""))?;
+        Ok(MoveFiles { header, old, new })
     }
 }
 
 /// The keysym of each word.
-pub fn look_up_keys(
-    rt: &HostRuntime,
-    names: &Names,
-    words: &[&str],
-) -> Result<Vec<Keysym>, Refusal> {
-    let mut keys = Vec::new(rt.alloc());
-    for word in words {
-        match names.lookup(word) {
-            Some(keysym) => keys.push(keysym)?,
-            None => {
-                return Err(Refusal::Key {
-                    word: String::from_str(rt.alloc(), word)?,
-                });
-            }
-        }
+pub fn read_keys(rt: &HostRuntime, names: &Names, words: &[&str]) -> Result<Vec<Keysym>, Refusal> {
+    match look_up_keys(rt.alloc(), names, words) {
+        Ok(keys) => Ok(keys),
+        Err(KeyFault::Unknown { index }) => Err(Refusal::of_word(
+            rt.alloc(),
+            words.get(index).copied(),
+        )),
+        Err(KeyFault::NoMemory) => Err(Refusal::NoMemory),
     }
-    Ok(keys)
 }
 
 /// The keysyms of the words between commas in rising order, each once.
@@ -117,9 +121,12 @@ pub fn read_fresh(
     let Some(words) = words else {
         return Ok(Vec::new(rt.alloc()));
     };
-    let words: Vec<&str> = words.split(',').collect(rt.alloc())?;
-    let mut keysyms = look_up_keys(rt, names, &words)?;
-    keysyms.sort()?;
-    keysyms.dedup();
-    Ok(keysyms)
+    match fresh_keysyms(rt.alloc(), names, words) {
+        Ok(keysyms) => Ok(keysyms),
+        Err(KeyFault::Unknown { index }) => Err(Refusal::of_word(
+            rt.alloc(),
+            words.split(',').nth(index),
+        )),
+        Err(KeyFault::NoMemory) => Err(Refusal::NoMemory),
+    }
 }

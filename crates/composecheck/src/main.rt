@@ -36,9 +36,9 @@ fn run(rt: &HostRuntime, given: &[String]) -> Result<Outcome, anyhow::Error> {
 fn dispatch(rt: &HostRuntime, matches: &ArgMatches<'_>) -> Result<Outcome, Refusal> {
     match matches.subcommand() {
         Some(("type", given)) => typing::type_keys(rt, given),
-        Some(("check", given)) => checking::check_migration(rt, given),
-        Some(("explain", given)) => explaining::explain_migration(rt, given),
-        Some(("make", given)) => making::make_certificate(rt, given),
+        Some(("check", given)) => checking::check(rt, given),
+        Some(("explain", given)) => explaining::explain(rt, given),
+        Some(("make", given)) => making::make(rt, given),
         _ => Ok(Outcome::Refused),
     }
 }

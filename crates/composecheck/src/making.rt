@@ -1,38 +1,54 @@
 //! `composecheck make`: a certificate, or why there is none.
-use crate::explaining::print_evidence;
-use crate::inputs::{read_file, read_fresh, read_header, read_names, read_packed, read_sources};
+use crate::inputs::{MoveFiles, read_file, read_fresh};
 use crate::outcome::Outcome;
-use crate::refusal::{Part, Refusal};
+use crate::refusal::Refusal;
 use clap::ArgMatches;
-use compose_cert::{Certificate, Repertoire};
-use compose_make::{Made, make};
-use keysym_core::ShownChar;
+use compose_tool::{MadeText, make_migration};
+use compose_tree::PackedTable;
+use keysym_core::{Names, ShownChar};
 
 /// Prints a certificate; else the keys on which the tables differ, or the first character that can't be typed.
-pub fn make_certificate(rt: &HostRuntime, given: &ArgMatches<'_>) -> Result<Outcome, Refusal> {
-    let header = read_header(rt, given.get_str("names"))?;
-    let old = read_sources(rt, Part::Old, given.get_str("OLD").unwrap_or(""))?;
-    let new = read_sources(rt, Part::New, given.get_str("NEW").unwrap_or(""))?;
+pub fn make(rt: &HostRuntime, given: &ArgMatches<'_>) -> Result<Outcome, Refusal> {
+    let files = MoveFiles::read(rt, given)?;
     let repertoire = read_file(rt, given.get_str("REPERTOIRE").unwrap_or(""))?;
-    let names = read_names(rt, header.as_deref())?;
-    let fresh = read_fresh(rt, &names, given.get_str("fresh"))?;
-    let old = read_packed(rt, &names, Part::Old, &old)?;
-    let new = read_packed(rt, &names, Part::New, &new)?;
-    let repertoire = Repertoire::read(rt.alloc(), &repertoire)?;
-    match make(rt.alloc(), &old, &new, &names, &repertoire, &fresh)? {
-        Made::Made(certificate) => print_certificate(rt, &certificate),
-        Made::Differs(counterexample) => print_evidence(rt, &names, &counterexample),
-        Made::Unreachable(character) => {
-            let shown = ShownChar(character);
+    make_of_files(rt, &files, &repertoire, given.get_str("fresh"))
+}
+
+/// Prints what is made of the files.
+fn make_of_files(
+    rt: &HostRuntime,
+    files: &MoveFiles,
+    repertoire: &[u8],
+    fresh: Option<&str>,
+) -> Result<Outcome, Refusal> {
+    let names = Names::read(rt.alloc(), &files.header)?;
+    let fresh = read_fresh(rt, &names, fresh)?;
+    let made = make_migration::<PackedTable>(
+        rt.alloc(),
+        &names,
+        &files.old.input(),
+        &files.new.input(),
+        repertoire,
+        &fresh,
+    )?;
+    print_made(rt, &made)
+}
+
+/// Prints what was made.
+fn print_made(rt: &HostRuntime, made: &MadeText) -> Result<Outcome, Refusal> {
+    match made {
+        MadeText::Certificate(text) => {
+            print!(rt; "{text}")?;
+            Ok(Outcome::Yes)
+        }
+        MadeText::Differs(text) => {
+            print!(rt; "{text}")?;
+            Ok(Outcome::No)
+        }
+        MadeText::Unreachable(character) => {
+            let shown = ShownChar(*character);
             println!(rt; "unreachable {shown}")?;
             Ok(Outcome::No)
         }
     }
-}
-
-/// Prints the text of the certificate.
-fn print_certificate(rt: &HostRuntime, certificate: &Certificate) -> Result<Outcome, Refusal> {
-    let text = certificate.write_text(rt.alloc())?;
-    print!(rt; "{text}")?;
-    Ok(Outcome::Yes)
 }

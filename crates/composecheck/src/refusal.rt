@@ -2,11 +2,11 @@
 use compose_cert::{CertFault, RepertoireFault};
 use compose_check::{CheckFault, InputFault};
 use compose_read::SourceFault;
-use compose_tool::{ManifestFault, TypeFault};
+use compose_tool::{ManifestFault, MigrationFault, TypeFault};
 use compose_tree::TableFault;
 use compose_walk::MakeFault;
 use keysym_core::NameFault;
-use std::alloc::{AllocError, AllocFailed};
+use std::alloc::{AllocError, AllocFailed, Global};
 use std::{fmt, io};
 use thiserror::Error;
 
@@ -63,6 +63,14 @@ impl Refusal {
         match fault {
             TableFault::NoMemory => Refusal::NoMemory,
             other => Refusal::Table { part, fault: other },
+        }
+    }
+
+    /// The refusal of a word that has no keysym.
+    pub fn of_word(alloc: Global, word: Option<&str>) -> Refusal {
+        match String::from_str(alloc, word.unwrap_or("")) {
+            Ok(word) => Refusal::Key { word },
+            Err(_) => Refusal::NoMemory,
         }
     }
 }
@@ -152,6 +160,18 @@ impl From<InputFault> for Refusal {
             InputFault::Repertoire(fault) => Refusal::from(fault),
             InputFault::Certificate(fault) => Refusal::from(fault),
             InputFault::NoMemory => Refusal::NoMemory,
+        }
+    }
+}
+
+impl From<MigrationFault> for Refusal {
+    fn from(fault: MigrationFault) -> Refusal {
+        match fault {
+            MigrationFault::Old(fault) => Refusal::of_table(Part::Old, fault),
+            MigrationFault::New(fault) => Refusal::of_table(Part::New, fault),
+            MigrationFault::Repertoire(fault) => Refusal::from(fault),
+            MigrationFault::Fresh(fault) => Refusal::from(fault),
+            MigrationFault::NoMemory => Refusal::NoMemory,
         }
     }
 }

@@ -69,12 +69,21 @@ fn make_command<'a>(alloc: Global) -> Result<Command<'a>, AllocError> {
         ))
 }
 
+/// The option for all differences.
+fn all_option<'a>(alloc: Global) -> Arg<'a> {
+    Arg::new(alloc, "all")
+        .long("all")
+        .help("Prints every shortest difference, and counts them")
+        .action(ArgAction::SetTrue)
+}
+
 /// The command that explains how two tables differ.
 fn explain_command<'a>(alloc: Global) -> Result<Command<'a>, AllocError> {
     Command::new(alloc, "explain")
         .about("Prints the shortest keys on which two tables differ")
         .arg(names_option(alloc))?
         .arg(fresh_option(alloc))?
+        .arg(all_option(alloc))?
         .arg(file(alloc, "OLD", "The manifest of the old table"))?
         .arg(file(alloc, "NEW", "The manifest of the new table"))
 }

@@ -1,5 +1,5 @@
-use Rattle.std.proofs.Common.{◌≡◌, ◌≤◌, ◌+◌, ◌∷◌, length, sym, ◌∙◌, ap, arith}
-use Rattle.std.specs.Prelude.{Ok, Err}
+use Rattle.std.proofs.Common.{◌+◌, sym, ◌∙◌, ap, arith}
+use Rattle.std.specs.Prelude.{Ok}
 use Rattle.keysym_core.specs.Lines.{lines_of}
 use Rattle.compose_tool.specs.Manifest.{lines_on}
 use Rattle.compose_tool.proofs.OneLine.{line_said, line_stops}

@@ -1,4 +1,4 @@
-use Rattle.std.proofs.Common.{◌≡◌, ◌≤◌, ◌+◌, ℕ, length}
+use Rattle.std.proofs.Common.{◌≡◌, ◌≤◌, ◌+◌, length}
 use Rattle.std.specs.Prelude.{Ok, None, []}
 use Rattle.keysym_core.specs.Lines.{lines_of}
 use Rattle.compose_tool.specs.Manifest.{Listing, lines_on}

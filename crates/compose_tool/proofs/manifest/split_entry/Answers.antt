@@ -1,4 +1,4 @@
-use Rattle.std.proofs.Common.{◌≡◌, sym, refl, ◌∙◌, ap, arith, get_or, length, take, ℕ, ◌-◌, ◌<◌, true, false, not, rules}
+use Rattle.std.proofs.Common.{◌≡◌, sym, ◌∙◌, ap, arith, get_or, length, take, ℕ, ◌-◌, ◌<◌}
 use Rattle.std.proofs.lemmas.Bool.{eqb-true, eq-eqb}
 use Rattle.std.specs.Option.{option_map}
 use Rattle.compose_tool.specs.Given.{entry}

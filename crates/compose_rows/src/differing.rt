@@ -1,0 +1,59 @@
+//! All differences of the worked tables, over each form of a table.
+use crate::rows::{ALL_EXPLAINED, Explained};
+use crate::tables::table;
+use compose_tree::{ComposeTable, ListTable, PackedTable};
+use compose_walk::{differences, explain_all};
+use keysym_core::Names;
+use std::alloc::Global;
+use std::test::Fail;
+
+/// What is printed of a row.
+fn printed<T: ComposeTable, U: ComposeTable>(
+    alloc: Global,
+    row: &Explained,
+) -> Result<String, Fail> {
+    let names = Names::core(alloc)?;
+    let old: T = table(alloc, &names, row.old)?;
+    let new: U = table(alloc, &names, row.new)?;
+    let differences = differences(alloc, &old, &new, &names, &[])?;
+    Ok(explain_all(alloc, &names, &differences)?)
+}
+
+/// The first row of which something else is printed.
+fn first_wrong<T: ComposeTable, U: ComposeTable>(
+    alloc: Global,
+    rows: &[Explained],
+) -> Result<Option<&'static str>, Fail> {
+    for row in rows {
+        if printed::<T, U>(alloc, row)?.as_str() != row.prints {
+            return Ok(Some(row.name));
+        }
+    }
+    Ok(None)
+}
+
+#[test]
+fn differences_over_both_tables(rt: HostRuntime) -> Result<(), Fail> {
+    assert_eq!(rt;
+        first_wrong::<ListTable, ListTable>(rt.alloc(), &ALL_EXPLAINED)?,
+        None
+    );
+    assert_eq!(rt;
+        first_wrong::<PackedTable, PackedTable>(rt.alloc(), &ALL_EXPLAINED)?,
+        None
+    );
+    Ok(())
+}
+
+#[test]
+fn differences_over_one_of_each(rt: HostRuntime) -> Result<(), Fail> {
+    assert_eq!(rt;
+        first_wrong::<ListTable, PackedTable>(rt.alloc(), &ALL_EXPLAINED)?,
+        None
+    );
+    assert_eq!(rt;
+        first_wrong::<PackedTable, ListTable>(rt.alloc(), &ALL_EXPLAINED)?,
+        None
+    );
+    Ok(())
+}
