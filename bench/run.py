@@ -1,68 +1,180 @@
 #!/usr/bin/env python3
-"""run.py PROGRAM: whole processes of the program and of libxkbcommon on the same table, interleaved, and their ratios.
+"""run.py PROGRAM BENCH: times of the program and of single calls, and libxkbcommon at the same work, in turns.
 
-Needs Debian's libx11-data, x11proto-dev and libxkbcommon-dev, and a C compiler. Each figure is the least of many runs."""
+PROGRAM is `composecheck`, BENCH is `compose_bench` (crates/compose_bench). It needs Debian's libx11-data, x11proto-dev
+and libxkbcommon-dev, and a C compiler. Each figure is the least of some runs, on the table of en_US.UTF-8."""
 import os
+import re
 import subprocess
 import sys
 import tempfile
 import time
 
 TOP = os.path.dirname(os.path.dirname(os.path.abspath(__file__)))
-HEADER = "/usr/include/X11/keysymdef.h"
+sys.path.insert(0, os.path.join(TOP, "tests"))
+import key_streams
+
 SHORT_NAMES = os.path.join(TOP, "share", "composecheck", "short-unicode-names.h")
 ENGLISH = "/usr/share/X11/locale/en_US.UTF-8/Compose"
-RUNS = 60
+KEYS = 10_000_000
+CHARACTERS = 1000
+MOST_NODES = 1_048_576
+MOST_CHARACTERS = 65_536
+ADDED = 20
 
 
-def seconds(command, folder):
-    """The time of one process."""
-    start = time.perf_counter()
-    subprocess.run(command, cwd=folder, stdout=subprocess.DEVNULL, check=False)
-    return time.perf_counter() - start
+def figures(command, folder):
+    """What a program prints: a name, a tab and a number on each line."""
+    ran = subprocess.run(command, cwd=folder, capture_output=True, text=True, check=True)
+    return {name: int(number) for name, number in (line.split("\t") for line in ran.stdout.splitlines())}
 
 
-def least(commands, folder):
-    """The least time of each command, taken in turns."""
-    best = {name: float("inf") for name in commands}
-    for _ in range(RUNS):
+def least_figures(commands, folder, rounds):
+    """The least figures of each command, taken in turns."""
+    least = {name: {} for name in commands}
+    for _ in range(rounds):
         for name, command in commands.items():
-            best[name] = min(best[name], seconds(command, folder))
+            for figure, number in figures(command, folder).items():
+                least[name][figure] = min(number, least[name].get(figure, number))
+    return least
+
+
+def process(command, folder):
+    """The seconds of a whole process and the most memory that it held, in bytes."""
+    with open(os.path.join(folder, "output"), "wb") as output:
+        start = time.perf_counter()
+        child = subprocess.Popen(command, cwd=folder, stdout=output)
+        _, status, usage = os.wait4(child.pid, 0)
+        child.returncode = os.waitstatus_to_exitcode(status)
+    return time.perf_counter() - start, usage.ru_maxrss * 1024
+
+
+def least_processes(commands, folder, rounds):
+    """The least seconds of each process, taken in turns."""
+    best = {name: float("inf") for name in commands}
+    for _ in range(rounds):
+        for name, command in commands.items():
+            best[name] = min(best[name], process(command, folder)[0])
     return best
 
 
+def write(folder, name, text):
+    with open(os.path.join(folder, name), "w", encoding="utf-8") as file:
+        file.write(text)
+
+
+def read(path):
+    with open(path, encoding="utf-8") as file:
+        return file.read()
+
+
 def prepare(folder):
-    """The names, two manifests, an empty table and the other program."""
-    with open(os.path.join(folder, "names"), "w") as names:
-        names.write(open(HEADER).read() + open(SHORT_NAMES).read())
-    with open(os.path.join(folder, "english"), "w") as manifest:
-        manifest.write(f"root\t{ENGLISH}\n")
-    with open(os.path.join(folder, "nothing"), "w") as manifest:
-        manifest.write("root\tempty\n")
-    open(os.path.join(folder, "empty"), "w").close()
+    """The names, the manifests and the other program."""
+    write(folder, "names", read(key_streams.HEADER) + read(SHORT_NAMES))
+    write(folder, "english", f"root\t{ENGLISH}\n")
+    write(folder, "nothing", "root\tempty\n")
+    write(folder, "empty", "")
+    write(folder, "more", read(ENGLISH) + "".join(f'<Multi_key> <F1> <{chr(97 + i)}> : "{i}"\n' for i in range(ADDED)))
+    write(folder, "longer", "root\tmore\n")
     subprocess.run(["cc", "-O2", "-o", "xkb", os.path.join(TOP, "bench", "xkb.c"), "-lxkbcommon"], cwd=folder, check=True)
 
 
-def main():
-    program = os.path.abspath(sys.argv[1])
+def compare_compiling(bench, folder):
+    """From bytes to a table."""
+    times = least_figures({"ours": [bench, "compile", "names", ENGLISH], "theirs": ["./xkb", "compile", ENGLISH, "200"]}, folder, 5)
+    ours, theirs = times["ours"], times["theirs"]
+    memory = 8 * (ours["nodes"] + 1) + 8 * ours["edges"] + 4 * (ours["sequences"] + 1) + ours["text bytes"]
+    print(f"table: {ours['nodes']} nodes, {ours['edges']} edges, {ours['root edges']} root edges, {ours['sequences']} sequences")
+    print(f"memory: {memory} bytes of arrays; libxkbcommon {theirs['memory']}; ratio {memory / theirs['memory']:.2f}")
+    for part in ["read", "settle", "build", "compile"]:
+        print(f"{part}: {ours[part] / 1e6:.3f} ms")
+    print(f"libxkbcommon compiles in {theirs['compile'] / 1e6:.3f} ms; ratio {ours['compile'] / theirs['compile']:.2f}")
+
+
+def compare_typing(bench, folder):
+    """Ten million keys."""
+    keys = key_streams.stream(key_streams.sequences(ENGLISH, key_streams.header_values()), KEYS, 1)
+    key_streams.write(keys, os.path.join(folder, "keys"))
+    times = least_figures({"ours": [bench, "type", "names", ENGLISH, "keys"], "theirs": ["./xkb", "type", ENGLISH, "keys"]}, folder, 5)
+    ours, theirs = times["ours"], times["theirs"]
+    statuses = ["nothing", "composing", "composed", "cancelled"]
+    same = all(ours[status] == theirs[status] for status in statuses)
+    print(f"{KEYS} keys: {ours['type'] / KEYS:.1f} ns a key; libxkbcommon {theirs['type'] / KEYS:.1f}; ratio {ours['type'] / theirs['type']:.2f}")
+    print("statuses:", ", ".join(f"{ours[status]} {status}" for status in statuses), "(as libxkbcommon)" if same else f"(libxkbcommon: {theirs})")
+
+
+def measure_calls(bench, folder):
+    """Lexing, and reading names."""
+    lexing = least_figures({"lex": [bench, "lex", ENGLISH]}, folder, 3)["lex"]["lex"]
+    names = least_figures({"names": [bench, "names", "names"]}, folder, 3)["names"]["names"]
+    print(f"lexing: {lexing / 1e6:.3f} ms, {lexing / 1e6 / os.path.getsize(ENGLISH) * 100_000:.3f} ms for 100 KB")
+    print(f"reading {os.path.getsize(os.path.join(folder, 'names'))} bytes of names: {names / 1e6:.3f} ms")
+
+
+def compare_processes(program, folder):
+    """Whole processes."""
     keys = ["Multi_key", "apostrophe", "e"]
+    typing = [program, "type", "--names", "names"]
+    times = least_processes(
+        {
+            "ours": [*typing, "english", *keys],
+            "ours, empty table": [*typing, "nothing", *keys],
+            "theirs": ["./xkb", "process", ENGLISH, *keys],
+        },
+        folder,
+        60,
+    )
+    print(f"process, three keys: {times['ours'] * 1000:.2f} ms; libxkbcommon {times['theirs'] * 1000:.2f}; ratio {times['ours'] / times['theirs']:.2f}")
+    return times["ours, empty table"] + 2 * (times["ours"] - times["ours, empty table"])
+
+
+def typed_characters():
+    """Characters that sequences of the table type."""
+    texts = re.findall(r':\s*"(.)"', read(ENGLISH))
+    return sorted({text for text in texts if ord(text) > 0xA0})[:CHARACTERS]
+
+
+def measure_migration(program, folder, reading):
+    """Making and checking a certificate for a table with some more sequences."""
+    characters = typed_characters()
+    write(folder, "repertoire", "keys 0x20 0x1fffffff\n" + "".join(f"U+{ord(c):04X}\n" for c in characters))
+    make = [program, "make", "--names", "names", "english", "longer", "repertoire"]
+    check = [program, "check", "--names", "names", "english", "longer", "repertoire", "certificate"]
+    write(folder, "certificate", subprocess.run(make, cwd=folder, capture_output=True, text=True, check=True).stdout)
+    times = least_processes({"make": make, "check": check}, folder, 40)
+    print(f"reading names and two tables: {reading * 1000:.2f} ms")
+    for name, seconds in times.items():
+        print(f"{name}, {len(characters)} characters: {seconds * 1000:.2f} ms; {seconds / reading:.2f} of reading")
+
+
+def measure_limits(program, bench, folder):
+    """Tables, repertoires and certificates at their limits."""
+    write(folder, "deep", "".join(f"<0x{0x1000100 + i:x}>{'<a>' * 31} : \"x\"\n" for i in range((MOST_NODES - 1) // 31)))
+    write(folder, "deepest", "root\tdeep\n")
+    characters = [c for c in range(0x1_0000, 0x11_0000)][:MOST_CHARACTERS]
+    write(folder, "repertoire", "keys 0x20 0x1fffffff\n" + "".join(f"U+{c:04X}\n" for c in characters))
+    make = [program, "make", "deepest", "deepest", "repertoire"]
+    made, memory = process(make, folder)
+    os.rename(os.path.join(folder, "output"), os.path.join(folder, "certificate"))
+    print(f"make, {MOST_NODES} nodes, {MOST_CHARACTERS} characters: {made:.2f} s, at most {memory / 1e6:.0f} MB")
+    checked, memory = process([program, "check", "deepest", "deepest", "repertoire", "certificate"], folder)
+    print(f"check of its certificate: {checked:.2f} s, at most {memory / 1e6:.0f} MB; {read(os.path.join(folder, 'output')).strip()}")
+    found = figures([bench, "certificate", "certificate"], folder)
+    _, memory = process([bench, "certificate", "certificate"], folder)
+    size = os.path.getsize(os.path.join(folder, "certificate"))
+    print(f"certificate of {found['pairs']} pairs, {size} bytes: read in {found['read certificate'] / 1e6:.0f} ms, written in {found['write certificate'] / 1e6:.0f} ms, at most {memory / 1e6:.0f} MB with its text twice")
+
+
+def main():
+    program, bench = (os.path.abspath(path) for path in sys.argv[1:3])
     with tempfile.TemporaryDirectory() as folder:
         prepare(folder)
-        times = least(
-            {
-                "ours": [program, "type", "--names", "names", "english", *keys],
-                "ours, empty table": [program, "type", "--names", "names", "nothing", *keys],
-                "libxkbcommon": ["./xkb", ENGLISH, *keys],
-                "libxkbcommon, empty table": ["./xkb", "empty", *keys],
-            },
-            folder,
-        )
-    for name, time_taken in times.items():
-        print(f"{name:28} {time_taken * 1000:7.2f} ms")
-    whole = times["ours"] / times["libxkbcommon"]
-    table = (times["ours"] - times["ours, empty table"]) / (times["libxkbcommon"] - times["libxkbcommon, empty table"])
-    print(f"whole process, three keys: {whole:.2f} of libxkbcommon's time")
-    print(f"the table alone (less the same process on an empty table): {table:.2f}")
+        compare_compiling(bench, folder)
+        measure_calls(bench, folder)
+        compare_typing(bench, folder)
+        reading = compare_processes(program, folder)
+        measure_migration(program, folder, reading)
+        measure_limits(program, bench, folder)
 
 
 if __name__ == "__main__":

@@ -1,22 +1,28 @@
 #!/usr/bin/env python3
-"""real.py PROGRAM: runs the program on the files that Debian ships (not part of the gate).
+"""real.py PROGRAM BENCH: runs the program, and `compose_bench`, on the files that Debian ships (not part of the gate).
 
-The names file is keysymdef.h with our header of short names; the tables are the UTF-8 tables of libx11-data.
-The last line is `N passed, M failed`."""
+The names file is keysymdef.h with our header of short names; the tables are the UTF-8 tables of libx11-data. Typing is
+compared with libxkbcommon at each of 300,000 random keys a table. The last line is `N passed, M failed`."""
 import itertools
 import os
+import re
 import subprocess
 import sys
 import tempfile
 import time
 
+import key_streams
+from key_streams import HEADER
+
 TOP = os.path.dirname(os.path.dirname(os.path.abspath(__file__)))
-HEADER = "/usr/include/X11/keysymdef.h"
 SHORT_NAMES = os.path.join(TOP, "share", "composecheck", "short-unicode-names.h")
 LOCALES = "/usr/share/X11/locale"
 ENGLISH = os.path.join(LOCALES, "en_US.UTF-8", "Compose")
-PACKAGES = {HEADER: "x11proto-dev", ENGLISH: "libx11-data"}
+XKB_HEADER = "/usr/include/xkbcommon/xkbcommon-compose.h"
+PACKAGES = {HEADER: "x11proto-dev", ENGLISH: "libx11-data", XKB_HEADER: "libxkbcommon-dev"}
 EMPTY_REPERTOIRE = "repertoire"
+KEYS = 300_000
+KEYS_A_PROCESS = 30_000
 
 
 class Results:
@@ -48,6 +54,8 @@ def write_manifests(folder):
             manifest.write(f"overlap {rule}\nroot\t{os.path.join(LOCALES, name, 'Compose')}\n{ENGLISH}\t{ENGLISH}\n")
     with open(os.path.join(folder, "names"), "w") as names:
         names.write(open(HEADER).read() + open(SHORT_NAMES).read())
+    with open(os.path.join(folder, "nothing"), "w") as manifest:
+        manifest.write(f"root\t{EMPTY_REPERTOIRE}\n")
     open(os.path.join(folder, EMPTY_REPERTOIRE), "w").close()
 
 
@@ -61,16 +69,66 @@ def check_tables(program, folder, results):
     results.expect("typing e acute", ran.stdout == 'composing ""\ncomposing ""\ncomposed "é"\n', ran.stdout)
 
 
+def header_characters():
+    """The character that the header gives to each value, by a comment that begins with its number."""
+    given = {}
+    with open(HEADER, encoding="utf-8") as file:
+        for line in file:
+            found = re.match(r"#define XK_\w+\s+0x([0-9a-fA-F]+)\s*/\*\s*\(?U\+([0-9a-fA-F]{4,6})\b", line)
+            if found:
+                given.setdefault(int(found[1], 16), chr(int(found[2], 16)))
+    return given
+
+
+def own_text(keysym, given):
+    """What a key types outside of all sequences."""
+    if keysym in range(0x20, 0x7F) or keysym in range(0xA0, 0x100):
+        return chr(keysym)
+    if keysym in range(0x1000100, 0x1110000):
+        return chr(keysym - 0x1000000)
+    if keysym in range(0xFFB0, 0xFFBA):
+        return chr(keysym - 0xFFB0 + 0x30)
+    return given.get(keysym, "")
+
+
+def is_modifier(keysym):
+    """Whether a compose state passes over the key."""
+    return keysym in range(0xFFE1, 0xFFEF) or keysym in range(0xFE01, 0xFE14) or keysym in (0xFF7E, 0xFF7F)
+
+
 def check_header(program, folder, results):
-    """The header is accepted as it stands."""
-    ran = run(program, folder, "type", "--names", HEADER, "ja_JP.UTF-8.refuse", "Greek_alpha")
-    results.expect("keysymdef.h alone", "1 Read: 4 UnknownKeysym" in ran.stderr or ran.returncode == 0, ran.stderr)
+    """The header is accepted as it stands: all its names and one core name are keysyms, and each types its character."""
+    values = {"NoSymbol": 0, **key_streams.header_values()}
+    given = header_characters()
+    results.expect("names of keysymdef.h and the core", len(values) == 2105, len(values))
+    results.expect("characters of keysymdef.h", len(given) == 1667, len(given))
+    ran = run(program, folder, "type", "--names", HEADER, "nothing", *values)
+    lines = ran.stdout.splitlines()
+    results.expect("all names are keysyms", len(lines) == len(values), ran.stderr)
+    for (name, keysym), line in zip(values.items(), lines):
+        text = re.sub(r'(["\\])', r"\\\1", own_text(keysym, given))
+        expected = 'ignored ""' if is_modifier(keysym) else f'nothing "{text}"'
+        results.expect(f"typing {name}", line == expected, line)
+
+
+def is_whole(first, every):
+    """Whether these are all differences with their count, the first one in front; or both say that the new table follows."""
+    if first == "follows\n":
+        return every == first
+    *differences, counted = every.split("\n\n")
+    total, *kinds = [int(number) for number in re.findall(r"\d+", counted)]
+    return first == differences[0] + "\n" and total == len(differences) == sum(kinds)
+
+
+def check_counts(bench, folder, results):
+    """What the table of en_US.UTF-8 holds."""
+    counts = dict(line.split("\t") for line in run(bench, folder, "compile", "names", ENGLISH).stdout.splitlines())
+    for what, count in {"nodes": 948, "edges": 6619, "root edges": 44, "sequences": 5672}.items():
+        results.expect(f"{what} of en_US.UTF-8", counts.get(what) == str(count), counts)
 
 
 def check_migrations(program, folder, results):
     """Each table follows itself by a certificate that the checker accepts, and each pair is explained within a second."""
-    if "make" not in run(program, folder, "--help").stdout:
-        return
     for name in locales():
         manifest = f"{name}.longest"
         made = run(program, folder, "make", "--names", "names", manifest, manifest, EMPTY_REPERTOIRE)
@@ -83,12 +141,47 @@ def check_migrations(program, folder, results):
         ran = run(program, folder, "explain", "--names", "names", f"{old}.longest", f"{new}.longest")
         seconds = time.monotonic() - start
         results.expect(f"explain {old} to {new}", ran.returncode in (0, 1) and seconds < 1, (ran.stdout + ran.stderr, seconds))
+        every = run(program, folder, "explain", "--all", "--names", "names", f"{old}.longest", f"{new}.longest").stdout
+        results.expect(f"explain --all of {old} to {new}", is_whole(ran.stdout, every), every[-200:])
     ran = run(program, folder, "explain", "--names", "names", "en_US.UTF-8.longest", "cs_CZ.UTF-8.longest")
     results.expect("en_US to cs_CZ", ran.stdout == 'keys dead_caron U\nkind text\nold "Ǔ"\nnew "Ů"\n', ran.stdout)
 
 
+def ours(program, folder, table, keys):
+    """The status of each key and the text that a sequence commits there."""
+    ran = run(program, folder, "type", "--names", "names", table, *[f"0x{key:x}" for key in keys])
+    for line in ran.stdout.splitlines():
+        status, text = line.split(" ", 1)
+        yield status, text[1:-1] if status == "composed" else ""
+
+
+def theirs(folder, table, keys):
+    """The same of libxkbcommon."""
+    key_streams.write(keys, os.path.join(folder, "keys"))
+    ran = run("./xkb", folder, "answers", table, "keys")
+    for line in ran.stdout.split("\n")[:-1]:
+        status, _, text = line.partition(" ")
+        yield status, re.sub(r'(["\\])', r"\\\1", text) if status == "composed" else ""
+
+
+def check_typing(program, folder, results):
+    """At each of many random keys libxkbcommon has our status, and our text where a sequence ends."""
+    compiler = ["cc", "-O2", "-o", "xkb", os.path.join(TOP, "bench", "xkb.c"), "-lxkbcommon"]
+    subprocess.run(compiler, cwd=folder, check=True)
+    values = key_streams.header_values()
+    for name in locales():
+        path = os.path.join(LOCALES, name, "Compose")
+        keys = key_streams.random_keys(key_streams.sequences(path, values), KEYS, name)
+        agreed = 0
+        for start in range(0, KEYS, KEYS_A_PROCESS):
+            part = keys[start : start + KEYS_A_PROCESS]
+            pairs = zip(ours(program, folder, f"{name}.longest", part), theirs(folder, path, part), strict=True)
+            agreed += sum(1 for mine, other in pairs if mine == other)
+        results.expect(f"typing on {name} as libxkbcommon", agreed == KEYS, agreed)
+
+
 def main():
-    program = os.path.abspath(sys.argv[1])
+    program, bench = (os.path.abspath(path) for path in sys.argv[1:3])
     for path, package in PACKAGES.items():
         if not os.path.exists(path):
             print(f"{path} is missing: install it with `apt-get install {package}`")
@@ -98,7 +191,9 @@ def main():
         write_manifests(folder)
         check_header(program, folder, results)
         check_tables(program, folder, results)
+        check_counts(bench, folder, results)
         check_migrations(program, folder, results)
+        check_typing(program, folder, results)
     print(f"{results.passed} passed, {results.failed} failed")
     return 1 if results.failed else 0
 

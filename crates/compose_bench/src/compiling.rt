@@ -1,0 +1,137 @@
+//! Compiling a table from its bytes.
+use crate::failure::Failure;
+use crate::figures::print;
+use crate::input::{read_names, read_packed, read_sources};
+use crate::stopwatch::{ROUNDS, Stopwatch, now};
+use compose_model::Rule;
+use compose_read::{Definitions, Sequences, Sources, read_definitions, settle};
+use compose_tree::{ComposeTable, LeafId, NodeId, PackedTable};
+use keysym_core::Names;
+
+/// The quickest times of the three parts of compiling, and of the whole.
+#[derive(Clone, Copy, Drop)]
+struct Times {
+    reading: Stopwatch,
+    settling: Stopwatch,
+    building: Stopwatch,
+    whole: Stopwatch,
+}
+
+/// Reads, settles and builds a table; prints the times, and what the table holds.
+pub fn compile(rt: &HostRuntime, header: &str, path: &str) -> Result<(), Failure> {
+    let names = read_names(rt, header)?;
+    let sources = read_sources(rt, path)?;
+    print_times(rt, measure(rt, &names, &sources, path)?)?;
+    print_counts(rt, &read_packed(rt, &names, path)?)
+}
+
+/// The times of some rounds.
+fn measure(
+    rt: &HostRuntime,
+    names: &Names,
+    sources: &Sources,
+    root: &str,
+) -> Result<Times, Failure> {
+    let mut times = Times {
+        reading: Stopwatch::new(),
+        settling: Stopwatch::new(),
+        building: Stopwatch::new(),
+        whole: Stopwatch::new(),
+    };
+    for _ in 0..ROUNDS {
+        let start = now(rt)?;
+        let definitions = read_round(rt, names, sources, root, &mut times.reading)?;
+        let sequences = settle_round(rt, definitions, &mut times.settling)?;
+        build_round(rt, sequences, &mut times.building)?;
+        times.whole.stop(rt, start)?;
+    }
+    Ok(times)
+}
+
+/// Reads the definitions.
+fn read_round(
+    rt: &HostRuntime,
+    names: &Names,
+    sources: &Sources,
+    root: &str,
+    stopwatch: &mut Stopwatch,
+) -> Result<Definitions, Failure> {
+    let start = now(rt)?;
+    let Ok(definitions) = read_definitions(rt.alloc(), names, sources, root) else {
+        return Err(Failure::Input);
+    };
+    stopwatch.stop(rt, start)?;
+    Ok(definitions)
+}
+
+/// Settles them.
+fn settle_round(
+    rt: &HostRuntime,
+    definitions: Definitions,
+    stopwatch: &mut Stopwatch,
+) -> Result<Sequences, Failure> {
+    let start = now(rt)?;
+    let Ok(sequences) = settle(rt.alloc(), definitions, Rule::Refuse) else {
+        return Err(Failure::Input);
+    };
+    stopwatch.stop(rt, start)?;
+    Ok(sequences)
+}
+
+/// Builds the table.
+fn build_round(
+    rt: &HostRuntime,
+    sequences: Sequences,
+    stopwatch: &mut Stopwatch,
+) -> Result<(), Failure> {
+    let start = now(rt)?;
+    if PackedTable::build(rt.alloc(), sequences).is_err() {
+        return Err(Failure::Input);
+    }
+    stopwatch.stop(rt, start)
+}
+
+/// Prints the times.
+fn print_times(rt: &HostRuntime, times: Times) -> Result<(), Failure> {
+    print(
+        rt,
+        &[
+            ("read", times.reading.least()),
+            ("settle", times.settling.least()),
+            ("build", times.building.least()),
+            ("compile", times.whole.least()),
+        ],
+    )
+}
+
+/// Prints how many nodes, edges and sequences a table has, and the bytes of its texts.
+fn print_counts(rt: &HostRuntime, table: &PackedTable) -> Result<(), Failure> {
+    print(
+        rt,
+        &[
+            ("nodes", u64::from(table.node_count())),
+            ("edges", count_edges(table)),
+            ("root edges", u64::from(table.edge_count(NodeId(0)))),
+            ("sequences", u64::from(table.leaf_count())),
+            ("text bytes", count_text_bytes(table)),
+        ],
+    )
+}
+
+/// How many edges all nodes have.
+fn count_edges(table: &PackedTable) -> u64 {
+    let mut count = 0u64;
+    for node in 0..table.node_count() {
+        count = count.saturating_add(u64::from(table.edge_count(NodeId(node))));
+    }
+    count
+}
+
+/// How many bytes all texts have.
+fn count_text_bytes(table: &PackedTable) -> u64 {
+    let mut count = 0u64;
+    for leaf in 0..table.leaf_count() {
+        count = count.saturating_add(table.text(LeafId(leaf)).len() as u64);
+    }
+    count
+}

@@ -1,0 +1,57 @@
+//! Times of single calls, for `bench/run.py`: `compose_bench WHAT FILE..` prints lines of a name, a tab and a number.
+//! Times are nanoseconds of the quickest of some rounds.
+#![tactic(auto)]
+
+mod compiling;
+mod failure;
+mod figures;
+mod input;
+mod reading;
+mod stopwatch;
+mod typing;
+
+use failure::Failure;
+use std::process::ExitCode;
+
+/// Measures what the words say.
+fn run(rt: &HostRuntime, words: &[&str]) -> Result<(), Failure> {
+    match words {
+        ["lex", table] => reading::lex(rt, table),
+        ["names", header] => reading::read_names(rt, header),
+        ["certificate", certificate] => reading::read_certificate(rt, certificate),
+        ["compile", header, table] => compiling::compile(rt, header, table),
+        ["type", header, table, keys] => typing::type_keys(rt, header, table, keys),
+        _ => Err(Failure::Words),
+    }
+}
+
+/// The words behind the program's name.
+fn words_given(rt: &HostRuntime) -> Result<Vec<String>, Failure> {
+    let Ok(words) = std::env::args(rt) else {
+        return Err(Failure::Words);
+    };
+    let Ok(words) = words.skip(1).collect(rt.alloc()) else {
+        return Err(Failure::NoMemory);
+    };
+    Ok(words)
+}
+
+/// Runs with the words behind the program's name.
+fn run_given(rt: &HostRuntime) -> Result<(), Failure> {
+    let given = words_given(rt)?;
+    let Ok(words) = given
+        .iter()
+        .map(|word| word.as_str())
+        .collect::<Vec<&str>>(rt.alloc())
+    else {
+        return Err(Failure::NoMemory);
+    };
+    run(rt, &words)
+}
+
+fn main(rt: HostRuntime) -> ExitCode {
+    match run_given(&rt) {
+        Ok(()) => ExitCode::from(0),
+        Err(failure) => ExitCode::from(failure.status()),
+    }
+}

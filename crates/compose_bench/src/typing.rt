@@ -1,0 +1,106 @@
+//! Typing a stream of keys.
+use crate::failure::Failure;
+use crate::figures::print;
+use crate::input::{read_file, read_names, read_packed};
+use crate::stopwatch::{Stopwatch, now};
+use arrayvec::ArrayString;
+use compose_model::Status;
+use compose_state::ComposeState;
+use compose_tree::PackedTable;
+use keysym_core::{Keysym, Names};
+
+/// How often each status came, and the bytes of all committed texts.
+#[derive(Clone, Copy, Drop)]
+struct Counts {
+    nothing: u64,
+    composing: u64,
+    composed: u64,
+    cancelled: u64,
+    text_bytes: u64,
+}
+
+impl Counts {
+    /// No key yet.
+    fn new() -> Counts {
+        Counts {
+            nothing: 0,
+            composing: 0,
+            composed: 0,
+            cancelled: 0,
+            text_bytes: 0,
+        }
+    }
+
+    /// Counts a key.
+    fn count(&mut self, status: Status, text_bytes: usize) {
+        let count = match status {
+            Status::Nothing => &mut self.nothing,
+            Status::Composing => &mut self.composing,
+            Status::Composed => &mut self.composed,
+            Status::Cancelled => &mut self.cancelled,
+        };
+        *count = count.saturating_add(1);
+        self.text_bytes = self.text_bytes.saturating_add(text_bytes as u64);
+    }
+}
+
+/// Types the keys of a file, four bytes each, the lowest first.
+pub fn type_keys(rt: &HostRuntime, header: &str, path: &str, keys: &str) -> Result<(), Failure> {
+    let names = read_names(rt, header)?;
+    let table = read_packed(rt, &names, path)?;
+    let keys = read_keys(rt, keys)?;
+    let mut stopwatch = Stopwatch::new();
+    let start = now(rt)?;
+    let counts = type_all(&table, &names, &keys);
+    stopwatch.stop(rt, start)?;
+    print_counts(rt, stopwatch.least(), counts)
+}
+
+/// Prints the time and the counts.
+fn print_counts(rt: &HostRuntime, time: u64, counts: Counts) -> Result<(), Failure> {
+    print(
+        rt,
+        &[
+            ("type", time),
+            ("nothing", counts.nothing),
+            ("composing", counts.composing),
+            ("composed", counts.composed),
+            ("cancelled", counts.cancelled),
+            ("text bytes", counts.text_bytes),
+        ],
+    )
+}
+
+/// The keysyms of a file.
+fn read_keys(rt: &HostRuntime, path: &str) -> Result<Vec<Keysym>, Failure> {
+    let bytes = read_file(rt, path)?;
+    let mut keys = Vec::new(rt.alloc());
+    for place in 0..bytes.len() / 4 {
+        let Some(keysym) = keysym_at(&bytes, place * 4) else {
+            return Err(Failure::Input);
+        };
+        if keys.push(keysym).is_err() {
+            return Err(Failure::NoMemory);
+        }
+    }
+    Ok(keys)
+}
+
+/// The keysym of the four bytes at this place.
+fn keysym_at(bytes: &[u8], place: usize) -> Option<Keysym> {
+    let four = bytes.get(place..)?.first_chunk::<4>()?;
+    Keysym::new(u32::from_le_bytes(*four))
+}
+
+/// Feeds each key, and looks at the status and at the text each time.
+fn type_all(table: &PackedTable, names: &Names, keys: &[Keysym]) -> Counts {
+    let mut counts = Counts::new();
+    let mut state = ComposeState::new();
+    let mut text: ArrayString<255> = ArrayString::new();
+    for key in keys {
+        let fed = state.feed(table, names, *key);
+        fed.text_into(&mut text);
+        counts.count(fed.status, text.len());
+    }
+    counts
+}
