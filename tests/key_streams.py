@@ -2,6 +2,7 @@
 
 The table's events are found by a regular expression, which is no reading of the table: it only picks keys to press."""
 import array
+import itertools
 import os
 import random
 import re
@@ -9,6 +10,9 @@ import sys
 
 HEADER = "/usr/include/X11/keysymdef.h"
 SHIFT = 0xFFE1
+DELETE = 0xFFFF
+# those that both programs ignore
+MODIFIERS = [*range(0xFFE1, 0xFFEF), *range(0xFE01, 0xFE10), 0xFF7E, 0xFF7F]
 DEFINITION = re.compile(r"#define XK_(\w+)\s+0x([0-9a-fA-F]+)")
 EVENTS = re.compile(r"\s*((?:<\w+>\s*)+):")
 INCLUDE = re.compile(r'\s*include\s+"([^"]*)"')
@@ -46,43 +50,48 @@ def sequences(path, values):
     return found
 
 
-def stream(keys_of, count, seed):
-    """60 % whole sequences, 25 % plain keys, 10 % a proper prefix and a key that ends it, 5 % a sequence with Shift inside."""
-    chance = random.Random(seed)
-    keys = array.array("I")
-    while len(keys) < count:
+def first_keys(parts, count):
+    """So many keys from the front of endless parts."""
+    return array.array("I", itertools.islice(itertools.chain.from_iterable(parts), count))
+
+
+def typed_parts(keys_of, chance):
+    """What people type, as `stream` says."""
+    while True:
         what = chance.random()
         sequence = chance.choice(keys_of)
         if what < 0.60:
-            keys.extend(sequence)
+            yield sequence
         elif what < 0.85:
-            keys.append(chance.randrange(0x61, 0x7B))
+            yield [chance.randrange(0x61, 0x7B)]
         elif what < 0.95:
-            keys.extend(sequence[: chance.randrange(1, len(sequence) + 1) if len(sequence) == 1 else chance.randrange(1, len(sequence))])
-            keys.append(0xFFFF)
+            yield sequence[: chance.randrange(1, max(2, len(sequence)))] + [DELETE]
         else:
-            keys.append(sequence[0])
-            keys.append(SHIFT)
-            keys.extend(sequence[1:])
-    return keys[:count]
+            yield sequence[:1] + [SHIFT] + sequence[1:]
+
+
+def stream(keys_of, count, seed):
+    """60 % whole sequences, 25 % plain keys, 10 % the front of a sequence and a key that ends it, 5 % a sequence with Shift inside."""
+    return first_keys(typed_parts(keys_of, random.Random(seed)), count)
+
+
+def random_parts(keys_of, chance):
+    """Keys in no order that makes sense, as `random_keys` says."""
+    pool = sorted({key for sequence in keys_of for key in sequence}) + MODIFIERS
+    while True:
+        what = chance.random()
+        sequence = chance.choice(keys_of)
+        if what < 0.5:
+            yield sequence
+        elif what < 0.7:
+            yield sequence[: chance.randrange(len(sequence))]
+        else:
+            yield [chance.choice(pool)]
 
 
 def random_keys(keys_of, count, seed):
     """Keys of sequences, of fronts of them, and any keysyms of the table in any order, with modifiers among them."""
-    chance = random.Random(seed)
-    pool = sorted({key for sequence in keys_of for key in sequence})
-    pool += list(range(0xFFE1, 0xFFEF)) + list(range(0xFE01, 0xFE10)) + [0xFF7E, 0xFF7F]
-    keys = array.array("I")
-    while len(keys) < count:
-        what = chance.random()
-        sequence = chance.choice(keys_of)
-        if what < 0.5:
-            keys.extend(sequence)
-        elif what < 0.7:
-            keys.extend(sequence[: chance.randrange(len(sequence))])
-        else:
-            keys.append(chance.choice(pool))
-    return keys[:count]
+    return first_keys(random_parts(keys_of, random.Random(seed)), count)
 
 
 def write(keys, path):
