@@ -5,6 +5,7 @@ pub mod Forms
 pub mod Headers
 pub mod Index
 pub mod Lines
+pub mod Lanes
 pub mod NextOf
 pub mod Rows
 pub mod Texts

@@ -1,7 +1,18 @@
 -- Lines of bytes, by the place of the first newline.
-use Rattle.std.proofs.Common.{◌≡◌, ◌≢◌, ℕ, ◌<◌, zero, suc, List, [], ◌∷◌, length, take, drop, get_or, refl, ◌∙◌, ap, arith, Bool, true, false, cond, eqb-true}
+use Rattle.std.proofs.Common.{◌≡◌, ◌≢◌, ℕ, ◌<◌, zero, suc, List, [], ◌∷◌, length, take, drop, get_or, refl, ◌∙◌, ap, arith, Bool, true, false, not, cond, eqb-true}
 use Rattle.std.specs.Prelude.{◌==◌}
-use Rattle.keysym_core.specs.Lines.{lines_of, onto_first}
+use Rattle.keysym_core.specs.Lines.{in_line, lines_of, onto_first}
+
+-- a byte that is none of a line is the newline
+pub ends_line : (b : ℕ) → in_line b ≡ false → b ≡ 10
+ends_line b e = eqb-true b 10 (flip (b == 10) e)
+  where
+    flip : (t : Bool) → not t ≡ false → t ≡ true
+    flip true e = refl
+    flip false e = cc
+
+pub stays_in_line : (b : ℕ) → in_line b ≡ true → b ≢ 10
+stays_in_line b e is = let clash : not (10 == 10) ≡ true = rw is at e in cc
 
 -- a byte that is no newline goes onto the first line
 other_byte : (b : ℕ) (bytes : List ℕ) → b ≢ 10 → lines_of (b ∷ bytes) ≡ onto_first b (lines_of bytes)

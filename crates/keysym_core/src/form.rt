@@ -1,5 +1,6 @@
 //! The names that write a keysym by themselves: `U00E9` and `0xe9`.
-ghost use Rattle.std.specs.Prelude.{◌≡◌, ◌≤◌, ℕ, length, Some, None, if◌then◌else◌, IfOk, string_bytes, ◌∷◌, true};
+ghost use Rattle.std.specs.Prelude.{◌≡◌, ◌≤◌, ◌<◌, ℕ, length, Some, None, SomeIff, if◌then◌else◌, IfOk, string_bytes, ◌∷◌, true};
+ghost use Rattle.std.specs.Char.{digit_value};
 ghost use Rattle.std.specs.List.{list_all};
 ghost use Rattle.keysym_core.specs.Names as words;
 ghost use Rattle.std.specs.Fmt.{digits};
@@ -8,7 +9,9 @@ ghost use Rattle.keysym_core.specs.Printed.{form_of, at_least_four};
 use crate::keysym::Keysym;
 use std::alloc::{AllocError, Global};
 
-/// The keysym that a name writes by one of the two forms. O(1): no form is longer than ten bytes.
+/// The keysym that a name writes by one of the two forms. O(1): no form is longer than ten bytes. It is inlined down to the digits, so that
+/// a name that is no form costs a test or two of its first bytes.
+#[inline(always)]
 pub(crate) fn form_value(name: &[u8]) -> Option<Keysym>
     ensures { result ≡ words.form_value name.now }
 {
@@ -19,6 +22,7 @@ pub(crate) fn form_value(name: &[u8]) -> Option<Keysym>
 }
 
 /// The keysym that a name writes as the letter `U` and four to six digits.
+#[inline(always)]
 fn character_form(name: &[u8]) -> Option<Keysym>
     ensures { result ≡ words.character_form name.now }
 {
@@ -31,6 +35,7 @@ fn character_form(name: &[u8]) -> Option<Keysym>
 }
 
 /// The keysym that a name writes as `0x` and one to eight digits.
+#[inline(always)]
 fn number_form(name: &[u8]) -> Option<Keysym>
     ensures { result ≡ words.number_form name.now }
 {
@@ -56,6 +61,7 @@ pub(crate) fn keysym_of_character(character: u32) -> Option<Keysym>
 }
 
 /// The number that so many hexadecimal digits of either case write.
+#[inline(never)]
 pub(crate) fn number_between(low: usize, high: usize, digits: &[u8]) -> Option<u32>
     requires { high ≤ 8 }
     ensures { result ≡ (if words.is_hexadecimal low high digits.now then Some (words.hexadecimal digits.now) else None) }
@@ -66,6 +72,40 @@ pub(crate) fn number_between(low: usize, high: usize, digits: &[u8]) -> Option<u
     hexadecimal(digits)
 }
 
+/// For each byte the value of the hexadecimal digit that it is, of either case, and 16 for any other. A branch for each kind of digit
+/// would be mispredicted.
+#[rattlefmt::skip]
+const DIGIT_VALUES: [u8; 256] = [
+    16, 16, 16, 16, 16, 16, 16, 16, 16, 16, 16, 16, 16, 16, 16, 16, // 0x00
+    16, 16, 16, 16, 16, 16, 16, 16, 16, 16, 16, 16, 16, 16, 16, 16, // 0x10
+    16, 16, 16, 16, 16, 16, 16, 16, 16, 16, 16, 16, 16, 16, 16, 16, // 0x20
+    0, 1, 2, 3, 4, 5, 6, 7, 8, 9, 16, 16, 16, 16, 16, 16, // 0x30
+    16, 10, 11, 12, 13, 14, 15, 16, 16, 16, 16, 16, 16, 16, 16, 16, // 0x40
+    16, 16, 16, 16, 16, 16, 16, 16, 16, 16, 16, 16, 16, 16, 16, 16, // 0x50
+    16, 10, 11, 12, 13, 14, 15, 16, 16, 16, 16, 16, 16, 16, 16, 16, // 0x60
+    16, 16, 16, 16, 16, 16, 16, 16, 16, 16, 16, 16, 16, 16, 16, 16, // 0x70
+    16, 16, 16, 16, 16, 16, 16, 16, 16, 16, 16, 16, 16, 16, 16, 16, // 0x80
+    16, 16, 16, 16, 16, 16, 16, 16, 16, 16, 16, 16, 16, 16, 16, 16, // 0x90
+    16, 16, 16, 16, 16, 16, 16, 16, 16, 16, 16, 16, 16, 16, 16, 16, // 0xa0
+    16, 16, 16, 16, 16, 16, 16, 16, 16, 16, 16, 16, 16, 16, 16, 16, // 0xb0
+    16, 16, 16, 16, 16, 16, 16, 16, 16, 16, 16, 16, 16, 16, 16, 16, // 0xc0
+    16, 16, 16, 16, 16, 16, 16, 16, 16, 16, 16, 16, 16, 16, 16, 16, // 0xd0
+    16, 16, 16, 16, 16, 16, 16, 16, 16, 16, 16, 16, 16, 16, 16, 16, // 0xe0
+    16, 16, 16, 16, 16, 16, 16, 16, 16, 16, 16, 16, 16, 16, 16, 16, // 0xf0
+];
+
+/// The value of a hexadecimal digit. O(1).
+fn digit_value(byte: u8) -> Option<u32>
+    ensures { SomeIff result (digit_value byte < 16) (digit_value byte) }
+{
+    let value = DIGIT_VALUES[byte as usize];
+    if value < 16 {
+        Some(u32::from(value))
+    } else {
+        None
+    }
+}
+
 /// The number that at most eight hexadecimal digits write; none where one isn't a digit.
 fn hexadecimal(digits: &[u8]) -> Option<u32>
     requires { length digits.now ≤ 8 }
@@ -73,7 +113,7 @@ fn hexadecimal(digits: &[u8]) -> Option<u32>
 {
     let mut number = 0;
     for digit in digits {
-        let value = char::from(*digit).to_digit(16)?;
+        let value = digit_value(*digit)?;
         number = number * 16 + value;
     }
     Some(number)

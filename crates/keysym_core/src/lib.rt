@@ -21,12 +21,14 @@ mod character_index;
 mod core_names;
 mod fault;
 mod form;
+mod guesses;
 mod header;
 mod keysym;
 mod names;
 mod newlines;
 mod next;
 mod read;
+mod scan;
 mod shown;
 mod table;
 
@@ -34,6 +36,7 @@ pub use fault::NameFault;
 pub use keysym::Keysym;
 pub use names::Names;
 pub use newlines::first_line;
+pub use scan::{ByteClass, front_len};
 pub use shown::{KeyList, ShownChar, ShownKeysym};
 
 /// A line of a header defines one entry at most, and what is read of the line is what it defines.

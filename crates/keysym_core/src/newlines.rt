@@ -1,6 +1,26 @@
 //! Bytes divided into lines.
 ghost use Rattle.std.specs.Prelude.{◌≡◌, ◌<◌, [], ◌∷◌, length, MatchOption};
-ghost use Rattle.keysym_core.specs.Lines.{lines_of};
+ghost use Rattle.keysym_core.specs.Lines.{in_line, lines_of};
+
+use crate::scan::{ByteClass, front_len};
+use std::simd::prelude::*;
+
+/// All bytes but the newline.
+struct InLine;
+
+impl ByteClass for InLine {
+    ghost has = { in_line };
+
+    #[inline(always)]
+    fn has(byte: u8) -> bool {
+        byte != b'\n'
+    }
+
+    #[inline(always)]
+    fn others(bytes: u8x16) -> u64 {
+        bytes.simd_eq(u8x16::splat(b'\n')).to_bitmask()
+    }
+}
 
 /// The first line of the bytes, without its newline, and what stands behind it; none where there are no bytes.
 /// O(bytes of the line).
@@ -11,8 +31,9 @@ pub fn first_line(bytes: &[u8]) -> Option<(&[u8], &[u8])>
     if bytes.is_empty() {
         return None;
     }
-    match memchr::memchr(b'\n', bytes) {
-        Some(at) => Some((&bytes[..at], &bytes[at + 1..])),
-        None => Some((bytes, &[])),
+    let end = front_len::<InLine>(bytes);
+    if end == bytes.len() {
+        return Some((bytes, &[]));
     }
+    Some((&bytes[..end], &bytes[end + 1..]))
 }

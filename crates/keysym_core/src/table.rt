@@ -3,11 +3,12 @@ ghost use Rattle.std.specs.Prelude.{◌≡◌, ◌∷◌, [], ◌++◌, map, OnO
 ghost use Rattle.keysym_core.specs.Names.{row_value, first_character, value, form_value};
 ghost use Rattle.keysym_core.specs.Given.{HasCountingRows, AreKeysyms, counts, is_fixed, with_character};
 ghost use Rattle.keysym_core.specs.Printed.{first_name};
-ghost use Rattle.keysym_core.specs.Table.{character_rows, is_addable, are_addable, place_from, FirstNamesLookUp, agrees_with_form};
+ghost use Rattle.keysym_core.specs.Table.{name_rows, character_rows, is_addable, are_addable, place_from, FirstNamesLookUp, agrees_with_form};
 ghost use Rattle.std.specs.List.{list_all};
 
 use crate::character_index::CharacterEntry;
 use crate::form::form_value;
+use crate::guesses::Guesses;
 use crate::keysym::Keysym;
 use indexmap::IndexMap;
 use std::alloc::{AllocError, Global};
@@ -69,13 +70,14 @@ impl NameTable {
     }
 
     /// The keysym of a name. One that is a form needs no search, since a row of that name agrees with it. O(1).
-    pub(crate) fn lookup(&self, name: &str) -> Option<Keysym>
+    #[inline(always)]
+    pub(crate) fn lookup(&self, name: &str, guesses: &Guesses) -> Option<Keysym>
         ensures { result ≡ value self.now name.now }
     {
         let names = &self.names;
         match form_value(name.as_bytes()) {
             Some(keysym) => Some(keysym),
-            None => names.get(name).copied(),
+            None => value_by_guess(names, name, guesses.place(name.as_bytes())),
         }
     }
 
@@ -120,6 +122,11 @@ impl NameTable {
         Some(name.as_str())
     }
 
+    /// Guesses of where each name stands. O(n) in the names.
+    pub(crate) fn guesses(&self, alloc: Global) -> Result<Guesses, AllocError> {
+        Guesses::new(alloc, &self.names)
+    }
+
     /// The rows that count for texts. O(n) in the rows.
     pub(crate) fn counting_entries(&self, alloc: Global) -> Result<Vec<CharacterEntry>, AllocError>
         ensures counting { IfOk result (λ entries. HasCountingRows entries.items self.now.characters) }
@@ -159,6 +166,27 @@ impl NameTable {
         }
         Ok(())
     }
+}
+
+/// The value of the row with this name, which is looked for at the guessed place first. O(1), and without a hash where it stands there.
+#[inline(always)]
+fn value_by_guess(rows: &IndexMap<String, Keysym>, name: &str, guess: usize) -> Option<Keysym>
+    ensures { result ≡ row_value (name_rows rows.now.entries) name.now }
+{
+    if let Some((guessed, keysym)) = rows.get_index(guess) {
+        if guessed.as_str() == name {
+            return Some(*keysym);
+        }
+    }
+    value_by_hash(rows, name)
+}
+
+/// The value of the row with this name. O(1). A call of its own, so that a look-up by a guess is short enough to stand in its caller.
+#[inline(never)]
+fn value_by_hash(rows: &IndexMap<String, Keysym>, name: &str) -> Option<Keysym>
+    ensures { result ≡ row_value (name_rows rows.now.entries) name.now }
+{
+    rows.get(name).copied()
 }
 
 /// The rows that count for texts.

@@ -95,6 +95,72 @@ fn names_and_forms_are_looked_up(rt: HostRuntime) -> Result<(), Fail> {
     Ok(())
 }
 
+/// A header that gives these names the keysyms from `first` on.
+fn header_of(alloc: Global, names: &[&str], first: u32) -> Result<String, AllocError> {
+    let mut header = String::new(alloc);
+    for (name, value) in names.iter().zip(first..u32::MAX) {
+        let line = format!(in alloc; "#define XK_{name} 0x{value:x}\n")?;
+        header.push_str(line.as_str())?;
+    }
+    Ok(header)
+}
+
+/// Expects the names that a header gives to have the keysyms from 0x900 on, and the others to be unknown.
+fn expect_given_alone(
+    rt: &impl Abort,
+    alloc: Global,
+    given: &[&str],
+    others: &[&str],
+) -> Result<(), NameFault> {
+    let header = header_of(alloc, given, 0x900)?;
+    let names = Names::read(alloc, header.as_bytes())?;
+    for (name, value) in given.iter().zip(0x900..u32::MAX) {
+        expect_value(rt, &names, name, Some(value));
+    }
+    for name in others {
+        expect_value(rt, &names, name, None);
+    }
+    expect_value(rt, &names, "space", Some(0x20));
+    Ok(())
+}
+
+#[test]
+fn names_of_each_length_are_looked_up(rt: HostRuntime) -> Result<(), Fail> {
+    let given = [
+        "_",
+        "_2",
+        "_23",
+        "_234",
+        "_2345",
+        "_23456",
+        "_234567",
+        "_2345678",
+        "_23456789",
+    ];
+    let others = [
+        "",
+        "-",
+        "_3",
+        "_2_",
+        "_2_4",
+        "_23_5",
+        "_23_56",
+        "_23_567",
+        "_23__678",
+        "_234_6789",
+    ];
+    expect_given_alone(&rt, rt.alloc(), &given, &others)?;
+    Ok(())
+}
+
+#[test]
+fn names_with_the_same_ends_are_told_apart(rt: HostRuntime) -> Result<(), Fail> {
+    let given = ["beginning_1_the_end", "beginning_2_the_end", "a1b", "a2b"];
+    let others = ["beginning_3_the_end", "beginning_the_end", "a3b", "ab"];
+    expect_given_alone(&rt, rt.alloc(), &given, &others)?;
+    Ok(())
+}
+
 #[test]
 fn keysyms_are_printed(rt: HostRuntime) -> Result<(), Fail> {
     let alloc = rt.alloc();

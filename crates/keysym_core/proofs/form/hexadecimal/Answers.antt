@@ -13,14 +13,14 @@ overflow_mul-number c =
 pub overflow_add-number : goal.overflow_add-number
 overflow_add-number c =
     let small = fewer_than_eight c.args.digits.now c.loop-digit.digit-index c.requires c.loop-digit-test.true c.loop-digit.invariant.0 in
-    let digit = c.in_ok-value.ensures.value.0 in
+    let digit = c.in_ok-value.ensures.0 in
     grind (arith, common_steps)
 
 pub loop-digit-preserved : goal.loop-digit-preserved
 loop-digit-preserved c =
     let ds = c.args.digits.now in
     let i = c.loop-digit.digit-index in
-    let digit = c.in_ok-value.ensures.value in
+    let digit = c.in_ok-value.ensures in
     (digits_more 16 ds i c.loop-digit-test.true c.loop-digit.invariant.0 (grind (arith, common_steps)), rw (digits_value_more 16 ds i c.loop-digit-test.true) (grind (arith, common_steps)))
 
 pub returns : goal.returns

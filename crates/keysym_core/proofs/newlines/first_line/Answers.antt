@@ -1,23 +1,45 @@
-use Rattle.std.proofs.Common.{◌≡◌, ◌≢◌, ◌∙◌, ap, ◌∷◌, [], ℕ, suc, sym, take, drop, length, ◌+◌, arith, true, false}
+use Rattle.std.proofs.Common.{◌≡◌, ◌≢◌, ◌∷◌, [], ℕ, ◌+◌, ◌<◌, ◌≤◌, suc, List, length, take, drop, get_or, sym, ap, subst, ◌∙◌, arith, true, false}
 use Rattle.std.specs.Prelude.{◌==◌}
-use Rattle.std.proofs.lemmas.Bool.{eqb-true, eq-eqb}
+use Rattle.std.specs.List.{prefix_len}
 use Rattle.std.proofs.lemmas.List.{take_rest}
-use Rattle.keysym_core.specs.Lines.{lines_of}
-use Rattle.keysym_core.proofs.LineParts.{lines-some, lines-whole}
+use Rattle.std.proofs.lemmas.List.Sums.{prefix_len-le-length, prefix_len_passes, prefix_len_stops}
+use Rattle.keysym_core.specs.Lines.{in_line, lines_of}
+use Rattle.keysym_core.proofs.LineParts.{ends_line, stays_in_line, lines-some, lines-whole}
 use Rattle.keysym_core.proofs.newlines.first_line.Goals as goal
 
-next : (n : ℕ) → suc n ≡ n + 1
-next n = omega arith
+-- no byte before the end of the line is a newline
+before : (bytes : List ℕ) (end : ℕ) → end ≡ prefix_len in_line bytes → (i : ℕ) → i < end → get_or bytes i 0 ≢ 10
+before bytes end is i less = stays_in_line (get_or bytes i 0) (prefix_len_passes in_line bytes i 0 (omega (arith, is)))
 
-pub returns-in-Some-clause-lines : goal.returns-in-Some-clause-lines
-returns-in-Some-clause-lines c =
-    let bytes = c.args.bytes.now in
-    let found = c.in-Some.ensures in
-    lines-some bytes c.in-Some.at found.0.high (eqb-true _ 10 found.1) (λ i less is. found.0.before i (omega arith) less (eq-eqb _ 10 is))
-    ∙ ap (λ rest. take c.in-Some.at bytes ∷ lines_of rest) (ap (λ n. drop n bytes) (next c.in-Some.at) ∙ sym (take_rest bytes (c.in-Some.at + 1)))
+newline : (bytes : List ℕ) (end : ℕ) → end ≡ prefix_len in_line bytes → end < length bytes → get_or bytes end 0 ≡ 10
+newline bytes end is less = subst (λ n. get_or bytes n 0 ≡ 10) (sym is) (ends_line (get_or bytes (prefix_len in_line bytes) 0) (prefix_len_stops in_line bytes 0 (omega (arith, is))))
 
-pub returns-in-None-clause-lines : goal.returns-in-None-clause-lines
-returns-in-None-clause-lines c = lines-whole c.args.bytes.now some (λ i less is. c.in-None.ensures i (omega arith) less (eq-eqb _ 10 is))
+within : (bytes : List ℕ) (end : ℕ) → end ≡ prefix_len in_line bytes → end ≤ length bytes
+within bytes end is = let bound = prefix_len-le-length in_line bytes in omega (arith, is, bound)
+
+pub returns-then-end-bytes-clause-lines : goal.returns-then-end-bytes-clause-lines
+returns-then-end-bytes-clause-lines c =
+    let end = c.front_len-end in
+    lines-whole c.args.bytes.now some (λ i less. before c.args.bytes.now end.result end.ensures i (omega (arith, c.if-end-bytes.true)))
   where
     some : c.args.bytes.now ≢ []
     some is = let clash : false ≡ true = c.if-is_empty.ensures ∙ ap (λ bytes. length bytes == 0) is in cc
+
+pub overflow_add-result : goal.overflow_add-result
+overflow_add-result c = let low = within c.args.bytes.now c.front_len-end.result c.front_len-end.ensures in omega (arith, low)
+
+pub slice_bounds-result-count : goal.slice_bounds-result-count
+slice_bounds-result-count c = let low = within c.args.bytes.now c.front_len-end.result c.front_len-end.ensures in omega (arith, low)
+
+pub slice_bounds-result-start : goal.slice_bounds-result-start
+slice_bounds-result-start c = let low = within c.args.bytes.now c.front_len-end.result c.front_len-end.ensures in omega (arith, low)
+
+pub returns-clause-lines : goal.returns-clause-lines
+returns-clause-lines c =
+    let bytes = c.args.bytes.now in
+    let end = c.front_len-end in
+    let low = within bytes end.result end.ensures in
+    let less : end.result < length bytes = omega (arith, low) in
+    let next : suc end.result ≡ end.result + 1 = omega arith in
+    lines-some bytes end.result less (newline bytes end.result end.ensures less) (before bytes end.result end.ensures)
+    ∙ ap (λ rest. take end.result bytes ∷ lines_of rest) (ap (λ n. drop n bytes) next ∙ sym (take_rest bytes (end.result + 1)))

@@ -2,7 +2,7 @@ use Rattle.std.proofs.Common.{◌≡◌, ◌∙◌, ap, sym, subst, true}
 use Rattle.std.specs.List.{list_all}
 use Rattle.keysym_core.specs.Names.{KeysymNames, row_value, form_value}
 use Rattle.keysym_core.specs.Table.{agrees_with_form}
-use Rattle.keysym_core.proofs.Rows.{form_looks_up, row_value-name_rows, value-without_form}
+use Rattle.keysym_core.proofs.Rows.{form_looks_up, value-without_form}
 use Rattle.keysym_core.proofs.table.NameTable.lookup.Goals as goal
 
 pub returns-in-Some : goal.returns-in-Some
@@ -12,5 +12,6 @@ returns-in-Some c =
 
 pub returns-in-None : goal.returns-in-None
 returns-in-None c =
-    let row = c.copied.ensures ∙ c.get.ensures.value ∙ row_value-name_rows c.args.name.now c.self.inside.names.entries ∙ ap (λ (t : KeysymNames). row_value t.names c.args.name.now) c.self.view_is in
-    row ∙ sym (value-without_form c.args.self.now c.args.name.now (ap form_value (sym c.as_bytes.ensures.value) ∙ sym c.in-None.ensures))
+    c.value_by_guess.ensures
+    ∙ ap (λ (t : KeysymNames). row_value t.names c.args.name.now) c.self.view_is
+    ∙ sym (value-without_form c.args.self.now c.args.name.now (ap form_value (sym c.as_bytes.ensures.value) ∙ sym c.in-None.ensures))
