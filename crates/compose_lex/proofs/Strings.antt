@@ -1,9 +1,11 @@
 -- A loop that reads a string up to its closing quote: what it has read stands before the raw text of the rest.
-use Rattle.std.proofs.Common.{◌≡◌, ℕ, ◌+◌, ◌<◌, ◌≤◌, List, [], ◌∷◌, ◌++◌, length, take, drop, get_or, Bool, true, false, refl, sym, ◌∙◌, ap, ◌≢◌, ne_eqb}
+use Rattle.std.proofs.Common.{◌≡◌, ℕ, suc, ◌+◌, ◌<◌, ◌≤◌, List, [], ◌∷◌, ◌++◌, length, take, drop, get_or, Bool, true, false, not, cond, ◌||◌, refl, sym, ◌∙◌, ap, subst, arith, ◌≢◌, ne_eqb}
 use Rattle.std.specs.Prelude.{◌==◌, Option, Some, None}
 use Rattle.std.specs.Option.{option_map}
+use Rattle.std.specs.List.{prefix_len}
 use Rattle.std.proofs.lemmas.List.{append_assoc, append-nil, take_more, drop_more, drop_all}
 use Rattle.compose_lex.specs.Fault.{inside_from}
+use Rattle.compose_lex.specs.Steps.{is_plain}
 
 abbrev pub put_before : List ℕ → List ℕ × List ℕ → List ℕ × List ℕ
 put_before read x = (read ++ x.0, x.1)
@@ -18,6 +20,25 @@ put_nothing (Some x) = refl
 
 pub inside_none : (text : List ℕ) → Inside text false 0
 inside_none text = record { kept = put_nothing (inside_from false text) }
+
+put_more : (b : ℕ) (read : List ℕ) (o : Option (List ℕ × List ℕ)) → option_map (λ x. let y : List ℕ × List ℕ = (b ∷ x.0, x.1) in y) (option_map (put_before read) o) ≡ option_map (put_before (b ∷ read)) o
+put_more b read None = refl
+put_more b read (Some x) = refl
+
+-- the bytes before the first quote or backslash
+pub inside_plain : (text : List ℕ) → Inside text false (prefix_len is_plain text)
+inside_plain [] = inside_none []
+inside_plain (b ∷ rest) = go (b == 34) refl (b == 92) refl (inside_plain rest)
+  where
+    go : (x : Bool) → (b == 34) ≡ x → (y : Bool) → (b == 92) ≡ y → Inside rest false (prefix_len is_plain rest) → Inside (b ∷ rest) false (cond (not (x || y)) (1 + prefix_len is_plain rest) 0)
+    go true e y f s = inside_none (b ∷ rest)
+    go false e true f s = inside_none (b ∷ rest)
+    go false e false f s =
+        let n = prefix_len is_plain rest in
+        let one : 1 + n ≡ suc n = omega arith in
+        subst (Inside (b ∷ rest) false) (sym one) (record {
+          kept = rw (e, f) (ap (option_map (λ x. let y : List ℕ × List ℕ = (b ∷ x.0, x.1) in y)) s.kept ∙ put_more b (take n rest) (inside_from false (drop n rest)));
+        })
 
 put_twice : (read : List ℕ) (b : ℕ) (o : Option (List ℕ × List ℕ)) → option_map (put_before read) (option_map (λ x. let y : List ℕ × List ℕ = (b ∷ x.0, x.1) in y) o) ≡ option_map (put_before (read ++ b ∷ [])) o
 put_twice read b None = refl

@@ -1,11 +1,15 @@
 -- What the steps of the lexer give: values of the code beside the parts of the fault's definition.
-use Rattle.std.specs.Prelude.{◌≡◌, ◌==◌, nat_lt, if◌then◌else◌, ℕ, List, [], ◌∷◌, ◌++◌, length, take, drop, Option, Some, None, Result, Ok, Err}
+use Rattle.std.specs.Prelude.{◌≡◌, ◌==◌, ◌||◌, nat_lt, if◌then◌else◌, ℕ, Bool, not, List, [], ◌∷◌, ◌++◌, length, take, drop, Option, Some, None, Result, Ok, Err}
 use Rattle.compose_lex.specs.Fault.{colon_or}
 use Rattle.compose_lex.specs.Escape.{escape, escape_len, piece, first_len}
 use Rattle.compose_lex.specs.declared.LexFault.{LexFault}
 use Rattle.compose_lex.specs.declared.LexFault.TheVariants.{EmptyText, TextTooLong}
 use Rattle.compose_lex.specs.declared.lexer.Next.{Next}
 use Rattle.compose_lex.specs.declared.lexer.Next.TheVariants.{Colon, Event}
+
+-- a byte of a string that is no quote and no backslash (codes 34 and 92)
+abbrev pub is_plain : ℕ → Bool
+is_plain b = not (b == 34 || b == 92)
 
 -- events put before those that a reading gives
 abbrev pub with_front : List (List ℕ) → Result (List (List ℕ) × List ℕ) LexFault → Result (List (List ℕ) × List ℕ) LexFault

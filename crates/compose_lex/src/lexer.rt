@@ -53,6 +53,7 @@ fn event_fault(line_len: usize, rest: &str) -> LexFault
 }
 
 /// A name and `>`, behind a `<`; and what stands behind them.
+#[inline(always)]
 fn event_at(line_len: usize, rest: &str) -> Result<(&str, &str), LexFault>
     ensures { Is (λ x. (x.0.now, x.1.now)) result (fault.event_at line_len rest.now) }
 {
@@ -187,6 +188,7 @@ fn reading_at<'a>(
 
 /// The same as `lex_line`, with the names of the events in the caller's list, which is empty where the line has none or
 /// a fault. Takes no memory and copies no list. O(bytes).
+#[inline(always)]
 pub fn lex_line_into<'a>(
     line: &'a str,
     events: &mut ArrayVec<&'a str, 32>,

@@ -24,6 +24,7 @@ ghost use Rattle.compose_lex.specs.declared.LexFault.TheVariants as faults;
 mod escapes;
 mod lexer;
 mod quotes;
+mod scan;
 mod texts;
 mod token;
 

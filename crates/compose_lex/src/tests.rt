@@ -173,3 +173,124 @@ fn finds_text_faults(rt: HostRuntime) -> Result<(), Fail> {
     );
     Ok(())
 }
+
+/// What may stand at the end of a line: nothing, or a comment longer than any one step of the scans.
+const ENDS: [&str; 2] = [
+    "",
+    " # so much that no step of a scan goes past the end of it",
+];
+
+/// So many of these pieces, from the first one on and again and again.
+fn repeated(alloc: Global, pieces: [&str; 4], count: usize) -> Result<String, AllocError> {
+    let mut text = String::new(alloc);
+    for at in 0..count {
+        text.push_str(pieces[at % 4])?;
+    }
+    Ok(text)
+}
+
+/// The raw text and the result name of a production.
+fn result_of(line: &str) -> (Option<&str>, Option<&str>) {
+    match lex_line(line) {
+        Ok(
+            Line::Production {
+                raw_text,
+                result_name,
+                ..
+            },
+        ) => (raw_text, result_name),
+        _ => (None, None),
+    }
+}
+
+#[test]
+fn reads_names_of_each_length(rt: HostRuntime) -> Result<(), Fail> {
+    for len in 1..=40 {
+        let name = repeated(rt.alloc(), ["q", "Z", "7", "_"], len)?;
+        for end in ENDS {
+            let line = format!(in rt.alloc(); "<{name}>:{name}{end}")?;
+            assert_eq!(rt;
+                result_of(line.as_str()),
+                (None, Some(name.as_str())),
+                "{line}"
+            );
+        }
+    }
+    Ok(())
+}
+
+#[test]
+fn ends_names_at_each_place(rt: HostRuntime) -> Result<(), Fail> {
+    for byte in ["/", ":", "@", "[", "`", "{", "é"] {
+        for len in 0..=40 {
+            let name = repeated(rt.alloc(), ["z", "A", "0", "9"], len)?;
+            for end in ENDS {
+                let line = format!(in rt.alloc(); "<a>:{name}{byte}{end}")?;
+                let fault = format!(in rt.alloc(); "1 BadToken at={}", 4 + len)?;
+                assert_eq!(rt;
+                    line_fault(rt.alloc(), line.as_str())?.as_str(),
+                    fault.as_str(),
+                    "{line}"
+                );
+            }
+        }
+    }
+    Ok(())
+}
+
+#[test]
+fn passes_blanks_of_each_length(rt: HostRuntime) -> Result<(), Fail> {
+    for len in 0..=40 {
+        let blanks = repeated(rt.alloc(), [" ", "\t", "\t", "\r"], len)?;
+        for end in ENDS {
+            let line = format!(in rt.alloc();
+                "{blanks}<{blanks}a{blanks}>{blanks}:{blanks}b{blanks}{end}"
+            )?;
+            assert_eq!(rt; result_of(line.as_str()), (None, Some("b")), "{line}");
+            let line = format!(in rt.alloc(); "{blanks}{end}")?;
+            assert_eq!(rt; lex_line(line.as_str())?, Line::Blank, "{line}");
+        }
+    }
+    Ok(())
+}
+
+#[test]
+fn reads_strings_of_each_length(rt: HostRuntime) -> Result<(), Fail> {
+    for len in 0..=40 {
+        let raw = repeated(rt.alloc(), ["x", " ", "#", ">"], len)?;
+        for end in ENDS {
+            let line = format!(in rt.alloc(); "<a>:\"{raw}\"{end}")?;
+            assert_eq!(rt;
+                result_of(line.as_str()),
+                (Some(raw.as_str()), None),
+                "{line}"
+            );
+            let line = format!(in rt.alloc(); "<a>:\"{raw}{end}")?;
+            assert_eq!(rt;
+                line_fault(rt.alloc(), line.as_str())?.as_str(),
+                "3 UnclosedString at=4",
+                "{line}"
+            );
+        }
+    }
+    Ok(())
+}
+
+#[test]
+fn reads_escapes_at_each_place(rt: HostRuntime) -> Result<(), Fail> {
+    for len in 0..=40 {
+        let front = repeated(rt.alloc(), ["x", " ", "é", ">"], len)?;
+        for escape in ["\\\"", "\\\\", "\\\\\\\""] {
+            for end in ENDS {
+                let raw = format!(in rt.alloc(); "{front}{escape}{end}")?;
+                let line = format!(in rt.alloc(); "<a>:\"{raw}\"b{end}")?;
+                assert_eq!(rt;
+                    result_of(line.as_str()),
+                    (Some(raw.as_str()), Some("b")),
+                    "{line}"
+                );
+            }
+        }
+    }
+    Ok(())
+}

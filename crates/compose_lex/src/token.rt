@@ -6,41 +6,7 @@ ghost use Rattle.compose_lex.specs.Fault as fault;
 ghost use Rattle.compose_lex.specs.Lexed.{Is};
 
 use crate::LexFault;
-
-/// Space, tab and carriage return.
-fn is_blank(byte: u8) -> bool
-    ensures { result ≡ line.is_blank byte }
-{
-    byte == b' ' || byte == b'\t' || byte == b'\r'
-}
-
-/// For each byte 1 if it stands in a name, and else 0. Names are most of a line, and one look is quicker than a test of ranges.
-#[rattlefmt::skip]
-const NAME_BYTES: [u8; 256] = [
-    0, 0, 0, 0, 0, 0, 0, 0, 0, 0, 0, 0, 0, 0, 0, 0, // 0x00
-    0, 0, 0, 0, 0, 0, 0, 0, 0, 0, 0, 0, 0, 0, 0, 0, // 0x10
-    0, 0, 0, 0, 0, 0, 0, 0, 0, 0, 0, 0, 0, 0, 0, 0, // 0x20
-    1, 1, 1, 1, 1, 1, 1, 1, 1, 1, 0, 0, 0, 0, 0, 0, // 0x30
-    0, 1, 1, 1, 1, 1, 1, 1, 1, 1, 1, 1, 1, 1, 1, 1, // 0x40
-    1, 1, 1, 1, 1, 1, 1, 1, 1, 1, 1, 0, 0, 0, 0, 1, // 0x50
-    0, 1, 1, 1, 1, 1, 1, 1, 1, 1, 1, 1, 1, 1, 1, 1, // 0x60
-    1, 1, 1, 1, 1, 1, 1, 1, 1, 1, 1, 0, 0, 0, 0, 0, // 0x70
-    0, 0, 0, 0, 0, 0, 0, 0, 0, 0, 0, 0, 0, 0, 0, 0, // 0x80
-    0, 0, 0, 0, 0, 0, 0, 0, 0, 0, 0, 0, 0, 0, 0, 0, // 0x90
-    0, 0, 0, 0, 0, 0, 0, 0, 0, 0, 0, 0, 0, 0, 0, 0, // 0xa0
-    0, 0, 0, 0, 0, 0, 0, 0, 0, 0, 0, 0, 0, 0, 0, 0, // 0xb0
-    0, 0, 0, 0, 0, 0, 0, 0, 0, 0, 0, 0, 0, 0, 0, 0, // 0xc0
-    0, 0, 0, 0, 0, 0, 0, 0, 0, 0, 0, 0, 0, 0, 0, 0, // 0xd0
-    0, 0, 0, 0, 0, 0, 0, 0, 0, 0, 0, 0, 0, 0, 0, 0, // 0xe0
-    0, 0, 0, 0, 0, 0, 0, 0, 0, 0, 0, 0, 0, 0, 0, 0, // 0xf0
-];
-
-/// ASCII letters, digits and the underscore.
-fn is_name_byte(byte: u8) -> bool
-    ensures { result ≡ line.is_name_byte byte }
-{
-    NAME_BYTES[byte as usize] == 1
-}
+use crate::scan::{blank_len, name_len, plain_len};
 
 /// Where in the line the rest begins.
 pub(crate) fn offset(line_len: usize, rest: &str) -> usize
@@ -53,12 +19,7 @@ pub(crate) fn offset(line_len: usize, rest: &str) -> usize
 pub(crate) fn skip_blanks(text: &str) -> &str
     ensures { result.now ≡ fault.skip_blanks text.now }
 {
-    for (at, byte) in text.as_bytes().iter().enumerate() {
-        if !is_blank(*byte) {
-            return &text[at..];
-        }
-    }
-    &text[text.len()..]
+    &text[blank_len(text.as_bytes())..]
 }
 
 /// The bytes of a name at the front, perhaps none, and what stands behind them. O(bytes of the name).
@@ -66,12 +27,8 @@ pub(crate) fn split_name(text: &str) -> (&str, &str)
     ensures name { result.0.now ≡ fault.front line.is_name_byte text.now }
     ensures rest { result.1.now ≡ fault.behind line.is_name_byte text.now }
 {
-    for (at, byte) in text.as_bytes().iter().enumerate() {
-        if !is_name_byte(*byte) {
-            return (&text[..at], &text[at..]);
-        }
-    }
-    (text, &text[text.len()..])
+    let len = name_len(text.as_bytes());
+    (&text[..len], &text[len..])
 }
 
 /// A name, and what stands behind it.
@@ -104,14 +61,15 @@ pub(crate) fn byte_at(line_len: usize, wanted: u8, rest: &str) -> Result<&str, L
 pub(crate) fn string_at(line_len: usize, rest: &str) -> Result<(&str, &str), LexFault>
     ensures { Is (λ x. (x.0.now, x.1.now)) result (fault.string_at line_len rest.now) }
 {
+    let bytes = rest.as_bytes();
     let mut taken = false;
-    for (at, byte) in rest.as_bytes().iter().enumerate() {
+    for at in plain_len(bytes)..bytes.len() {
         if taken {
             taken = false;
-        } else if *byte == b'"' {
+        } else if bytes[at] == b'"' {
             return Ok((&rest[..at], &rest[at + 1..]));
         } else {
-            taken = *byte == b'\\';
+            taken = bytes[at] == b'\\';
         }
     }
     Err(LexFault::UnclosedString {

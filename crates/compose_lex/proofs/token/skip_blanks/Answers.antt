@@ -1,14 +1,18 @@
-use Rattle.std.proofs.Common.{◌≡◌, get_or, true, sym, ◌∙◌, ap, arith}
+use Rattle.std.proofs.Common.{drop, sym, ap, ◌∙◌, subst}
+use Rattle.std.specs.List.{prefix_len}
+use Rattle.std.specs.Str.{IsCharBoundary}
 use Rattle.compose_lex.specs.Line.{is_blank}
-use Rattle.compose_lex.proofs.Scans.{scanned_none, scanned_more, blank_ascii}
+use Rattle.compose_lex.proofs.Scans.{behind_left, cut_behind_blanks}
 use Rattle.compose_lex.proofs.token.skip_blanks.Goals as goal
 
-pub loop-at-init : goal.loop-at-init
-loop-at-init c = scanned_none is_blank c.args.text.now c.utf8.text
+pub range_from-requires : goal.range_from-requires
+range_from-requires c =
+    let text = c.args.text.now in
+    let len = c.blank_len.ensures ∙ ap (prefix_len is_blank) c.as_bytes.ensures.value in
+    λ _. subst (IsCharBoundary text) (sym len) (cut_behind_blanks text c.utf8.text)
 
-pub loop-at-preserved : goal.loop-at-preserved
-loop-at-preserved c =
-    let at = c.loop-at.at in
-    let items = c.as_bytes-byte-items.result.now in
-    let passes : is_blank (get_or items at 0) ≡ true = sym c.is_blank.ensures ∙ c.if-not-is_blank.false in
-    scanned_more is_blank c.args.text.now at (get_or items at 0) c.utf8.text (omega (arith, c.as_bytes-byte-items.ensures.len)) (ap (λ xs. get_or xs at 0) c.as_bytes-byte-items.ensures.value) passes (blank_ascii (get_or items at 0) passes) c.loop-at.invariant
+pub returns : goal.returns
+returns c =
+    let text = c.args.text.now in
+    let len = c.blank_len.ensures ∙ ap (prefix_len is_blank) c.as_bytes.ensures.value in
+    c.range_from.ensures.value ∙ ap (λ n. drop n text) len ∙ sym (behind_left is_blank text)

@@ -1,14 +1,31 @@
-use Rattle.std.proofs.Common.{◌≡◌, get_or, true, sym, ◌∙◌, ap, arith}
+use Rattle.std.proofs.Common.{◌≡◌, ◌-◌, take, drop, sym, ap, ◌∙◌, subst, arith}
+use Rattle.std.specs.List.{prefix_len}
+use Rattle.std.specs.Str.{IsCharBoundary}
 use Rattle.compose_lex.specs.Line.{is_name_byte}
-use Rattle.compose_lex.proofs.Scans.{scanned_none, scanned_more, name_ascii}
+use Rattle.compose_lex.proofs.Scans.{front_taken, behind_left, cut_behind_name}
 use Rattle.compose_lex.proofs.token.split_name.Goals as goal
 
-pub loop-at-init : goal.loop-at-init
-loop-at-init c = scanned_none is_name_byte c.args.text.now c.utf8.text
+pub range-requires-clause-end_boundary : goal.range-requires-clause-end_boundary
+range-requires-clause-end_boundary c =
+    let text = c.args.text.now in
+    let len = c.name_len-len.ensures ∙ ap (prefix_len is_name_byte) c.as_bytes.ensures.value in
+    subst (IsCharBoundary text) (sym len) (cut_behind_name text c.utf8.text)
 
-pub loop-at-preserved : goal.loop-at-preserved
-loop-at-preserved c =
-    let at = c.loop-at.at in
-    let items = c.as_bytes-byte-items.result.now in
-    let passes : is_name_byte (get_or items at 0) ≡ true = sym c.is_name_byte.ensures ∙ c.if-not-is_name_byte.false in
-    scanned_more is_name_byte c.args.text.now at (get_or items at 0) c.utf8.text (omega (arith, c.as_bytes-byte-items.ensures.len)) (ap (λ xs. get_or xs at 0) c.as_bytes-byte-items.ensures.value) passes (name_ascii (get_or items at 0) passes) c.loop-at.invariant
+pub range_from-requires : goal.range_from-requires
+range_from-requires c =
+    let text = c.args.text.now in
+    let len = c.name_len-len.ensures ∙ ap (prefix_len is_name_byte) c.as_bytes.ensures.value in
+    λ _. subst (IsCharBoundary text) (sym len) (cut_behind_name text c.utf8.text)
+
+pub returns-clause-name : goal.returns-clause-name
+returns-clause-name c =
+    let text = c.args.text.now in
+    let len = c.name_len-len.ensures ∙ ap (prefix_len is_name_byte) c.as_bytes.ensures.value in
+    let whole : c.name_len-len.result - 0 ≡ c.name_len-len.result = omega arith in
+    c.range.ensures.value ∙ ap (λ n. take n text) (whole ∙ len) ∙ sym (front_taken is_name_byte text)
+
+pub returns-clause-rest : goal.returns-clause-rest
+returns-clause-rest c =
+    let text = c.args.text.now in
+    let len = c.name_len-len.ensures ∙ ap (prefix_len is_name_byte) c.as_bytes.ensures.value in
+    c.range_from.ensures.value ∙ ap (λ n. drop n text) len ∙ sym (behind_left is_name_byte text)
