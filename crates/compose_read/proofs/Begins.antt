@@ -1,8 +1,9 @@
 -- What a row's sequence being at the front of the next one's says of the row.
-use Rattle.std.proofs.Common.{◌≡◌, ℕ, ◌<◌, List, [], ◌∷◌, Bool, true, false, cond, ◌&&◌, ◌||◌, length, nat_eq, refl, sym, ◌∙◌, ap, inl, inr, arith}
+use Rattle.std.proofs.Common.{◌≡◌, ℕ, ◌<◌, List, [], ◌∷◌, Bool, true, false, cond, ◌&&◌, ◌||◌, length, nat_eq, get_or, take, get_or-take, eq-eqb, refl, sym, ◌∙◌, ap, inl, inr, arith}
 use Rattle.std.specs.Prelude.{Ok, ◌==◌}
 use Rattle.std.specs.List.{starts_with}
 use Rattle.std.proofs.lemmas.Bool.{and_parts, or_cases, cases_Bool}
+use Rattle.std.proofs.lemmas.List.{get_or_default}
 use Rattle.compose_model.specs.Table.{Definition, same, is_proper_prefix}
 use Rattle.compose_model.specs.declared.Rule.{Rule}
 use Rattle.compose_model.proofs.NodeLemmas.{same_is}
@@ -22,6 +23,16 @@ front_is (y ∷ s) (x ∷ p) = go (x == y) (front_is s p)
     go : (b : Bool) → starts_with nat_eq s p ≡ same p s || is_proper_prefix p s → b && starts_with nat_eq s p ≡ (b && same p s) || (b && is_proper_prefix p s)
     go true h = h
     go false h = refl
+
+-- where two sequences differ at a place, neither begins the other
+pub differs_at : (s p : List ℕ) (k x y : ℕ) → k < length p → x ≡ get_or p k x → y ≡ get_or s k y → nat_eq x y ≡ false → starts_with nat_eq s p ≡ false
+differs_at s p k x y l at_p at_s differ = elim (cases_Bool (starts_with nat_eq s p)) [
+  | inl h ↦ absurd (
+      let equal : x ≡ y =
+      at_p ∙ get_or_default p k x y l ∙ ap (λ t. get_or t k y) (same_is p (take (length p) s) h) ∙ get_or-take (length p) s k y l ∙ sym at_s in
+      let clash : true ≡ false = sym (eq-eqb x y equal) ∙ differ in cc)
+  | inr h ↦ h
+]
 
 module _ (rule : Rule) (d e : Definition) where
   decide : (a b : Bool) → same d.sequence e.sequence ≡ a → is_proper_prefix d.sequence e.sequence ≡ b → stays_before rule d e ≡ cond a (Ok false) (cond b (begins_next rule d e) (Ok true))

@@ -7,6 +7,7 @@ pub mod Neighbours
 pub mod Begins
 pub mod Turns
 pub mod Pools
+pub mod Guess
 pub mod Places
 pub mod SettledRows
 pub mod SettledTable
@@ -16,3 +17,4 @@ pub mod OneLine
 pub mod ReadOn
 pub mod Visits
 pub mod Overlaps
+pub mod TextLines

@@ -1,40 +1,17 @@
 -- Places in the order of the sequences that stand there, and passes over them.
-use Rattle.std.proofs.Common.{◌≡◌, ℕ, suc, ◌+◌, ◌≤◌, List, [], ◌∷◌, ◌++◌, Bool, true, false, not, ◌&&◌, nat_cmp, Less, Equal, Greater, length, map, drop, refl, sym, subst, ◌∙◌, ap, ap₂, arith}
+use Rattle.std.proofs.Common.{◌≡◌, ℕ, suc, ◌+◌, ◌≤◌, List, [], ◌∷◌, ◌++◌, true, false, length, map, drop, sym, subst, ◌∙◌, ap, ap₂, arith}
 use Rattle.std.specs.Prelude.{Ok}
 use Rattle.std.specs.List.{All}
 use Rattle.std.specs.List.Sorted.{IsSortedBy}
-use Rattle.std.specs.Ordering.{is_lt, ordering_reverse}
-use Rattle.std.specs.declared.cmp.Ordering.{Ordering}
-use Rattle.std.proofs.lemmas.Cmp.{nat_cmp_total}
 use Rattle.std.proofs.lemmas.List.{get_or-map, length-map, length-take, map-append}
 use Rattle.std.proofs.lemmas.List.Elements.{All-push}
 use Rattle.compose_model.specs.Table.{Definition, comes_before}
 use Rattle.compose_model.specs.declared.Rule.{Rule}
-use Rattle.compose_read.specs.Neighbours.{SequencesAscend, stays_before, settled_neighbours, front}
+use Rattle.compose_read.specs.Guess.{by_sequence}
+use Rattle.compose_read.specs.Neighbours.{SequencesAscend, stays_before, settled_neighbours}
 use Rattle.compose_read.specs.Rows.{sequence_at, definition_at, rows_of, IsPlaced, ArePlaced}
-use Rattle.compose_read.proofs.SameSettled.{SameTie}
 use Rattle.compose_read.proofs.Turns.{put_all, turn_kept, turn_left}
 use Rattle.compose_read.specs.declared.rows.RowPlace.{RowPlace}
-
-abbrev pub by_sequence : List ℕ → RowPlace → RowPlace → Bool
-by_sequence keysyms p q = comes_before (sequence_at keysyms p) (sequence_at keysyms q)
-
-abbrev pub by_key : (RowPlace → ℕ) → RowPlace → RowPlace → Bool
-by_key key p q = is_lt (nat_cmp (key p) (key q))
-
--- places of one sequence have one front
-pub fronts_tie : (keysyms texts : List ℕ) → SameTie (definition_at keysyms texts) (by_key (λ p. front (sequence_at keysyms p)))
-fronts_tie keysyms texts p q e =
-    ap (λ s. not (is_lt (nat_cmp (front s) (front (sequence_at keysyms q)))) && not (is_lt (nat_cmp (front (sequence_at keysyms q)) (front s)))) e
-    ∙ ap (λ b. not b && not b) (not_below (front (sequence_at keysyms q)))
-  where
-    not_below : (n : ℕ) → is_lt (nat_cmp n n) ≡ false
-    not_below n = go (nat_cmp n n) (nat_cmp_total.antisymm n n)
-      where
-        go : (o : Ordering) → o ≡ ordering_reverse o → is_lt o ≡ false
-        go Less e = cc
-        go Equal e = refl
-        go Greater e = refl
 
 pub rows_ascend : (keysyms texts : List ℕ) (ps : List RowPlace) → IsSortedBy (by_sequence keysyms) ps → SequencesAscend (rows_of keysyms texts ps)
 rows_ascend keysyms texts ps h = λ k d low l.

@@ -3,6 +3,7 @@ pub mod Sources
 pub mod Read
 pub mod Settle
 pub mod Neighbours
+pub mod Guess
 pub mod Rows
 pub mod Given
 pub mod Sequence

@@ -1,5 +1,5 @@
 -- Settling rows in rising order, by looking at neighbours.
-use Rattle.std.specs.Prelude.{ℕ, ◌+◌, ◌*◌, slice_index, Bool, true, false, if◌then◌else◌, List, [], ◌∷◌, Result, Ok, Err}
+use Rattle.std.specs.Prelude.{Bool, true, false, if◌then◌else◌, List, [], ◌∷◌, Result, Ok, Err}
 use Rattle.compose_model.specs.Table.{Definition, same, comes_before, is_proper_prefix}
 use Rattle.compose_model.specs.declared.Rule.{Rule}
 use Rattle.compose_model.specs.declared.Rule.TheVariants.{Refuse, Longest}
@@ -31,7 +31,3 @@ settled_neighbours rule (d ∷ e ∷ rows) = put_if d (stays_before rule d e) (s
 -- no row comes before the one in front of it
 abbrev pub SequencesAscend : List Definition → Type 0
 SequencesAscend rows = IsSortedBy (λ d e. comes_before d.sequence e.sequence) rows
-
--- the number whose digits in base 2^32 are the first four keysyms; 0 where one is missing
-abbrev pub front : List ℕ → ℕ
-front keysyms = (slice_index keysyms 0 * 4294967296 + slice_index keysyms 1) * 4294967296 * 4294967296 + (slice_index keysyms 2 * 4294967296 + slice_index keysyms 3)

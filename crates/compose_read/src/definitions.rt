@@ -59,6 +59,13 @@ impl Definitions {
         self.rows.text(index)
     }
 
+    /// Asks for room for so many more definitions of usual lengths. A refusal only leaves less room. O(definitions) at most.
+    pub(crate) fn reserve(&mut self, definitions: usize)
+        ensures { self.new ≡ self.old }
+    {
+        self.rows.reserve(definitions);
+    }
+
     /// Adds the definition of a row behind the others, if there is memory. O(its keysyms and bytes).
     pub(crate) fn push(&mut self, row: &Row) -> Result<(), AllocError>
         requires { IsTrue (is_definition (row_read row.now)) }

@@ -1,5 +1,5 @@
 //! What one line gives: nothing, a definition, an included source, or a fault.
-ghost use Rattle.std.specs.Prelude.{◌≡◌, ◌≤◌, ◌<◌, ℕ, List, [], map, length, Option, Some, None, Ok, Err, IfOk, IfErr, IfSome, OnOk, IsTrue, string_bytes, option_copied};
+ghost use Rattle.std.specs.Prelude.{◌≡◌, ◌≤◌, ◌<◌, ℕ, List, [], map, length, Option, Some, None, Ok, Err, IfOk, IfErr, IfSome, OnOk, IsTrue, MatchOption, IsUtf8, string_bytes, option_copied};
 ghost use Rattle.std.specs.List.{list_all};
 ghost use Rattle.keysym_core.specs.Names.{text, value};
 ghost use Rattle.compose_lex.specs.Line.{include};
@@ -58,18 +58,20 @@ impl<'a> LineBuffer<'a> {
     }
 }
 
-/// What the line at this place gives.
+/// What the line at this place gives. Where it is known to be a text, it is not tested for UTF-8.
 pub(crate) fn read_line<'a>(
     names: &Names,
     sources: &Sources,
     place: Place,
     bytes: &'a [u8],
+    is_text: bool,
     buffer: &mut LineBuffer<'a>,
 ) -> Result<Found, ReadFault>
+    requires { IsTrue is_text → IsUtf8 bytes.now }
     ensures { FindsLine names.now sources.now (visit place bytes.now) (row_read buffer.new.row) result }
 {
     let (source, line) = (place.source, place.line);
-    let Ok(text) = str::from_utf8(bytes) else {
+    let Some(text) = line_text(bytes, is_text) else {
         return Err(ReadFault::NotUtf8 { source, line });
     };
     match lex_line_into(text, &mut buffer.events) {
@@ -87,6 +89,17 @@ pub(crate) fn read_line<'a>(
             Ok(Found::Definition)
         }
     }
+}
+
+/// The line as a text, if it is one. Where it is known to be one, it is not tested.
+fn line_text(bytes: &[u8], is_text: bool) -> Option<&str>
+    requires { IsTrue is_text → IsUtf8 bytes.now }
+    ensures { MatchOption result (¬ (IsUtf8 bytes.now)) (λ text. (text.now ≡ bytes.now) × IsUtf8 bytes.now) }
+{
+    if is_text {
+        return Some(unsafe { str::from_utf8_unchecked(bytes) });
+    }
+    str::from_utf8(bytes).ok()
 }
 
 /// The source that an include names.

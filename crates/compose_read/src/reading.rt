@@ -1,5 +1,5 @@
 //! Reading a source with all that it includes.
-ghost use Rattle.std.specs.Prelude.{◌≡◌, ◌≤◌, ◌<◌, [], ◌∷◌, List, length, IfOk, IfSome, IsTrue};
+ghost use Rattle.std.specs.Prelude.{◌≡◌, ◌≤◌, ◌<◌, [], ◌∷◌, List, length, IfOk, IfSome, IsTrue, IsUtf8};
 ghost use Rattle.compose_model.specs.Table.{Definition, is_table};
 ghost use Rattle.compose_read.specs.Lines.{visits_below, included, without_mark};
 ghost use Rattle.compose_read.specs.Read.{definitions_of};
@@ -19,6 +19,9 @@ pub(crate) const MAX_LINES: usize = 1_000_000;
 /// The most definitions that are read.
 pub(crate) const MAX_DEFINITIONS: usize = 100_000;
 
+/// How many bytes of a source go with one definition. It is a guess, for the room that is asked for.
+const BYTES_A_DEFINITION: usize = 80;
+
 /// How many lines are read so far, and their definitions.
 #[derive(Drop)]
 pub(crate) struct Progress {
@@ -26,7 +29,7 @@ pub(crate) struct Progress {
     pub(crate) definitions: Definitions,
 }
 
-/// The definitions that are read from the root in reading order, or the fault of the first faulty line. O(b) in the bytes of all lines that are visited.
+/// The definitions that are read from the root in reading order, or the fault of the first faulty line. O(b) in the bytes of all sources that are visited, included ones each time.
 pub fn read_definitions(
     alloc: Global,
     names: &Names,
@@ -71,6 +74,10 @@ fn read_source<'a>(
 {
     let depth = MAX_DEPTH - left;
     let mut rest = without_mark(sources.bytes(source));
+    progress
+        .definitions
+        .reserve((rest.len() / BYTES_A_DEFINITION).min(MAX_DEFINITIONS));
+    let is_text = simdutf8::is_utf8(rest);
     let mut line = 0;
     while let Some((bytes, behind)) = first_line(rest) {
         rest = behind;
@@ -80,7 +87,8 @@ fn read_source<'a>(
             line,
             depth,
         };
-        if let Some(included) = take_line(names, sources, place, bytes, buffer, progress)? {
+        let included = take_line(names, sources, place, bytes, is_text, buffer, progress)?;
+        if let Some(included) = included {
             read_source(names, sources, included, left - 1, buffer, progress)?;
         }
     }
@@ -93,9 +101,11 @@ fn take_line<'a>(
     sources: &Sources,
     place: Place,
     bytes: &'a [u8],
+    is_text: bool,
     buffer: &mut LineBuffer<'a>,
     progress: &mut Progress,
 ) -> Result<Option<usize>, ReadFault>
+    requires { IsTrue is_text → IsUtf8 bytes.now }
     ensures reads { ReadsOn names.now sources.now (visit place bytes.now ∷ []) progress.old progress.new result }
     ensures source { IfOk result (λ o. included sources.now bytes.now ≡ o) }
     ensures within { IfOk result (λ o. IfSome o (λ s. (place.depth < 8) × (s < length sources.now))) }
@@ -104,7 +114,7 @@ fn take_line<'a>(
     if progress.lines >= MAX_LINES {
         return Err(ReadFault::TooManyLines { source, line });
     }
-    let found = read_line(names, sources, place, bytes, buffer)?;
+    let found = read_line(names, sources, place, bytes, is_text, buffer)?;
     progress.lines += 1;
     match found {
         Found::Nothing => Ok(None),

@@ -16,13 +16,13 @@ use keysym_core::Keysym;
 use std::alloc::{AllocError, Global};
 use std::marker::Model;
 
-/// Where the keysyms and the text of a row stand.
+/// Where the keysyms and the text of a row stand, in 12 bytes without a gap.
 #[derive(Clone, Copy)]
 pub(crate) struct RowPlace {
     pub(crate) first_keysym: u32,
     pub(crate) first_byte: u32,
-    pub(crate) keysym_count: u8,
-    pub(crate) byte_count: u8,
+    pub(crate) keysym_count: u16,
+    pub(crate) byte_count: u16,
 }
 
 /// A row as it is read.
@@ -66,6 +66,16 @@ impl Rows {
         }
     }
 
+    /// Asks for room for so many more rows of three keysyms and three bytes of text. A refusal only leaves less room. O(rows) at most.
+    pub(crate) fn reserve(&mut self, rows: usize)
+        ensures { self.new ≡ self.old }
+    {
+        let many = rows.saturating_mul(3);
+        let _ = self.keysyms.reserve(many);
+        let _ = self.texts.reserve(many);
+        let _ = self.places.reserve(rows);
+    }
+
     /// How many rows there are. O(1).
     pub(crate) fn len(&self) -> usize
         ensures { result ≡ length self.now }
@@ -102,8 +112,8 @@ impl Rows {
         let place = RowPlace {
             first_keysym: place_of(self.keysyms.len())?,
             first_byte: place_of(self.texts.len())?,
-            keysym_count: sequence.len() as u8,
-            byte_count: text.len() as u8,
+            keysym_count: sequence.len() as u16,
+            byte_count: text.len() as u16,
         };
         self.keysyms.extend_from_slice(sequence)?;
         self.texts.push_str(text)?;

@@ -105,6 +105,17 @@ static TABLES: [(&str, &str, bool, &str); 19] = [
     ),
 ];
 
+/// A line, the byte of the next one, which is no UTF-8, and what is printed.
+static NOT_UTF8: [(&str, u8, &str); 3] = [
+    ("<a> : \"é\"", 0xff, "2 NotUtf8 source=0 line=2"),
+    (
+        "<nosuch> : \"é\"",
+        0xc3,
+        "4 UnknownKeysym source=0 line=1 index=0",
+    ),
+    ("include \"%L\"", 0xa9, "6 MissingInclude source=0 line=1"),
+];
+
 /// A line, how often a source has it, and what is printed.
 static MANY_LINES: [(&str, usize, &str); 2] = [
     ("\n", 1_000_000, ""),
@@ -117,6 +128,34 @@ static MANY_DEFINITIONS: [(&str, usize, &str); 2] = [
         "<a> : \"x\"\n",
         100_001,
         "9 TooManyDefinitions source=0 line=100001",
+    ),
+];
+
+/// Tables whose order the first five keysyms do not tell, and what is printed.
+static GUESSED: [(&str, &str, bool, &str); 4] = [
+    (
+        "<a> <a> <a> <a> <a> <c> : \"1\"\n<a> <a> <a> <a> <a> <b> <z> : \"2\"\n<a> <a> <a> <a> <a> <b> <y> : \"3\"\n",
+        "",
+        false,
+        "0x61,0x61,0x61,0x61,0x61,0x62,0x79=3;0x61,0x61,0x61,0x61,0x61,0x62,0x7a=2;0x61,0x61,0x61,0x61,0x61,0x63=1;",
+    ),
+    (
+        "<0x1008ff11> <a> : \"1\"\n<U10FFFF> <b> : \"2\"\n<U70000> <c> : \"3\"\n<U6FFFF> <d> : \"4\"\n<U6FFFE> <e> : \"5\"\n",
+        "",
+        false,
+        "0x106fffe,0x65=5;0x106ffff,0x64=4;0x1070000,0x63=3;0x110ffff,0x62=2;0x1008ff11,0x61=1;",
+    ),
+    (
+        "<U0100> <a> : \"1\"\n<0xffffff> <b> : \"2\"\n<0x10001> <c> : \"3\"\n<0x10000> <d> : \"4\"\n<0xffff> <e> : \"5\"\n",
+        "",
+        false,
+        "0xffff,0x65=5;0x10000,0x64=4;0x10001,0x63=3;0xffffff,0x62=2;0x1000100,0x61=1;",
+    ),
+    (
+        "<b> : \"1\"\n<a> <a> <a> <a> <a> <a> : \"2\"\n<b> : \"3\"\n<a> <a> <a> <a> <a> <a> : \"4\"\n<b> : \"5\"\n",
+        "",
+        false,
+        "0x61,0x61,0x61,0x61,0x61,0x61=4;0x62=5;",
     ),
 ];
 
@@ -202,6 +241,25 @@ fn check_tables(
 #[test]
 fn tables(rt: HostRuntime) -> Result<(), Fail> {
     check_tables(&rt, rt.alloc(), &TABLES)
+}
+
+#[test]
+fn guessed_orders(rt: HostRuntime) -> Result<(), Fail> {
+    check_tables(&rt, rt.alloc(), &GUESSED)
+}
+
+#[test]
+fn lines_before_one_that_is_not_utf8(rt: HostRuntime) -> Result<(), Fail> {
+    let alloc = rt.alloc();
+    for (line, byte, expected) in &NOT_UTF8 {
+        let mut bytes = repeated(alloc, line, 1)?;
+        bytes.extend_from_slice(&[b'\n', *byte])?;
+        let mut sources = Sources::new(alloc);
+        sources.add("r", bytes)?;
+        let text = printed(alloc, &sources, "r", Rule::Refuse)?;
+        assert_eq!(rt; text.as_str(), *expected);
+    }
+    Ok(())
 }
 
 fn check_large(rt: &impl Abort, alloc: Global, large: &[(&str, usize, &str)]) -> Result<(), Fail> {

@@ -17,21 +17,21 @@ abbrev said : List (List ℕ) → Said → Result Reading LexFault
 said events line = Ok (said_reading events line)
 
 pub returns-in_default : goal.returns-in_default
-returns-in_default c = not_utf8 c.args.names.now c.args.sources.now c.args.place c.args.bytes.now (row_read c.args.buffer.now.row) c.in_default.ensures.cases.0
+returns-in_default c = not_utf8 c.args.names.now c.args.sources.now c.args.place c.args.bytes.now (row_read c.args.buffer.now.row) c.in_default.ensures
 
 pub returns-in-Ok-Blank : goal.returns-in-Ok-Blank
 returns-in-Ok-Blank c =
-    let text = c.in-Ok.ensures.cases in let events = names_of c.lex_line_into.new.events.items in
+    let text = c.in-Some.ensures in let events = names_of c.lex_line_into.new.events.items in
     blank_line c.args.names.now c.args.sources.now c.args.place c.args.bytes.now (row_read c.args.buffer.now.row) text.1 (ap reading_of (sym text.0) ∙ c.in-Ok-Blank.ensures.exact ∙ ap (said events) c.in-Ok-Blank.field-0-is)
 
 pub returns-in-Err : goal.returns-in-Err
 returns-in-Err c =
-    let text = c.in-Ok.ensures.cases in
+    let text = c.in-Some.ensures in
     faulty_line c.args.names.now c.args.sources.now c.args.place c.args.bytes.now (row_read c.args.buffer.now.row) text.1 c.in-Err.fault c.lex_fault.result (ap reading_of (sym text.0) ∙ c.in-Err.ensures.exact) c.lex_fault.ensures
 
 pub returns-in_err-include-in-Ok-Include : goal.returns-in_err-include-in-Ok-Include
 returns-in_err-include-in-Ok-Include c =
-    let text = c.in-Ok.ensures.cases in let row = row_read c.args.buffer.now.row in let fault = c.in_err-include-in-Ok-Include.field-0.0 in
+    let text = c.in-Some.ensures in let row = row_read c.args.buffer.now.row in let fault = c.in_err-include-in-Ok-Include.field-0.0 in
     let is : c.from_residual.result ≡ Err fault = search rules in
     subst (FindsLine c.args.names.now c.args.sources.now (visit c.args.place c.args.bytes.now) row) (sym is)
     (refused_include c.args.names.now c.args.sources.now c.args.place c.args.bytes.now row text.1 c.in-Ok-Include.name.now fault
@@ -39,13 +39,13 @@ returns-in_err-include-in-Ok-Include c =
 
 pub returns-in_ok-include-in-Ok-Include : goal.returns-in_ok-include-in-Ok-Include
 returns-in_ok-include-in-Ok-Include c =
-    let text = c.in-Ok.ensures.cases in let i = c.in_ok-include-in-Ok-Include in
+    let text = c.in-Some.ensures in let i = c.in_ok-include-in-Ok-Include in
     include_line c.args.names.now c.args.sources.now c.args.place c.args.bytes.now (row_read c.args.buffer.now.row) text.1 c.in-Ok-Include.name.now i.field-0
     (ap reading_of (sym text.0) ∙ c.in-Ok-Include.ensures.exact ∙ ap (said (names_of c.lex_line_into.new.events.items)) c.in-Ok-Include.field-0-is) (i.ensures.exact c.args.bytes.now) i.ensures.found.0 i.ensures.found.1 i.ensures.found.2
 
 pub returns-in_err-read_production-in-Ok-Production : goal.returns-in_err-read_production-in-Ok-Production
 returns-in_err-read_production-in-Ok-Production c =
-    let text = c.in-Ok.ensures.cases in let p = c.in-Ok-Production in let row = row_read c.read_production.new.row in let fault = c.in_err-read_production-in-Ok-Production.field-0.0 in
+    let text = c.in-Some.ensures in let p = c.in-Ok-Production in let row = row_read c.read_production.new.row in let fault = c.in_err-read_production-in-Ok-Production.field-0.0 in
     let is : c.from_residual-in_err-read_production-in-Ok-Production.result ≡ Err fault = search rules in
     let h : reading_of c.args.bytes.now ≡ Ok (production (names_of c.as_slice-events.result.now) (option_copied p.raw_text) (option_copied p.result_name)) =
     ap reading_of (sym text.0) ∙ p.ensures.exact ∙ ap (said (names_of c.lex_line_into.new.events.items)) p.field-0-is
@@ -56,7 +56,7 @@ returns-in_err-read_production-in-Ok-Production c =
 
 pub returns-in_ok-read_production-in-Ok-Production : goal.returns-in_ok-read_production-in-Ok-Production
 returns-in_ok-read_production-in-Ok-Production c =
-    let text = c.in-Ok.ensures.cases in let p = c.in-Ok-Production in let read = c.in_ok-read_production-in-Ok-Production.ensures in
+    let text = c.in-Some.ensures in let p = c.in-Ok-Production in let read = c.in_ok-read_production-in-Ok-Production.ensures in
     let h : reading_of c.args.bytes.now ≡ Ok (production (names_of c.as_slice-events.result.now) (option_copied p.raw_text) (option_copied p.result_name)) =
     ap reading_of (sym text.0) ∙ p.ensures.exact ∙ ap (said (names_of c.lex_line_into.new.events.items)) p.field-0-is
     ∙ ap (λ es. let r : Result Reading LexFault = Ok (production (names_of es) (option_copied p.raw_text) (option_copied p.result_name)) in r) (sym c.as_slice-events.ensures.value) in

@@ -1,4 +1,8 @@
 use Rattle.std.proofs.Common.{◌≡◌, ◌+◌, ◌≤◌, ◌++◌, List, length}
+use Rattle.std.specs.Prelude.{IsTrue}
+use Rattle.std.specs.List.{All}
+use Rattle.std.specs.Str.{IsUtf8}
+use Rattle.keysym_core.specs.Lines.{lines_of}
 use Rattle.compose_read.specs.Lines.{Visit, visits_below}
 use Rattle.compose_read.specs.Progress.{reading_on}
 use Rattle.compose_read.proofs.Visits.{left_to_visit}
@@ -10,6 +14,7 @@ decreases-read_source l = l.left
 abbrev pub invariant-loop-bytes : goal.invariant-loop-bytes
 invariant-loop-bytes l = record {
   reads : (ws : List Visit) → reading_on l.names l.sources l.progress (left_to_visit l.sources l.left l.source l.depth l.line l.rest ++ ws) ≡ reading_on l.names l.sources l.fn.progress (visits_below l.sources l.left l.source ++ ws);
+  texts : IsTrue l.is_text → All IsUtf8 (lines_of l.rest);
   counted : l.line + length l.rest ≤ length l.initial.rest;
 }
 

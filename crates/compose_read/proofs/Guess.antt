@@ -1,0 +1,163 @@
+-- Places in the order of their numbers: those of one sequence stay in the order in which they were.
+use Rattle.std.proofs.Common.{◌≡◌, ℕ, suc, ◌+◌, ◌*◌, ◌%◌, ◌≤◌, ◌<◌, List, [], ◌∷◌, Bool, true, false, cond, not, ◌&&◌, nat_cmp, nat_lt, Less, Equal, Greater, filter, length, map, get_or, refl, sym, subst, ◌∙◌, ap, inl, inr, arith}
+use Rattle.std.specs.List.{All, sum_by}
+use Rattle.std.specs.List.Sorted.{IsPermutation, IsSorted, IsStableBy, IsNonDecreasing, IsNonDecreasingBy, ties}
+use Rattle.std.specs.Ordering.{is_lt, ordering_reverse}
+use Rattle.std.specs.Cmp.Lexicographic.{slice_cmp}
+use Rattle.std.specs.declared.cmp.Ordering.{Ordering}
+use Rattle.std.proofs.lemmas.Bool.{cases_lt, lt-ltb, le-ltb}
+use Rattle.std.proofs.lemmas.Cmp.{nat_list_cmp_total}
+use Rattle.std.proofs.lemmas.Nat.{mod-mul-add}
+use Rattle.std.proofs.lemmas.List.{ext_get_or, get_or-map, length-map}
+use Rattle.std.proofs.lemmas.List.Elements.{All-filter, All-from_get_or, All-tail, filter_passes}
+use Rattle.std.proofs.lemmas.List.Kept.{IsNonDecreasingBy-filter}
+use Rattle.std.proofs.lemmas.List.Sorted.{All-permutation, IsPermutation-map, IsNonDecreasingBy-from_default, IsNonDecreasingBy-from_sort, sum_by-IsPermutation}
+use Rattle.std.proofs.lemmas.List.Sums.{sum_by-cons}
+use Rattle.std.proofs.lemmas.Map.Lookups.{exact_bytes}
+use Rattle.compose_read.specs.Guess.{by_sequence, front, AreNumbers}
+use Rattle.compose_read.specs.Rows.{sequence_at}
+use Rattle.compose_read.specs.declared.rows.RowPlace.{RowPlace}
+
+-- ---- numbers that rise are told by the sums over them
+
+abbrev HaveSameSums : List ℕ → List ℕ → Type 0
+HaveSameSums xs ys = (f : ℕ → ℕ) → sum_by f xs ≡ sum_by f ys
+
+-- 1 for a number below y
+abbrev below : ℕ → ℕ → ℕ
+below y z = cond (nat_lt z y) 1 0
+
+none_below : (y : ℕ) (ys : List ℕ) → All (λ z. y ≤ z) ys → sum_by (below y) ys ≡ 0
+none_below y [] h = refl
+none_below y (z ∷ ys) h =
+    let more = sum_by-cons (below y) z ys in
+    let rest = none_below y ys (All-tail (λ z. y ≤ z) z ys h) in
+    let least : y ≤ z = h 0 z (omega arith) in
+    let not_it : below y z ≡ 0 = ap (λ b. cond b 1 0) (le-ltb z y least) in
+    omega arith
+
+-- no number of the one is below the least of the other
+first_least : (x y : ℕ) (xs ys : List ℕ) → All (λ z. y ≤ z) (y ∷ ys) → HaveSameSums (x ∷ xs) (y ∷ ys) → y ≤ x
+first_least x y xs ys h same = elim (cases_lt x y) [
+  | inl l ↦ absurd (
+      let one : below y x ≡ 1 = ap (λ b. cond b 1 0) (lt-ltb x y l) in
+      let more = sum_by-cons (below y) x xs in
+      let none = none_below y (y ∷ ys) h in
+      let sums = same (below y) in
+      omega arith)
+  | inr l ↦ l
+]
+
+rising_same : (xs ys : List ℕ) → IsNonDecreasing xs → IsNonDecreasing ys → HaveSameSums xs ys → xs ≡ ys
+rising_same [] [] up up' same = refl
+rising_same [] (y ∷ ys) up up' same = absurd (let more = sum_by-cons (λ _. 1) y ys in let sums : 0 ≡ sum_by (λ _. 1) (y ∷ ys) = same (λ _. 1) in omega arith)
+rising_same (x ∷ xs) [] up up' same = absurd (let more = sum_by-cons (λ _. 1) x xs in let sums : sum_by (λ _. 1) (x ∷ xs) ≡ 0 = same (λ _. 1) in omega arith)
+rising_same (x ∷ xs) (y ∷ ys) up up' same =
+    let low = first_least x y xs ys (λ k d l. up' 0 k d (omega arith) l) same in
+    let high = first_least y x ys xs (λ k d l. up 0 k d (omega arith) l) (λ f. sym (same f)) in
+    let first : x ≡ y = omega arith in
+    let rest : HaveSameSums xs ys = λ f. let a = sum_by-cons f x xs in let b = sum_by-cons f y ys in let sums = same f in let fs = ap f first in omega arith in
+    ap (λ z. z ∷ xs) first
+    ∙ ap (λ zs. y ∷ zs) (rising_same xs ys (λ i j d le l. up (suc i) (suc j) d (omega arith) (omega arith)) (λ i j d le l. up' (suc i) (suc j) d (omega arith) (omega arith)) rest)
+
+sum_by-filter : (f : ℕ → ℕ) (p : ℕ → Bool) (xs : List ℕ) → sum_by f (filter p xs) ≡ sum_by (λ x. cond (p x) (f x) 0) xs
+sum_by-filter f p [] = refl
+sum_by-filter f p (x ∷ xs) = go (p x) ∙ ap (λ n. cond (p x) (f x) 0 + n) (sum_by-filter f p xs) ∙ sym (sum_by-cons (λ x. cond (p x) (f x) 0) x xs)
+  where
+    go : (b : Bool) → sum_by f (cond b (x ∷ filter p xs) (filter p xs)) ≡ cond b (f x) 0 + sum_by f (filter p xs)
+    go true = sum_by-cons f x (filter p xs)
+    go false = omega arith
+
+-- what a test keeps of numbers in two orders, where it rises in both
+kept_same : (p : ℕ → Bool) (xs ys : List ℕ) → IsPermutation xs ys → IsNonDecreasing (filter p xs) → IsNonDecreasing (filter p ys) → filter p ys ≡ filter p xs
+kept_same p xs ys permuted up up' =
+    rising_same (filter p ys) (filter p xs) up' up
+    (λ f. sum_by-filter f p ys ∙ sum_by-IsPermutation (λ x. cond (p x) (f x) 0) xs ys permuted ∙ sym (sum_by-filter f p xs))
+
+filter-map : {X : Type 0} (p : X → Bool) (f : ℕ → X) (ns : List ℕ) → filter p (map f ns) ≡ map f (filter (λ n. p (f n)) ns)
+filter-map p f [] = refl
+filter-map p f (n ∷ ns) = ap (λ l. cond (p (f n)) (f n ∷ l) l) (filter-map p f ns) ∙ go (p (f n))
+  where
+    go : (b : Bool) → cond b (f n ∷ map f (filter (λ n. p (f n)) ns)) (map f (filter (λ n. p (f n)) ns)) ≡ map f (cond b (n ∷ filter (λ n. p (f n)) ns) (filter (λ n. p (f n)) ns))
+    go true = refl
+    go false = refl
+
+-- ---- the numbers of places
+
+-- of two numbers with one front, the one of the earlier index is not above the other
+in_turn : (m n front front' : ℕ) → m ≡ front * 4294967296 + m % 4294967296 → n ≡ front' * 4294967296 + n % 4294967296 → front ≡ front' → m % 4294967296 ≤ n % 4294967296 → m ≤ n
+in_turn m n front front' a b same le = let scaled = ap (λ f. f * 4294967296) same in omega (a, b, scaled, le, arith)
+
+tied_sequences : (keysyms : List ℕ) (p q : RowPlace) → ties (by_sequence keysyms) p q ≡ true → sequence_at keysyms p ≡ sequence_at keysyms q
+tied_sequences keysyms p q e = go (slice_cmp nat_cmp s t) refl (nat_list_cmp_total.antisymm t s) e
+  where
+    s : List ℕ
+    s = sequence_at keysyms p
+
+    t : List ℕ
+    t = sequence_at keysyms q
+
+    go : (o : Ordering) → slice_cmp nat_cmp s t ≡ o → slice_cmp nat_cmp t s ≡ ordering_reverse (slice_cmp nat_cmp s t) → not (is_lt (slice_cmp nat_cmp s t)) && not (is_lt (slice_cmp nat_cmp t s)) ≡ true → s ≡ t
+    go Less is back e = absurd (let clash : false ≡ true = sym (ap (λ o. not (is_lt o) && not (is_lt (slice_cmp nat_cmp t s))) is) ∙ e in cc)
+    go Equal is back e = exact_bytes s t is
+    go Greater is back e =
+        absurd (let less : slice_cmp nat_cmp t s ≡ Less = back ∙ ap ordering_reverse is in
+        let clash : false ≡ true = sym (ap (λ o. not (is_lt Greater) && not (is_lt o)) less) ∙ sym (ap (λ o. not (is_lt o) && not (is_lt (slice_cmp nat_cmp t s))) is) ∙ e in cc)
+
+pub none : RowPlace
+none = record { first_keysym = 0; first_byte = 0; keysym_count = 0; byte_count = 0 }
+
+module _ (keysyms : List ℕ) (places : List RowPlace) (numbers : List ℕ) (are : AreNumbers keysyms places numbers) where
+  -- the place that a number picks
+  abbrev pub place_of : ℕ → RowPlace
+  place_of n = get_or places (n % 4294967296) none
+
+  index_of : (index : ℕ) → index < length places → get_or numbers index 0 % 4294967296 ≡ index
+  index_of index l =
+      let fits = are.fits in
+      ap (λ n. n % 4294967296) (are.each none index l) ∙ mod-mul-add (front (sequence_at keysyms (get_or places index none))) 4294967296 index (omega arith)
+
+  pub indexes_within : All (λ n. n % 4294967296 < length places) numbers
+  indexes_within = All-from_get_or (λ n. n % 4294967296 < length places) numbers 0
+      (λ index l. let count = are.count in let within : index < length places = omega arith in subst (λ i. i < length places) (sym (index_of index within)) within)
+
+  fronts : All (λ n. n ≡ front (sequence_at keysyms (place_of n)) * 4294967296 + n % 4294967296) numbers
+  fronts = All-from_get_or (λ n. n ≡ front (sequence_at keysyms (place_of n)) * 4294967296 + n % 4294967296) numbers 0
+      (λ index l. let count = are.count in let within : index < length places = omega arith in
+      are.each none index within ∙ ap (λ i. front (sequence_at keysyms (get_or places i none)) * 4294967296 + i) (sym (index_of index within)))
+
+  indexes_rise : IsNonDecreasingBy (λ n. n % 4294967296) numbers
+  indexes_rise = IsNonDecreasingBy-from_default (λ n. n % 4294967296) numbers 0
+      (λ i j le l. let count = are.count in let a = index_of i (omega arith) in let b = index_of j (omega arith) in omega arith)
+
+  in_order : map place_of numbers ≡ places
+  in_order =
+      let count = are.count in let long = length-map numbers place_of in
+      ext_get_or none (map place_of numbers) places (long ∙ count)
+      (λ index l. get_or-map place_of numbers index 0 none (omega arith) ∙ ap (λ i. get_or places i none) (index_of index (omega arith)))
+
+  -- those of one sequence rise
+  ties_rise : (p : RowPlace) → IsNonDecreasing (filter (λ n. ties (by_sequence keysyms) p (place_of n)) numbers)
+  ties_rise p i j d le l =
+      let tied : ℕ → Bool = λ n. ties (by_sequence keysyms) p (place_of n) in
+      let one = All-filter tied (λ n. n ≡ front (sequence_at keysyms (place_of n)) * 4294967296 + n % 4294967296) numbers fronts in
+      let at = filter_passes tied numbers in
+      let kept = filter tied numbers in
+      let same = λ (k : ℕ) (within : k < length kept). ap front (tied_sequences keysyms p (place_of (get_or kept k d)) (at k d within)) in
+      in_turn (get_or kept i d) (get_or kept j d) _ _ (one i d (omega arith)) (one j d l) (sym (same i (omega arith)) ∙ same j l)
+      (IsNonDecreasingBy-filter (λ n. n % 4294967296) tied numbers indexes_rise i j d le l)
+
+  module _ (sorted : List ℕ) (permuted : IsPermutation numbers sorted) where
+    pub sorted_within : All (λ n. n % 4294967296 < length places) sorted
+    sorted_within = All-permutation (λ n. n % 4294967296 < length places) numbers sorted permuted indexes_within
+
+    pub picked_permutation : IsPermutation places (map place_of sorted)
+    picked_permutation = subst (λ l. IsPermutation l (map place_of sorted)) in_order (IsPermutation-map place_of numbers sorted permuted)
+
+    pub picked_stable : IsSorted nat_cmp sorted → IsStableBy (by_sequence keysyms) places (map place_of sorted)
+    picked_stable up p =
+        let tied : ℕ → Bool = λ n. ties (by_sequence keysyms) p (place_of n) in
+        filter-map (ties (by_sequence keysyms) p) place_of sorted
+        ∙ ap (map place_of) (kept_same tied numbers sorted permuted (ties_rise p) (IsNonDecreasingBy-filter (λ n. n) tied sorted (IsNonDecreasingBy-from_sort (λ n. n) sorted up)))
+        ∙ sym (filter-map (ties (by_sequence keysyms) p) place_of numbers)
+        ∙ ap (filter (ties (by_sequence keysyms) p)) in_order
