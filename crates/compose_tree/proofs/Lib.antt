@@ -4,6 +4,9 @@ pub mod OneMore
 pub mod MoreRows
 pub mod NextIn
 pub mod Adding
+pub mod FirstSource
+pub mod Gathering
+pub mod Scattering
 pub mod Lookups
 pub mod Unpacking
 pub mod Spelling

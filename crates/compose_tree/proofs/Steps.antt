@@ -1,12 +1,12 @@
 -- What the target of a key says of the step there: the crates above know a table by its targets, and the model by its effects.
-use Rattle.std.proofs.Common.{◌≡◌, ℕ, ◌<◌, List, [], ◌∷◌, ◌++◌, Bool, true, false, cond, ◌||◌, length, map, refl, sym, ◌∙◌, ap, inl, inr, Option, Some, None, Ordering, nat_cmp}
-use Rattle.std.specs.List.{list_any, position_or_len}
+use Rattle.std.proofs.Common.{◌≡◌, ℕ, ◌<◌, List, [], ◌∷◌, ◌++◌, Bool, true, false, cond, ◌||◌, length, map, refl, sym, ◌∙◌, ap, Option, Some, None, nat_cmp}
+use Rattle.std.specs.List.{list_any}
 use Rattle.std.specs.Cmp.Lexicographic.{slice_cmp}
-use Rattle.std.proofs.lemmas.Bool.{or_left, or_right, cases_Bool}
+use Rattle.std.proofs.lemmas.Bool.{or_left, or_right}
 use Rattle.std.proofs.lemmas.Map.Lookups.{exact_bytes}
 use Rattle.keysym_core.specs.Keysym.{is_ignored}
 use Rattle.compose_model.specs.Table.{Definition, same, is_sequence, is_extended, is_table, text_at}
-use Rattle.compose_model.specs.Step.{Effect, ignores, extends, completes, passes, cancels, effect, is_empty}
+use Rattle.compose_model.specs.Step.{Effect, extends, completes, passes, cancels, effect, is_empty}
 use Rattle.compose_model.specs.Nodes.{nodes, leaves, is_node, number_of, has_edge}
 use Rattle.compose_model.proofs.Tests.{list_any-map, list_any-rising}
 use Rattle.compose_model.proofs.Steps.{effect_is}

@@ -1,5 +1,5 @@
 -- What reading a table gives: its settled definitions, or the first fault on the way.
-use Rattle.std.specs.Prelude.{◌≡◌, ℕ, nat_le, List, length, if◌then◌else◌, Result, Ok, Err}
+use Rattle.std.specs.Prelude.{◌≡◌, ℕ, nat_le, List, [], ◌∷◌, length, if◌then◌else◌, Result, Ok, Err}
 use Rattle.keysym_core.specs.Names.{KeysymNames}
 use Rattle.compose_model.specs.Table.{Definition}
 use Rattle.compose_model.specs.Nodes.{nodes}
@@ -37,6 +37,11 @@ settled_by rule (Ok definitions) = bounded (settled rule definitions)
 -- the settled definitions that are read from the root by the rule, or the first fault
 abbrev pub table_of : KeysymNames → List Source → List ℕ → Rule → Result (List Definition) NoTable
 table_of names sources root rule = settled_by rule (definitions_of names sources root)
+
+-- the same, where the root is the first source
+abbrev pub first_table : KeysymNames → List Source → Rule → Result (List Definition) NoTable
+first_table names [] rule = Err (unread read_faults.MissingRoot)
+first_table names (s ∷ sources) rule = table_of names (s ∷ sources) s.name rule
 
 -- ---- what a call answers
 

@@ -1,9 +1,11 @@
 -- The rows of a table: for each node how deep it is, and its edges in order with where they lead.
-use Rattle.std.specs.Prelude.{ℕ, ◌+◌, ◌==◌, List, [], ◌∷◌, ◌++◌, map, length, get_or, slice_set, if◌then◌else◌}
+use Rattle.std.specs.Prelude.{ℕ, ◌+◌, ◌<◌, ◌==◌, nat_eq, List, [], ◌∷◌, ◌++◌, map, length, get_or, slice_set, if◌then◌else◌}
+use Rattle.std.specs.List.{All, filter}
 use Rattle.compose_model.specs.Table.{Definition}
 use Rattle.compose_model.specs.Nodes.{proper_prefixes, nodes, is_node, number_of, edges}
 use Rattle.compose_tree.specs.Targets.{leaf_number}
 use Rattle.compose_tree.specs.declared.edge.Edge.{Edge}
+use Rattle.compose_tree.specs.declared.edge.NodeEdge.{NodeEdge}
 use Rattle.compose_tree.specs.declared.table.Target.{Target}
 use Rattle.compose_tree.specs.declared.table.Target.TheVariants.{Node, Leaf}
 
@@ -29,6 +31,25 @@ keysyms_of edges = map (λ e. e.keysym) edges
 -- a row for each node, in order
 abbrev pub rows_of : List Definition → List NodeRow
 rows_of table = map (row_of table) (nodes table)
+
+-- how many edges each node has
+abbrev pub counts_of : List NodeRow → List ℕ
+counts_of rows = map (λ row. length row.edges) rows
+
+-- ---- rows as one list of edges with their nodes
+
+-- the edges of node i, in order
+abbrev pub edges_at : ℕ → List NodeEdge → List Edge
+edges_at i edges = map (λ e. e.edge) (filter (λ e. nat_eq e.node i) edges)
+
+-- the rows of nodes of these depths, from node i on
+abbrev pub gathered : ℕ → List ℕ → List NodeEdge → List NodeRow
+gathered i [] edges = []
+gathered i (depth ∷ depths) edges = record { depth = depth; edges = edges_at i edges } ∷ gathered (1 + i) depths edges
+
+-- each edge is at one of so many nodes
+abbrev pub AreAtNodes : ℕ → List NodeEdge → Type 0
+AreAtNodes count edges = All (λ e. e.node < count) edges
 
 -- ---- what a sequence adds, which goes on behind the ones before it
 

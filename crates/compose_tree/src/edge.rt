@@ -8,3 +8,10 @@ pub struct Edge {
     pub keysym: Keysym,
     pub target: Target,
 }
+
+/// An edge, and the number of the node that has it.
+#[derive(Clone, Copy)]
+pub struct NodeEdge {
+    pub node: u32,
+    pub edge: Edge,
+}

@@ -1,12 +1,17 @@
 //! Guesses of where an edge stands, by node and keysym.
-use crate::edge::Edge;
-use crate::rows::Row;
+use crate::packed::{PackedEdge, PackedNode};
 use crate::table::NodeId;
 use keysym_core::Keysym;
 use std::alloc::{AllocError, Global};
 
 /// How many guesses there are for each edge: the more, the fewer edges fall together.
 const GUESSES_PER_EDGE: usize = 4;
+
+/// An odd number that spreads a node's bits: 2^32 divided by the golden ratio.
+const NODE_MULTIPLIER: u32 = 0x9e37_79b1;
+
+/// An odd number that spreads a keysym's bits: a multiplier of the last step of MurmurHash3.
+const KEYSYM_MULTIPLIER: u32 = 0x85eb_ca6b;
 
 /// For the edges of all nodes, where each stands among its node's edges: 4 bytes an edge.
 ///
@@ -18,14 +23,22 @@ pub struct Guesses {
 }
 
 impl Guesses {
-    /// The guesses for these nodes, which have so many edges in all. O(edges).
-    pub fn new(alloc: Global, rows: &[Row], edge_count: usize) -> Result<Guesses, AllocError> {
+    /// The guesses for the packed edges of these nodes. O(edges).
+    pub fn new(
+        alloc: Global,
+        nodes: &[PackedNode],
+        edges: &[PackedEdge],
+    ) -> Result<Guesses, AllocError> {
         let mut guesses = Guesses {
-            places: vec![in alloc; 0; edge_count.saturating_mul(GUESSES_PER_EDGE)]?,
+            places: vec![in alloc; 0; edges.len().saturating_mul(GUESSES_PER_EDGE)]?,
         };
         let mut number = 0u32;
-        for row in rows {
-            guesses.note(NodeId(number), row.edges());
+        for pair in nodes.windows(2) {
+            if let [node, next] = pair
+                && let Some(own) = edges.get(node.first as usize..next.first as usize)
+            {
+                guesses.note(NodeId(number), own);
+            }
             number = number.saturating_add(1);
         }
         Ok(guesses)
@@ -40,7 +53,7 @@ impl Guesses {
     }
 
     /// Notes where a node's edges stand.
-    fn note(&mut self, node: NodeId, edges: &[Edge]) {
+    fn note(&mut self, node: NodeId, edges: &[PackedEdge]) {
         for (place, edge) in edges.iter().enumerate() {
             let slot = self.slot(node, edge.keysym);
             if let (Some(guess), Ok(place)) = (self.places.get_mut(slot), u8::try_from(place)) {
@@ -51,8 +64,8 @@ impl Guesses {
 
     /// Which guess is that for this keysym at the node: a hash of both, scaled to the number of guesses.
     fn slot(&self, node: NodeId, keysym: Keysym) -> usize {
-        let of_node = node.0.wrapping_mul(0x9e37_79b1);
-        let of_keysym = keysym.value().wrapping_mul(0x85eb_ca6b);
+        let of_node = node.0.wrapping_mul(NODE_MULTIPLIER);
+        let of_keysym = keysym.value().wrapping_mul(KEYSYM_MULTIPLIER);
         let hash = u64::from(of_node.wrapping_add(of_keysym));
         (hash.wrapping_mul(self.places.len() as u64) >> 32) as usize
     }

@@ -24,5 +24,5 @@ mod tests;
 
 pub use list_table::ListTable;
 pub use packed_table::PackedTable;
-pub use reading::{TableFault, read_table};
+pub use reading::{TableFault, read_first_table, read_table};
 pub use table::{BuildFault, ComposeTable, LeafId, NodeId, Target};

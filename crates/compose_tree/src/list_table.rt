@@ -1,15 +1,53 @@
 //! The plain form of a table: its sequences, and a row of edges for each node.
-ghost use Rattle.std.specs.Prelude.{◌≡◌, ◌<◌, ℕ, length, nat_eq, option_map, slice_index, MatchOption};
+ghost use Rattle.std.specs.Prelude.{◌≡◌, ◌<◌, ◌++◌, ℕ, [], ◌∷◌, length, nat_eq, option_map, slice_index, MatchOption, OnOk, IfOk};
 ghost use Rattle.std.specs.List.{find};
-ghost use Rattle.compose_tree.specs.Rows.{keysyms_of};
+ghost use Rattle.compose_tree.specs.Rows.{keysyms_of, with_edge, gathered, AreAtNodes};
 
-use crate::edge::Edge;
-use crate::rows::{Row, build_rows};
+use crate::edge::{Edge, NodeEdge};
+use crate::rows::build_rows;
 use crate::table::{BuildFault, ComposeTable, LeafId, NodeId, Target};
 use compose_read::Sequences;
 use keysym_core::Keysym;
-use std::alloc::Global;
+use std::alloc::{AllocError, Global};
 use std::marker::Model;
+
+/// A node: its depth, and its edges in rising order.
+#[derive(Drop)]
+struct Row {
+    depth: u32,
+    edges: Vec<Edge>,
+}
+
+impl Model for Row {
+    ghost use Rattle.compose_tree.specs.Rows.{NodeRow};
+
+    ghost Value = { NodeRow };
+
+    ghost view = { λ r. record { depth = r.depth; edges = r.edges.items } };
+}
+
+impl Row {
+    /// How many keysyms lead to the node. O(1).
+    fn depth(&self) -> u32
+        ensures { result ≡ self.now.depth }
+    {
+        self.depth
+    }
+
+    /// Its edges in rising order. O(1).
+    fn edges(&self) -> &[Edge]
+        ensures { result.now ≡ self.now.edges }
+    {
+        self.edges.as_slice()
+    }
+
+    fn push(&mut self, edge: Edge) -> Result<(), AllocError>
+        ensures ok { OnOk result (self.new ≡ record { depth = self.old.depth; edges = self.old.edges ++ edge ∷ [] }) }
+    {
+        self.edges.push(edge)?;
+        Ok(())
+    }
+}
 
 /// A table as rows of nodes, with the sequences beside them. Its `find` and `step` are scans, O(edges of the node).
 #[derive(Drop)]
@@ -31,6 +69,40 @@ impl Model for ListTable {
     ghost view = { λ t. t.sequences };
 
     ghost invariant = { λ t. IsSettled t.sequences × (t.rows.items ≡ rows_of t.sequences) × (length (nodes t.sequences) ≤ max_nodes) × (length t.sequences < 4294967296) };
+}
+
+/// A row without edges for each depth.
+fn open_rows(alloc: Global, depths: &[u32]) -> Result<Vec<Row>, AllocError>
+    ensures { IfOk result (λ rows. rows.items ≡ gathered 0 depths.now []) }
+{
+    let mut rows = Vec::with_capacity(alloc, depths.len())?;
+    for depth in depths {
+        rows.push(Row {
+            depth: *depth,
+            edges: Vec::new(alloc),
+        })?;
+    }
+    Ok(rows)
+}
+
+/// Puts the edge at a node.
+fn push_edge(rows: &mut Vec<Row>, node: u32, edge: Edge) -> Result<(), AllocError>
+    requires { node < length rows.old.items }
+    ensures { OnOk result (rows.new.items ≡ with_edge rows.old.items node edge) }
+{
+    rows[node as usize].push(edge)
+}
+
+/// The rows of nodes of these depths, with these edges.
+fn list_rows(alloc: Global, depths: &[u32], edges: &[NodeEdge]) -> Result<Vec<Row>, AllocError>
+    requires { AreAtNodes (length depths.now) edges.now }
+    ensures { IfOk result (λ rows. rows.items ≡ gathered 0 depths.now edges.now) }
+{
+    let mut rows = open_rows(alloc, depths)?;
+    for node_edge in edges {
+        push_edge(&mut rows, node_edge.node, node_edge.edge)?;
+    }
+    Ok(rows)
 }
 
 /// Where the edge of this keysym leads, if it is among these.
@@ -76,7 +148,9 @@ impl ComposeTable for ListTable {
     ghost definitions = { λ t. t };
 
     fn build(alloc: Global, sequences: Sequences) -> Result<Self, BuildFault> {
-        let rows = build_rows(alloc, &sequences)?;
+        let flat = build_rows(alloc, &sequences)?;
+        let (depths, edges) = flat.parts();
+        let rows = list_rows(alloc, depths, edges)?;
         Ok(ListTable { sequences, rows })
     }
 

@@ -22,13 +22,14 @@ ghost use Rattle.std.specs.Prelude.{◌≡◌, ◌<◌, ◌≤◌, ◌+◌, ◌+
 ghost use Rattle.std.specs.List.{list_all};
 ghost use Rattle.std.specs.List.Sorted.{IsStrictlyIncreasing};
 ghost use Rattle.std.specs.Str.{is_utf8};
+ghost use Rattle.compose_tree.specs.Rows.{counts_of, gathered, AreAtNodes};
 ghost use Rattle.compose_tree.specs.Packed as words;
 ghost use Rattle.compose_tree.specs.Packed.{keys_of, packed_edge, packed_target, unpacked_target, packed_nodes, packed_edges, packed_places, pool, texts_of};
 
-use crate::edge::Edge;
+use crate::edge::{Edge, NodeEdge};
 use crate::guesses::Guesses;
 use crate::packed::{PackedEdge, PackedNode};
-use crate::rows::{Row, build_rows};
+use crate::rows::build_rows;
 use crate::table::{BuildFault, ComposeTable, LeafId, NodeId, Target};
 use compose_read::Sequences;
 use keysym_core::Keysym;
@@ -92,18 +93,37 @@ fn place_behind(place: u32, count: usize) -> Result<u32, AllocError>
     place.checked_add(count).ok_or(AllocError)
 }
 
-/// For each row its depth and the place of its first edge, and behind them the end of the edges.
-fn pack_nodes(alloc: Global, rows: &[Row]) -> Result<Vec<PackedNode>, AllocError>
-    ensures { IfOk result (λ nodes. nodes.items ≡ packed_nodes 0 rows.now) }
+/// How many edges each of these nodes has.
+fn count_edges(alloc: Global, depths: &[u32], edges: &[NodeEdge]) -> Result<Vec<u32>, AllocError>
+    requires { AreAtNodes (length depths.now) edges.now }
+    ensures { IfOk result (λ counts. counts.items ≡ counts_of (gathered 0 depths.now edges.now)) }
 {
-    let mut nodes = Vec::with_capacity(alloc, rows.len().saturating_add(1))?;
+    let mut counts = vec![in alloc; 0; depths.len()]?;
+    for edge in edges {
+        let node = edge.node as usize;
+        counts[node] = place_behind(counts[node], 1)?;
+    }
+    Ok(counts)
+}
+
+/// For each node its depth and the place of its first edge, and behind them the end of the edges.
+fn pack_nodes(
+    alloc: Global,
+    depths: &[u32],
+    edges: &[NodeEdge],
+) -> Result<Vec<PackedNode>, AllocError>
+    requires { AreAtNodes (length depths.now) edges.now }
+    ensures { IfOk result (λ nodes. nodes.items ≡ packed_nodes 0 (gathered 0 depths.now edges.now)) }
+{
+    let counts = count_edges(alloc, depths, edges)?;
+    let mut nodes = Vec::with_capacity(alloc, depths.len().saturating_add(1))?;
     let mut place = 0;
-    for row in rows {
+    for index in 0..depths.len() {
         nodes.push(PackedNode {
-            depth: row.depth(),
+            depth: depths[index],
             first: place,
         })?;
-        place = place_behind(place, row.edges().len())?;
+        place = place_behind(place, counts[index] as usize)?;
     }
     nodes.push(PackedNode {
         depth: 0,
@@ -112,29 +132,51 @@ fn pack_nodes(alloc: Global, rows: &[Row]) -> Result<Vec<PackedNode>, AllocError
     Ok(nodes)
 }
 
-/// Puts a row's edges behind the others.
-fn push_edges(edges: &mut Vec<PackedEdge>, more: &[Edge]) -> Result<(), AllocError>
-    ensures { OnOk result (edges.new.items ≡ edges.old.items ++ map packed_edge more.now) }
+/// The place of each node's first edge, and behind them the end of the edges.
+fn first_places(alloc: Global, nodes: &[PackedNode]) -> Result<Vec<u32>, AllocError>
+    ensures { IfOk result (λ places. places.items ≡ map (λ node. node.first) nodes.now) }
 {
-    for edge in more {
-        let target = pack_target(edge.target)?;
-        edges.push(PackedEdge {
-            keysym: edge.keysym,
-            target,
-        })?;
+    let mut places = Vec::with_capacity(alloc, nodes.len())?;
+    for node in nodes {
+        places.push(node.first)?;
     }
-    Ok(())
+    Ok(places)
 }
 
-/// The edges of all rows, of which there are so many.
-fn pack_edges(alloc: Global, rows: &[Row], count: usize) -> Result<Vec<PackedEdge>, AllocError>
-    ensures { IfOk result (λ edges. edges.items ≡ packed_edges rows.now) }
+/// The packed edge, if its target fits.
+fn pack_edge(edge: Edge) -> Result<PackedEdge, AllocError>
+    ensures { IfOk result (λ packed. packed ≡ packed_edge edge) }
 {
-    let mut edges = Vec::with_capacity(alloc, count)?;
-    for row in rows {
-        push_edges(&mut edges, row.edges())?;
+    Ok(PackedEdge {
+        keysym: edge.keysym,
+        target: pack_target(edge.target)?,
+    })
+}
+
+/// The edges of all nodes, each put at its node's next place.
+fn pack_edges(
+    alloc: Global,
+    nodes: &[PackedNode],
+    depths: &[u32],
+    edges: &[NodeEdge],
+) -> Result<Vec<PackedEdge>, AllocError>
+    requires at_nodes { AreAtNodes (length depths.now) edges.now }
+    requires nodes { nodes.now ≡ packed_nodes 0 (gathered 0 depths.now edges.now) }
+    ensures { IfOk result (λ packed. packed.items ≡ packed_edges (gathered 0 depths.now edges.now)) }
+{
+    let mut places = first_places(alloc, nodes)?;
+    let blank = PackedEdge {
+        keysym: Keysym::default(),
+        target: 0,
+    };
+    let mut packed = vec![in alloc; blank; nodes[depths.len()].first as usize]?;
+    for edge in edges {
+        let node = edge.node as usize;
+        let place = places[node];
+        packed[place as usize] = pack_edge(edge.edge)?;
+        places[node] = place_behind(place, 1)?;
     }
-    Ok(edges)
+    Ok(packed)
 }
 
 /// For each text its place in the pool, and behind them the end of the pool.
@@ -250,13 +292,13 @@ impl ComposeTable for PackedTable {
 
     fn build(alloc: Global, sequences: Sequences) -> Result<Self, BuildFault> {
         let rows = build_rows(alloc, &sequences)?;
-        let nodes = pack_nodes(alloc, &rows)?;
-        let edge_count = nodes.last().map_or(0, |end| end.first as usize);
-        let edges = pack_edges(alloc, &rows, edge_count)?;
+        let (depths, node_edges) = rows.parts();
+        let nodes = pack_nodes(alloc, depths, node_edges)?;
+        let edges = pack_edges(alloc, &nodes, depths, node_edges)?;
         let places = pack_places(alloc, &sequences)?;
         let byte_count = places.last().map_or(0, |end| *end as usize);
         let texts = pack_texts(alloc, &sequences, byte_count)?;
-        let guesses = Guesses::new(alloc, &rows, edge_count)?;
+        let guesses = Guesses::new(alloc, &nodes, &edges)?;
         Ok(from_arrays(&sequences, nodes, edges, places, texts, guesses))
     }
 

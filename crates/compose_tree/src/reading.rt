@@ -1,5 +1,5 @@
 //! Tables from sources.
-ghost use Rattle.compose_tree.specs.Given.{TableGives, table_of};
+ghost use Rattle.compose_tree.specs.Given.{TableGives, first_table, table_of};
 
 use crate::table::{BuildFault, ComposeTable};
 use compose_model::Rule;
@@ -81,4 +81,19 @@ pub fn read_table<T: ComposeTable>(
     let sequences = settle(alloc, definitions, rule)?;
     let table = T::build(alloc, sequences)?;
     Ok(table)
+}
+
+/// The table whose root is the first source, read by the rule as by `read_table`. Without a source, the root is missing.
+pub fn read_first_table<T: ComposeTable>(
+    alloc: Global,
+    names: &Names,
+    sources: &Sources,
+    rule: Rule,
+) -> Result<T, TableFault>
+    ensures { TableGives T.definitions result (first_table names.now sources.now rule) }
+{
+    let Some(root) = sources.name(0) else {
+        return Err(TableFault::Read(ReadFault::MissingRoot));
+    };
+    read_table(alloc, names, sources, root, rule)
 }

@@ -1,7 +1,8 @@
 //! The rows of a table, built in one pass over its settled sequences.
 //!
 //! The sequences rise, so each shares the longest front with the one before it. The way to the last sequence is kept:
-//! a sequence adds one edge where it leaves that way, and opens a node for each keysym but the last behind it.
+//! a sequence adds one edge where it leaves that way, and opens a node for each keysym but the last behind it. All edges
+//! go into one list, with their nodes: no node has a vector of its own.
 ghost use Rattle.std.specs.Prelude.{◌≡◌, ◌<◌, ◌≤◌, ◌+◌, ◌++◌, ℕ, List, [], ◌∷◌, length, take, drop, Some, slice_get, slice_set, get_or, OnOk, OnErr, IfOk, IfErr};
 ghost use Rattle.compose_model.specs.Table.{Definition};
 ghost use Rattle.compose_model.specs.Nodes.{nodes};
@@ -10,7 +11,7 @@ ghost use Rattle.compose_tree.specs.Targets.{max_nodes};
 ghost use Rattle.compose_tree.specs.Rows as words;
 ghost use Rattle.compose_tree.specs.Rows.{rows_of, row_at, with_edge, new_rows, next_target, path_of, sequence_at, shared_with_last, counted};
 
-use crate::edge::Edge;
+use crate::edge::{Edge, NodeEdge};
 use crate::table::{BuildFault, LeafId, NodeId, Target};
 use compose_read::Sequences;
 use keysym_core::Keysym;
@@ -20,40 +21,70 @@ use std::marker::Model;
 /// The most nodes that a table may have.
 pub const MAX_NODES: usize = 1_048_576;
 
-/// A node: its depth, and its edges in rising order.
+/// The rows of nodes, flat: the depth of each node, and the edges of all nodes in the order in which the sequences add them.
 #[derive(Drop)]
-pub struct Row {
-    depth: u32,
-    edges: Vec<Edge>,
+pub struct Rows {
+    depths: Vec<u32>,
+    edges: Vec<NodeEdge>,
 }
 
-impl Model for Row {
-    ghost use Rattle.compose_tree.specs.Rows.{NodeRow};
+impl Model for Rows {
+    ghost use Rattle.std.specs.Prelude.{List, length};
+    ghost use Rattle.compose_tree.specs.Rows.{NodeRow, gathered, AreAtNodes};
 
-    ghost Value = { NodeRow };
+    ghost Value = { List NodeRow };
 
-    ghost view = { λ r. record { depth = r.depth; edges = r.edges.items } };
+    ghost view = { λ r. gathered 0 r.depths.items r.edges.items };
+
+    ghost invariant = { λ r. AreAtNodes (length r.depths.items) r.edges.items };
 }
 
-impl Row {
-    /// How many keysyms lead to the node. O(1).
-    pub fn depth(&self) -> u32
-        ensures { result ≡ self.now.depth }
+impl Rows {
+    ghost use Rattle.std.specs.Prelude.{◌≡◌, ◌<◌, ◌++◌, [], ◌∷◌, length, OnOk, IfOk};
+    ghost use Rattle.compose_tree.specs.Rows.{rows_of, with_edge, gathered, AreAtNodes};
+
+    /// The row of the root alone, with room for so many edges.
+    fn root(alloc: Global, edge_count: usize) -> Result<Rows, AllocError>
+        ensures { IfOk result (λ rows. rows ≡ rows_of []) }
     {
-        self.depth
+        Ok(Rows {
+            depths: vec![in alloc; 0; 1]?,
+            edges: Vec::with_capacity(alloc, edge_count)?,
+        })
     }
 
-    /// Its edges in rising order. O(1).
-    pub fn edges(&self) -> &[Edge]
-        ensures { result.now ≡ self.now.edges }
+    /// How many rows there are. O(1).
+    fn len(&self) -> usize
+        ensures { result ≡ length self.now }
     {
-        self.edges.as_slice()
+        self.depths.len()
     }
 
-    fn push(&mut self, edge: Edge) -> Result<(), AllocError>
-        ensures ok { OnOk result (self.new ≡ record { depth = self.old.depth; edges = self.old.edges ++ edge ∷ [] }) }
+    /// The depth of each node, and the edges with their nodes, each node's in rising order. O(1).
+    pub fn parts(&self) -> (&[u32], &[NodeEdge])
+        ensures rows { gathered 0 result.0.now result.1.now ≡ self.now }
+        ensures at_nodes { AreAtNodes (length result.0.now) result.1.now }
     {
-        self.edges.push(edge)?;
+        (self.depths.as_slice(), self.edges.as_slice())
+    }
+
+    /// Puts a row with one edge behind the others.
+    fn open(&mut self, depth: u32, edge: Edge) -> Result<(), AllocError>
+        requires { length self.old < 4294967296 }
+        ensures { OnOk result (self.new ≡ self.old ++ record { depth = depth; edges = edge ∷ [] } ∷ []) }
+    {
+        let node = self.depths.len() as u32;
+        self.depths.push(depth)?;
+        self.edges.push(NodeEdge { node, edge })?;
+        Ok(())
+    }
+
+    /// Puts an edge behind the others of its node.
+    fn push_edge(&mut self, node: u32, edge: Edge) -> Result<(), AllocError>
+        requires { node < length self.old }
+        ensures { OnOk result (self.new ≡ with_edge self.old node edge) }
+    {
+        self.edges.push(NodeEdge { node, edge })?;
         Ok(())
     }
 }
@@ -107,57 +138,43 @@ fn target_at(sequence: &[Keysym], place: usize, node: u32, leaf: u32) -> Target
 
 /// Opens a node for each keysym of the sequence from this depth on.
 fn open_nodes(
-    alloc: Global,
-    rows: &mut Vec<Row>,
+    rows: &mut Rows,
     path: &mut Vec<u32>,
     sequence: &[Keysym],
     from: usize,
     leaf: u32,
 ) -> Result<(), AllocError>
-    requires few { length rows.old.items + length sequence.now < 2147483648 }
-    ensures rows { OnOk result (rows.new.items ≡ rows.old.items ++ new_rows (length rows.old.items) leaf from (drop from sequence.now)) }
-    ensures path { OnOk result (path.new.items ≡ path.old.items ++ counted (length rows.old.items) (drop from sequence.now)) }
+    requires few { length rows.old + length sequence.now < 2147483648 }
+    ensures rows { OnOk result (rows.new ≡ rows.old ++ new_rows (length rows.old) leaf from (drop from sequence.now)) }
+    ensures path { OnOk result (path.new.items ≡ path.old.items ++ counted (length rows.old) (drop from sequence.now)) }
 {
     for depth in from..sequence.len() {
         let node = rows.len() as u32;
-        let mut edges = Vec::with_capacity(alloc, 1)?;
-        edges.push(Edge {
+        let edge = Edge {
             keysym: sequence[depth],
             target: target_at(sequence, depth, node + 1, leaf),
-        })?;
-        rows.push(Row {
-            depth: depth as u32,
-            edges,
-        })?;
+        };
+        rows.open(depth as u32, edge)?;
         path.push(node)?;
     }
     Ok(())
 }
 
-/// Puts the edge at a node.
-fn push_edge(rows: &mut Vec<Row>, node: u32, edge: Edge) -> Result<(), AllocError>
-    requires { node < length rows.old.items }
-    ensures { OnOk result (rows.new.items ≡ with_edge rows.old.items node edge) }
-{
-    rows[node as usize].push(edge)
-}
-
 /// Adds the sequence at this place to the rows of those before it.
 fn add_sequence(
-    alloc: Global,
-    rows: &mut Vec<Row>,
+    rows: &mut Rows,
     path: &mut Vec<u32>,
     sequences: &Sequences,
     index: u32,
 ) -> Result<(), BuildFault>
     requires settled { IsSettled sequences.now }
     requires in_range { index < length sequences.now }
-    requires rows { rows.old.items ≡ rows_of (take index sequences.now) }
+    requires rows { rows.old ≡ rows_of (take index sequences.now) }
     requires path { path.old.items ≡ path_of (take index sequences.now) }
-    requires few { length rows.old.items ≤ max_nodes }
-    ensures rows { OnOk result (rows.new.items ≡ rows_of (take (index + 1) sequences.now)) }
+    requires few { length rows.old ≤ max_nodes }
+    ensures rows { OnOk result (rows.new ≡ rows_of (take (index + 1) sequences.now)) }
     ensures path { OnOk result (path.new.items ≡ path_of (take (index + 1) sequences.now)) }
-    ensures few { OnOk result (length rows.new.items ≤ max_nodes) }
+    ensures few { OnOk result (length rows.new ≤ max_nodes) }
     ensures many { IfErr result (λ fault. fault ≡ BuildFault.TooManyNodes → max_nodes < length (nodes sequences.now)) }
 {
     let sequence = sequence_of(sequences, index as usize);
@@ -170,27 +187,15 @@ fn add_sequence(
         keysym: sequence[shared],
         target: target_at(sequence, shared, rows.len() as u32, index),
     };
-    push_edge(rows, path[shared], edge)?;
+    rows.push_edge(path[shared], edge)?;
     path.truncate(shared + 1);
-    open_nodes(alloc, rows, path, sequence, shared + 1, index)?;
+    open_nodes(rows, path, sequence, shared + 1, index)?;
     Ok(())
 }
 
-/// The row of the root alone.
-fn root_row(alloc: Global) -> Result<Vec<Row>, AllocError>
-    ensures { IfOk result (λ rows. rows.items ≡ rows_of []) }
-{
-    let mut rows = Vec::with_capacity(alloc, 1)?;
-    rows.push(Row {
-        depth: 0,
-        edges: Vec::new(alloc),
-    })?;
-    Ok(rows)
-}
-
 /// The rows of the sequences, one for each node, unless there are more than 1,048,576. O(keysyms of all sequences).
-pub fn build_rows(alloc: Global, sequences: &Sequences) -> Result<Vec<Row>, BuildFault>
-    ensures rows { IfOk result (λ rows. rows.items ≡ rows_of sequences.now) }
+pub fn build_rows(alloc: Global, sequences: &Sequences) -> Result<Rows, BuildFault>
+    ensures rows { IfOk result (λ rows. rows ≡ rows_of sequences.now) }
     ensures few { IfOk result (λ _. length (nodes sequences.now) ≤ max_nodes) }
     ensures leaves { IfOk result (λ _. length sequences.now < 4294967296) }
     ensures settled { IsSettled sequences.now }
@@ -199,10 +204,10 @@ pub fn build_rows(alloc: Global, sequences: &Sequences) -> Result<Vec<Row>, Buil
     let Ok(count) = u32::try_from(sequences.len()) else {
         return Err(BuildFault::NoMemory);
     };
-    let mut rows = root_row(alloc)?;
+    let mut rows = Rows::root(alloc, sequences.len())?;
     let mut path = vec![in alloc; 0u32; 1]?;
     for index in 0..count {
-        add_sequence(alloc, &mut rows, &mut path, sequences, index)?;
+        add_sequence(&mut rows, &mut path, sequences, index)?;
     }
     Ok(rows)
 }

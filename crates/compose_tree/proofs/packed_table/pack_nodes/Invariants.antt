@@ -1,6 +1,7 @@
 use Rattle.std.proofs.Common.{◌≡◌, ◌++◌, drop}
+use Rattle.compose_tree.specs.Rows.{gathered}
 use Rattle.compose_tree.specs.Packed.{packed_nodes}
 use Rattle.compose_tree.proofs.packed_table.pack_nodes.Given as goal
 
-abbrev pub invariant-loop-row : goal.invariant-loop-row
-invariant-loop-row l = packed_nodes 0 l.rows ≡ l.nodes.items ++ packed_nodes l.place (drop l.row-index l.rows)
+abbrev pub invariant-loop-index : goal.invariant-loop-index
+invariant-loop-index l = packed_nodes 0 (gathered 0 l.depths l.edges) ≡ l.nodes.items ++ packed_nodes l.place (gathered l.index (drop l.index l.depths) l.edges)

@@ -5,7 +5,7 @@ use Rattle.compose_tree.proofs.rows.build_rows.Given as goal
 
 abbrev pub invariant-loop-index : goal.invariant-loop-index
 invariant-loop-index l = record {
-  rows_so_far : l.rows.items ≡ rows_of (take l.index l.sequences);
+  rows_so_far : l.rows ≡ rows_of (take l.index l.sequences);
   path_so_far : l.path.items ≡ path_of (take l.index l.sequences);
-  few : length l.rows.items ≤ max_nodes;
+  few : length l.rows ≤ max_nodes;
 }

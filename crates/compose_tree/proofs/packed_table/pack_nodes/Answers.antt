@@ -1,0 +1,20 @@
+use Rattle.std.proofs.Common.{◌≡◌, ◌+◌, ◌∙◌, ap, get_or, length, zero-add, arith}
+use Rattle.std.proofs.lemmas.List.{length-map, get_or_default}
+use Rattle.compose_tree.specs.Rows.{NodeRow, gathered, edges_at}
+use Rattle.compose_tree.specs.Packed.{packed_nodes}
+use Rattle.compose_tree.proofs.Gathering.{rows_count, count_at}
+use Rattle.compose_tree.proofs.Scattering.{nodes_step}
+use Rattle.compose_tree.proofs.packed_table.pack_nodes.Goals as goal
+
+pub index-requires : goal.index-requires
+index-requires c =
+    let rows = gathered 0 c.args.depths.now c.args.edges.now in
+    let n = ap length c.in_ok-counts.ensures ∙ length-map rows (λ (row : NodeRow). length row.edges) ∙ rows_count 0 c.args.depths.now c.args.edges.now in
+    omega (arith, n)
+
+pub loop-index-preserved : goal.loop-index-preserved
+loop-index-preserved c =
+    let ds = c.args.depths.now in let es = c.args.edges.now in let k = c.loop-index.index in
+    let count : c.index.result.now ≡ length (edges_at (0 + k) es) = c.index.ensures ∙ ap (λ counts. get_or counts k c.index.result.now) c.in_ok-counts.ensures ∙ count_at 0 k c.index.result.now ds es c.loop-index-test.true in
+    let next : c.in_ok-place.place ≡ c.loop-index.place + length (edges_at k es) = c.in_ok-place.ensures ∙ ap (λ n. c.loop-index.place + n) count ∙ ap (λ i. c.loop-index.place + length (edges_at i es)) (zero-add k) in
+    nodes_step ds es k c.loop-index.place c.in_ok-place.place (get_or ds k 0) (packed_nodes 0 (gathered 0 ds es)) c.loop-index.nodes.items c.push.new.self.items c.loop-index-test.true (get_or_default ds k 0 (get_or ds k 0) c.loop-index-test.true) next c.in_ok-push.ensures.items c.loop-index.invariant

@@ -1,0 +1,11 @@
+use Rattle.std.proofs.Common.{List, subst}
+use Rattle.std.specs.Prelude.{Result}
+use Rattle.compose_model.specs.Table.{Definition}
+use Rattle.compose_tree.specs.Given.{NoTable, TableGives}
+use Rattle.compose_tree.proofs.FirstSource.{root_named}
+use Rattle.compose_tree.proofs.reading.read_first_table.Goals as goal
+
+pub returns : goal.returns
+returns g c =
+    subst (λ (said : Result (List Definition) NoTable). TableGives g.T.ComposeTable.definitions c.read_table.result said)
+    (root_named c.args.names.now c.args.sources.now c.in-Some.root.now c.args.rule c.in-Some.ensures) c.read_table.ensures
