@@ -1,15 +1,14 @@
 -- The parts of a check, read one after another.
-use Rattle.std.proofs.Common.{◌≡◌, ℕ, List, [], ◌∷◌, sym, ◌∙◌, ap, subst}
-use Rattle.std.specs.Prelude.{Some, slice_get, Result, Ok, Err}
-use Rattle.std.specs.Option.{option_map}
+use Rattle.std.proofs.Common.{◌≡◌, List, sym, ◌∙◌, ap, subst, rules}
+use Rattle.std.specs.Prelude.{Result, Ok, Err}
 use Rattle.std.specs.Result.{IsErrAnd}
 use Rattle.keysym_core.specs.Names.{KeysymNames}
 use Rattle.keysym_core.specs.Header.{names_of}
 use Rattle.compose_model.specs.Table.{Definition}
 use Rattle.compose_model.specs.Certificate.{Certificate, Repertoire}
-use Rattle.compose_model.specs.declared.Rule.{Rule}
-use Rattle.compose_read.specs.Lines.{Source}
-use Rattle.compose_tree.specs.Given.{table_of}
+use Rattle.compose_tree.specs.Given.{NoTable, first_table}
+use Rattle.compose_tree.specs.declared.reading.TableFault.{TableFault}
+use Rattle.compose_tree.specs.declared.reading.TableFault.TheVariants as table_faults
 use Rattle.compose_cert.specs.Reading.{certificate_of}
 use Rattle.compose_cert.specs.Repertoire.{repertoire_of}
 use Rattle.compose_cert.specs.declared.CertFault.{CertFault}
@@ -17,10 +16,18 @@ use Rattle.compose_cert.specs.declared.RepertoireFault.{RepertoireFault}
 use Rattle.compose_cert.specs.Given.{RepertoireGives, CertificateGives}
 use Rattle.compose_cert.specs.declared.CertFault.TheVariants as cert_faults
 use Rattle.compose_cert.specs.declared.RepertoireFault.TheVariants as repertoire_faults
-use Rattle.compose_check.specs.Gives.{CheckGives, repertoire_raised, certificate_raised}
+use Rattle.compose_check.specs.Gives.{CheckGives, NewGives, TableFails, repertoire_raised, certificate_raised}
 use Rattle.compose_check.specs.declared.verdict.Verdict.{Verdict}
 use Rattle.compose_check.specs.declared.input.InputFault.{InputFault}
-use Rattle.compose_check.specs.Input.{Input, Parts, Unread, no_names, no_old, no_new, no_repertoire, no_certificate, or_unread, ◌>>=◌, first_table, parts_of}
+use Rattle.compose_check.specs.declared.input.InputFault.TheVariants as faults
+use Rattle.compose_check.specs.Input.{Input, Parts, Unread, no_names, no_old, no_new, no_repertoire, no_certificate, or_unread, ◌>>=◌, parts_of}
+
+-- no fault says that there is a table
+no_table : (fault : TableFault) (table : List Definition) → TableFails fault (Ok table) → ⊥
+no_table (table_faults.Read fault) table h = search rules
+no_table (table_faults.Settle fault) table h = search rules
+no_table (table_faults.Build fault) table h = search rules
+no_table table_faults.NoMemory table h = h
 
 module _ (input : Input) where
   abbrev from_certificate : KeysymNames → List Definition → List Definition → Repertoire → Result Parts Unread
@@ -42,6 +49,16 @@ module _ (input : Input) where
     module _ (old : List Definition) (old_read : first_table names input.old input.old_rule ≡ Ok old) where
       after_old : parts_of input ≡ from_new names old
       after_old = after_names ∙ ap (λ r. or_unread no_old r >>= from_new names) old_read
+
+      -- the fault of the new table is that of the parts
+      pub new_answer : {T : Type 0} (view : T → List Definition) (e : InputFault) (said : Result (List Definition) NoTable) → first_table names input.new input.new_rule ≡ said → NewGives view (Err e) said → CheckGives (Err e) (parts_of input)
+      new_answer view (faults.New fault) (Err why) is h = (why, after_old ∙ ap (λ r. or_unread no_new r >>= from_repertoire names old) is, h)
+      new_answer view (faults.New fault) (Ok table) is h = absurd (no_table fault table h)
+      new_answer view faults.NoMemory said is h = tt
+      new_answer view (faults.Names fault) said is h = absurd h
+      new_answer view (faults.Old fault) said is h = absurd h
+      new_answer view (faults.Repertoire fault) said is h = absurd h
+      new_answer view (faults.Certificate fault) said is h = absurd h
 
       module _ (new : List Definition) (new_read : first_table names input.new input.new_rule ≡ Ok new) where
         after_new : parts_of input ≡ from_repertoire names old new
@@ -70,11 +87,6 @@ module _ (input : Input) where
 
           pub all_read : (c : Certificate) → certificate_of input.certificate ≡ Ok c → parts_of input ≡ Ok (record { names = names; old = old; new = new; repertoire = repertoire; certificate = c })
           all_read c e = after_repertoire ∙ ap (λ r. or_unread no_certificate r >>= (λ c. Ok (record { names = names; old = old; new = new; repertoire = repertoire; certificate = c }))) e
-
--- the first source has the root's name
-pub root_named : (names : KeysymNames) (sources : List Source) (root : List ℕ) (rule : Rule) → Some root ≡ option_map (λ (s : Source). s.name) (slice_get sources 0) → table_of names sources root rule ≡ first_table names sources rule
-root_named names [] root rule e = cc
-root_named names (s ∷ sources) root rule e = let is : root ≡ s.name = cc in ap (λ r. table_of names (s ∷ sources) r rule) is
 
 -- what is read is one thing
 pub same_parts : (input : Input) (p q : Parts) → parts_of input ≡ Ok p → parts_of input ≡ Ok q → p ≡ q

@@ -1,5 +1,5 @@
 -- A check on bytes: what reading the parts gives, one after another, and the verdict on them.
-use Rattle.std.specs.Prelude.{ℕ, List, [], ◌∷◌, Result, Ok, Err}
+use Rattle.std.specs.Prelude.{ℕ, List, Result, Ok, Err}
 use Rattle.keysym_core.specs.Names.{KeysymNames}
 use Rattle.keysym_core.specs.Header.{names_of}
 use Rattle.keysym_core.specs.declared.fault.NameFault.{NameFault}
@@ -7,8 +7,7 @@ use Rattle.compose_model.specs.Table.{Definition}
 use Rattle.compose_model.specs.Certificate.{Certificate, Repertoire}
 use Rattle.compose_model.specs.declared.Rule.{Rule}
 use Rattle.compose_read.specs.Lines.{Source}
-use Rattle.compose_read.specs.declared.ReadFault.TheVariants.{MissingRoot}
-use Rattle.compose_tree.specs.Given.{NoTable, unread, table_of}
+use Rattle.compose_tree.specs.Given.{NoTable, first_table}
 use Rattle.compose_cert.specs.Reading.{certificate_of}
 use Rattle.compose_cert.specs.Repertoire.{repertoire_of}
 use Rattle.compose_cert.specs.declared.CertFault.{CertFault}
@@ -55,11 +54,6 @@ Err e >>= f = Err e
 abbrev pub or_unread : {A E : Type 0} → (E → Unread) → Result A E → Result A Unread
 or_unread why (Ok a) = Ok a
 or_unread why (Err e) = Err (why e)
-
--- the table whose root is the first source
-abbrev pub first_table : KeysymNames → List Source → Rule → Result (List Definition) NoTable
-first_table names [] rule = Err (unread MissingRoot)
-first_table names (s ∷ sources) rule = table_of names (s ∷ sources) s.name rule
 
 -- the parts, or the first one that says nothing
 abbrev pub parts_of : Input → Result Parts Unread

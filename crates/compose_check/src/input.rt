@@ -2,15 +2,15 @@
 ghost use Rattle.std.specs.Prelude.{◌≡◌, Ok};
 ghost use Rattle.compose_model.specs.Follows.{Follows, Waits};
 ghost use Rattle.compose_model.specs.Certificate.{IsValid, TypesAll};
-ghost use Rattle.compose_tree.specs.Given.{TableGives};
-ghost use Rattle.compose_check.specs.Input.{Parts, first_table, parts_of};
+ghost use Rattle.compose_tree.specs.Given.{first_table};
+ghost use Rattle.compose_check.specs.Input.{Parts, parts_of};
 ghost use Rattle.compose_check.specs.Gives.{CheckGives, OldGives, NewGives, input_of};
 
 use crate::verdict::{Verdict, check};
 use compose_cert::{CertFault, Certificate, Repertoire, RepertoireFault};
 use compose_model::Rule;
-use compose_read::{ReadFault, Sources};
-use compose_tree::{ComposeTable, TableFault, read_table};
+use compose_read::Sources;
+use compose_tree::{ComposeTable, TableFault, read_first_table};
 use keysym_core::{NameFault, Names};
 use std::alloc::Global;
 use thiserror::Error;
@@ -119,21 +119,6 @@ pub fn check_bytes<T: ComposeTable>(
     Ok(check(&old, &new, &names, &repertoire, &certificate))
 }
 
-/// The table whose root is the first source.
-fn read_first<T: ComposeTable>(
-    alloc: Global,
-    names: &Names,
-    sources: &Sources,
-    rule: Rule,
-) -> Result<T, TableFault>
-    ensures { TableGives T.definitions result (first_table names.now sources.now rule) }
-{
-    let Some(root) = sources.name(0) else {
-        return Err(TableFault::Read(ReadFault::MissingRoot));
-    };
-    read_table(alloc, names, sources, root, rule)
-}
-
 /// The old table.
 fn read_old<T: ComposeTable>(
     alloc: Global,
@@ -143,7 +128,7 @@ fn read_old<T: ComposeTable>(
 ) -> Result<T, InputFault>
     ensures { OldGives T.definitions result (first_table names.now sources.now rule) }
 {
-    match read_first(alloc, names, sources, rule) {
+    match read_first_table(alloc, names, sources, rule) {
         Ok(table) => Ok(table),
         Err(TableFault::NoMemory) => Err(InputFault::NoMemory),
         Err(fault) => Err(InputFault::Old(fault)),
@@ -159,7 +144,7 @@ fn read_new<T: ComposeTable>(
 ) -> Result<T, InputFault>
     ensures { NewGives T.definitions result (first_table names.now sources.now rule) }
 {
-    match read_first(alloc, names, sources, rule) {
+    match read_first_table(alloc, names, sources, rule) {
         Ok(table) => Ok(table),
         Err(TableFault::NoMemory) => Err(InputFault::NoMemory),
         Err(fault) => Err(InputFault::New(fault)),

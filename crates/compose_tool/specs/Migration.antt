@@ -6,11 +6,11 @@ use Rattle.compose_model.specs.Table.{Definition}
 use Rattle.compose_model.specs.Certificate.{Repertoire}
 use Rattle.compose_model.specs.declared.Rule.{Rule}
 use Rattle.compose_read.specs.Lines.{Source}
-use Rattle.compose_tree.specs.Given.{NoTable}
+use Rattle.compose_tree.specs.Given.{NoTable, first_table}
 use Rattle.compose_cert.specs.Repertoire.{repertoire_of}
 use Rattle.compose_cert.specs.declared.RepertoireFault.{RepertoireFault}
 use Rattle.compose_check.specs.Demands.{first_unmet, fresh_demands}
-use Rattle.compose_check.specs.Input.{first_table, ◌>>=◌}
+use Rattle.compose_check.specs.Input.{◌>>=◌}
 use Rattle.compose_walk.specs.declared.fault.MakeFault.{MakeFault}
 use Rattle.compose_walk.specs.declared.fault.MakeFault.TheVariants.{BadFresh, TooManyFresh}
 

@@ -1,15 +1,14 @@
 //! The tables of a move from old sources to new ones.
 ghost use Rattle.std.specs.Prelude.{◌≡◌};
-ghost use Rattle.compose_tree.specs.Given.{TableGives};
-ghost use Rattle.compose_check.specs.Input.{first_table};
+ghost use Rattle.compose_tree.specs.Given.{first_table};
 ghost use Rattle.compose_cert.specs.Repertoire.{repertoire_of};
 ghost use Rattle.compose_tool.specs.Migration.{no_old, no_new, no_repertoire, or_because};
 ghost use Rattle.compose_tool.specs.Moved.{MigrationGives, old_raised, new_raised};
 
 use compose_cert::{Repertoire, RepertoireFault};
 use compose_model::Rule;
-use compose_read::{ReadFault, Sources};
-use compose_tree::{ComposeTable, TableFault, read_table};
+use compose_read::Sources;
+use compose_tree::{ComposeTable, TableFault, read_first_table};
 use compose_walk::MakeFault;
 use keysym_core::Names;
 use std::alloc::Global;
@@ -68,20 +67,6 @@ impl From<MakeFault> for MigrationFault {
     }
 }
 
-/// The table whose root is the first source.
-fn read_first<T: ComposeTable>(
-    alloc: Global,
-    names: &Names,
-    input: &TableInput<'_>,
-) -> Result<T, TableFault>
-    ensures { TableGives T.definitions result (first_table names.now input.entry.now.sources.now input.entry.now.rule) }
-{
-    let Some(root) = input.sources.name(0) else {
-        return Err(TableFault::Read(ReadFault::MissingRoot));
-    };
-    read_table(alloc, names, input.sources, root, input.rule)
-}
-
 /// The old table.
 pub fn read_old<T: ComposeTable>(
     alloc: Global,
@@ -90,7 +75,7 @@ pub fn read_old<T: ComposeTable>(
 ) -> Result<T, MigrationFault>
     ensures { MigrationGives (λ table read. table ≡ T.definitions read) result (or_because no_old (first_table names.now input.entry.now.sources.now input.entry.now.rule)) }
 {
-    match read_first(alloc, names, input) {
+    match read_first_table(alloc, names, input.sources, input.rule) {
         Ok(table) => Ok(table),
         Err(fault) => Err(old_fault(fault)),
     }
@@ -114,7 +99,7 @@ pub fn read_new<T: ComposeTable>(
 ) -> Result<T, MigrationFault>
     ensures { MigrationGives (λ table read. table ≡ T.definitions read) result (or_because no_new (first_table names.now input.entry.now.sources.now input.entry.now.rule)) }
 {
-    match read_first(alloc, names, input) {
+    match read_first_table(alloc, names, input.sources, input.rule) {
         Ok(table) => Ok(table),
         Err(fault) => Err(new_fault(fault)),
     }

@@ -1,10 +1,18 @@
-use Rattle.std.proofs.Common.{◌≡◌, subst}
+use Rattle.std.proofs.Common.{◌≡◌, refl, subst, rules}
+use Rattle.compose_tree.specs.Given.{first_table}
 use Rattle.compose_model.specs.Certificate.{IsValid, TypesAll}
 use Rattle.compose_check.specs.Input.{Parts, parts_of}
 use Rattle.compose_check.specs.Gives.{input_of, repertoire_raised, certificate_raised}
 use Rattle.compose_check.specs.declared.verdict.Verdict.TheVariants.{Yes}
-use Rattle.compose_check.proofs.PartsRead.{repertoire_answer, certificate_answer, all_read, same_parts, fault_gives}
+use Rattle.compose_check.proofs.PartsRead.{new_answer, repertoire_answer, certificate_answer, all_read, same_parts, fault_gives}
 use Rattle.compose_check.proofs.input.check_bytes.Goals as goal
+
+pub returns-in_err-new-clause-exact : goal.returns-in_err-new-clause-exact
+returns-in_err-new-clause-exact g c =
+    let old = g.T.ComposeTable.definitions c.in_ok-old.old in
+    let input = input_of c.args.input.now in
+    fault_gives c.from_residual-in_err-new.result c.in_err-new.field-0.0 (parts_of input) (search rules)
+    (new_answer input c.in_ok-names.names c.in_ok-names.ensures old c.in_ok-old.ensures g.T.ComposeTable.definitions c.in_err-new.field-0.0 (first_table c.in_ok-names.names input.new input.new_rule) refl c.in_err-new.ensures)
 
 pub returns-in_err-repertoire-clause-exact : goal.returns-in_err-repertoire-clause-exact
 returns-in_err-repertoire-clause-exact g c =

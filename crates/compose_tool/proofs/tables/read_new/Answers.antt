@@ -1,5 +1,5 @@
 use Rattle.std.proofs.Common.{sym, subst}
-use Rattle.compose_check.specs.Input.{first_table}
+use Rattle.compose_tree.specs.Given.{first_table}
 use Rattle.compose_tool.specs.Migration.{no_new, or_because}
 use Rattle.compose_tool.specs.Moved.{MigrationRefused}
 use Rattle.compose_tool.specs.declared.tables.MigrationFault.{MigrationFault}
