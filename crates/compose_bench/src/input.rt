@@ -22,7 +22,7 @@ pub fn read_names(rt: &HostRuntime, path: &str) -> Result<Names, Failure> {
     }
 }
 
-/// The sources of a table whose file stands alone, or includes itself by no name but its path.
+/// The sources of a table that is one file, under its path.
 pub fn read_sources(rt: &HostRuntime, path: &str) -> Result<Sources, Failure> {
     let bytes = read_file(rt, path)?;
     let mut sources = Sources::new(rt.alloc());
