@@ -1,5 +1,6 @@
 #!/usr/bin/env python3
-"""The gate: `rt ci` from nothing, then the command-line cases and the second reading of lines against the built program.
+"""The gate: `rt ci` from nothing, then the command-line cases against both built programs, `composecheck` and the same on the
+plain form of a table, and the second reading of lines against `composecheck`.
 
 The last line is `N passed, M failed` over all."""
 import os
@@ -9,8 +10,12 @@ import subprocess
 import sys
 
 TOP = os.path.dirname(os.path.dirname(os.path.abspath(__file__)))
-BUILT = os.path.join(TOP, "crates", "composecheck", "out", "composecheck")
 PROGRAM = os.path.join(TOP, "composecheck")
+
+
+def built(crate):
+    """Where `rt ci` leaves the program of a crate."""
+    return os.path.join(TOP, "crates", crate, "out", crate)
 
 
 def follow(command):
@@ -30,9 +35,10 @@ def follow(command):
 def main():
     passed, failed = follow(["rt", "ci"])
     if failed == 0:
-        shutil.copy(BUILT, PROGRAM)
-        for script in ["run.py", "lex_reference.py"]:
-            more = follow([sys.executable, os.path.join("tests", script), PROGRAM])
+        shutil.copy(built("composecheck"), PROGRAM)
+        runs = [("run.py", PROGRAM), ("run.py", built("composecheck_plain")), ("lex_reference.py", PROGRAM)]
+        for script, program in runs:
+            more = follow([sys.executable, os.path.join("tests", script), program])
             passed, failed = passed + more[0], failed + more[1]
     print(f"{passed} passed, {failed} failed")
     return 1 if failed else 0

@@ -1,5 +1,5 @@
 #!/usr/bin/env python3
-"""run.py PROGRAM [WORD]: runs the program on the cases of tests/cases, or on those with the word in their name.
+"""run.py PROGRAM [WORD]: runs the program, as `composecheck`, on the cases of tests/cases, or on those with the word in their name.
 
 A case is a folder. Its file `args` has the arguments, one a line; `files` is a folder that is copied to where the
 program runs (or `files.py` a script that writes the files there); `stdout`, `stderr` and `status` are what is expected,
@@ -42,7 +42,9 @@ def run(program, name):
     }
     with tempfile.TemporaryDirectory() as folder:
         prepare(case, folder)
-        ran = subprocess.run([program] + args, cwd=folder, stdin=subprocess.DEVNULL, capture_output=True, timeout=300)
+        ran = subprocess.run(
+            ["composecheck"] + args, executable=program, cwd=folder, stdin=subprocess.DEVNULL, capture_output=True, timeout=300
+        )
     got = {"stdout": ran.stdout, "stderr": ran.stderr, "status": ran.returncode}
     return [f"{part}: got {got[part]!r:.400}, expected {expected[part]!r:.400}" for part in got if got[part] != expected[part]]
 
@@ -56,7 +58,7 @@ def main():
         for name, differences in zip(names, pool.map(lambda name: run(program, name), names)):
             if differences:
                 failed += 1
-                print("FAILED", name)
+                print(f"FAILED {os.path.basename(program)}: {name}")
                 for difference in differences:
                     print("   ", difference)
     print(f"{len(names) - failed} passed, {failed} failed")

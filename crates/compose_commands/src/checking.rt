@@ -1,22 +1,35 @@
 //! `composecheck check`: whether a certificate shows that the new table follows the old one.
-use crate::inputs::{MoveFiles, read_file};
+use crate::inputs::{MoveFiles, read_given};
 use crate::outcome::Outcome;
 use crate::refusal::Refusal;
 use clap::ArgMatches;
 use compose_check::{CheckInput, Verdict, check_bytes};
-use compose_tree::PackedTable;
+use compose_tree::ComposeTable;
+use std::alloc::Global;
+use std::rt::Files;
 
 /// Checks the certificate, and prints the verdict.
-pub fn check(rt: &HostRuntime, given: &ArgMatches<'_>) -> Result<Outcome, Refusal> {
+pub fn check<T: ComposeTable>(
+    rt: &(impl Files + Print + AllocGlobal),
+    given: &ArgMatches<'_>,
+) -> Result<Outcome, Refusal> {
+    print_verdict(rt, check_given::<T>(rt, given)?)
+}
+
+/// The verdict on the certificate that is given.
+fn check_given<T: ComposeTable>(
+    rt: &(impl Files + AllocGlobal),
+    given: &ArgMatches<'_>,
+) -> Result<Verdict, Refusal> {
     let files = MoveFiles::read(rt, given)?;
-    let repertoire = read_file(rt, given.get_str("REPERTOIRE").unwrap_or(""))?;
-    let certificate = read_file(rt, given.get_str("CERTIFICATE").unwrap_or(""))?;
-    print_verdict(rt, check_files(rt, &files, &repertoire, &certificate)?)
+    let repertoire = read_given(rt, given, "REPERTOIRE")?;
+    let certificate = read_given(rt, given, "CERTIFICATE")?;
+    check_files::<T>(rt.alloc(), &files, &repertoire, &certificate)
 }
 
 /// The verdict on the certificate for the tables of the files.
-fn check_files(
-    rt: &HostRuntime,
+fn check_files<T: ComposeTable>(
+    alloc: Global,
     files: &MoveFiles,
     repertoire: &[u8],
     certificate: &[u8],
@@ -31,11 +44,11 @@ fn check_files(
         repertoire,
         certificate,
     };
-    Ok(check_bytes::<PackedTable>(rt.alloc(), &input)?)
+    Ok(check_bytes::<T>(alloc, &input)?)
 }
 
 /// Prints `yes`, or `no` and the first demand that is not met.
-fn print_verdict(rt: &HostRuntime, verdict: Verdict) -> Result<Outcome, Refusal> {
+fn print_verdict(rt: &impl Print, verdict: Verdict) -> Result<Outcome, Refusal> {
     match verdict {
         Verdict::Yes => {
             println!(rt; "yes")?;

@@ -5,10 +5,12 @@ use compose_model::Rule;
 use compose_read::{SourceFault, Sources};
 use compose_tool::{KeyFault, Manifest, TableInput, fresh_keysyms, look_up_keys, read_manifest};
 use keysym_core::{Keysym, Names};
+use std::alloc::Global;
+use std::rt::Files;
 use std::{fs, io};
 
 /// The bytes of a file.
-pub fn read_file(rt: &HostRuntime, path: &str) -> Result<Vec<u8>, Refusal> {
+fn read_file(rt: &(impl Files + AllocGlobal), path: &str) -> Result<Vec<u8>, Refusal> {
     match fs::read(rt, path) {
         Ok(bytes) => Ok(bytes),
         Err(error) if error.kind() == io::ErrorKind::OutOfMemory => Err(Refusal::NoMemory),
@@ -18,8 +20,20 @@ pub fn read_file(rt: &HostRuntime, path: &str) -> Result<Vec<u8>, Refusal> {
     }
 }
 
+/// The bytes of the file that the words give for this argument.
+pub fn read_given(
+    rt: &(impl Files + AllocGlobal),
+    given: &ArgMatches<'_>,
+    argument: &str,
+) -> Result<Vec<u8>, Refusal> {
+    read_file(rt, given.get_str(argument).unwrap_or(""))
+}
+
 /// The bytes of the file of names; none where no file is given.
-pub fn read_header(rt: &HostRuntime, given: &ArgMatches<'_>) -> Result<Vec<u8>, Refusal> {
+pub fn read_header(
+    rt: &(impl Files + AllocGlobal),
+    given: &ArgMatches<'_>,
+) -> Result<Vec<u8>, Refusal> {
     match given.get_str("names") {
         Some(path) => read_file(rt, path),
         None => Ok(Vec::new(rt.alloc())),
@@ -34,10 +48,14 @@ pub struct TableFiles {
 }
 
 impl TableFiles {
-    /// Reads a manifest and the files that it lists.
-    pub fn read(rt: &HostRuntime, part: Part, path: &str) -> Result<TableFiles, Refusal> {
-        let bytes = read_file(rt, path)?;
-        let manifest = read_manifest(rt.alloc(), &bytes)?;
+    /// Reads the manifest that the words give for this argument, and the files that it lists.
+    pub fn read(
+        rt: &(impl Files + AllocGlobal),
+        part: Part,
+        given: &ArgMatches<'_>,
+        argument: &str,
+    ) -> Result<TableFiles, Refusal> {
+        let manifest = read_listing(rt, given, argument)?;
         let sources = read_sources(rt, part, &manifest)?;
         Ok(TableFiles {
             sources,
@@ -54,8 +72,22 @@ impl TableFiles {
     }
 }
 
+/// Reads the manifest that the words give for this argument.
+fn read_listing(
+    rt: &(impl Files + AllocGlobal),
+    given: &ArgMatches<'_>,
+    argument: &str,
+) -> Result<Manifest, Refusal> {
+    let bytes = read_given(rt, given, argument)?;
+    Ok(read_manifest(rt.alloc(), &bytes)?)
+}
+
 /// Reads the files that the manifest lists.
-fn read_sources(rt: &HostRuntime, part: Part, manifest: &Manifest) -> Result<Sources, Refusal> {
+fn read_sources(
+    rt: &(impl Files + AllocGlobal),
+    part: Part,
+    manifest: &Manifest,
+) -> Result<Sources, Refusal> {
     let mut sources = Sources::new(rt.alloc());
     for index in 0..manifest.count() {
         add_source(rt, part, manifest, index, &mut sources)?;
@@ -65,7 +97,7 @@ fn read_sources(rt: &HostRuntime, part: Part, manifest: &Manifest) -> Result<Sou
 
 /// Reads the file at this place of the manifest, and adds it to the sources.
 fn add_source(
-    rt: &HostRuntime,
+    rt: &(impl Files + AllocGlobal),
     part: Part,
     manifest: &Manifest,
     index: usize,
@@ -92,39 +124,39 @@ pub struct MoveFiles {
 
 impl MoveFiles {
     /// Reads the file of names, and the files of both tables.
-    pub fn read(rt: &HostRuntime, given: &ArgMatches<'_>) -> Result<MoveFiles, Refusal> {
+    pub fn read(
+        rt: &(impl Files + AllocGlobal),
+        given: &ArgMatches<'_>,
+    ) -> Result<MoveFiles, Refusal> {
         let header = read_header(rt, given)?;
-        let old = TableFiles::read(rt, Part::Old, given.get_str("OLD").unwrap_or(""))?;
-        let new = TableFiles::read(rt, Part::New, given.get_str("NEW").unwrap_or(""))?;
+        let old = TableFiles::read(rt, Part::Old, given, "OLD")?;
+        let new = TableFiles::read(rt, Part::New, given, "NEW")?;
         Ok(MoveFiles { header, old, new })
     }
 }
 
 /// The keysym of each word.
-pub fn read_keys(rt: &HostRuntime, names: &Names, words: &[&str]) -> Result<Vec<Keysym>, Refusal> {
-    match look_up_keys(rt.alloc(), names, words) {
+pub fn read_keys(alloc: Global, names: &Names, words: &[&str]) -> Result<Vec<Keysym>, Refusal> {
+    match look_up_keys(alloc, names, words) {
         Ok(keys) => Ok(keys),
-        Err(KeyFault::Unknown { index }) => Err(Refusal::of_word(
-            rt.alloc(),
-            words.get(index).copied(),
-        )),
+        Err(KeyFault::Unknown { index }) => Err(Refusal::of_word(alloc, words.get(index).copied())),
         Err(KeyFault::NoMemory) => Err(Refusal::NoMemory),
     }
 }
 
 /// The keysyms of the words between commas in rising order, each once.
 pub fn read_fresh(
-    rt: &HostRuntime,
+    alloc: Global,
     names: &Names,
     words: Option<&str>,
 ) -> Result<Vec<Keysym>, Refusal> {
     let Some(words) = words else {
-        return Ok(Vec::new(rt.alloc()));
+        return Ok(Vec::new(alloc));
     };
-    match fresh_keysyms(rt.alloc(), names, words) {
+    match fresh_keysyms(alloc, names, words) {
         Ok(keysyms) => Ok(keysyms),
         Err(KeyFault::Unknown { index }) => Err(Refusal::of_word(
-            rt.alloc(),
+            alloc,
             words.split(',').nth(index),
         )),
         Err(KeyFault::NoMemory) => Err(Refusal::NoMemory),

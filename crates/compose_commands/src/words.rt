@@ -39,36 +39,6 @@ fn type_command<'a>(alloc: Global) -> Result<Command<'a>, AllocError> {
         )
 }
 
-/// The command that checks a certificate.
-fn check_command<'a>(alloc: Global) -> Result<Command<'a>, AllocError> {
-    Command::new(alloc, "check")
-        .about("Checks by a certificate that a new table changes nobody's typing")
-        .arg(names_option(alloc))?
-        .arg(file(alloc, "OLD", "The manifest of the old table"))?
-        .arg(file(alloc, "NEW", "The manifest of the new table"))?
-        .arg(file(
-            alloc,
-            "REPERTOIRE",
-            "The characters that people need, and their keys",
-        ))?
-        .arg(file(alloc, "CERTIFICATE", "The certificate"))
-}
-
-/// The command that makes a certificate.
-fn make_command<'a>(alloc: Global) -> Result<Command<'a>, AllocError> {
-    Command::new(alloc, "make")
-        .about("Makes a certificate, or prints why there is none")
-        .arg(names_option(alloc))?
-        .arg(fresh_option(alloc))?
-        .arg(file(alloc, "OLD", "The manifest of the old table"))?
-        .arg(file(alloc, "NEW", "The manifest of the new table"))?
-        .arg(file(
-            alloc,
-            "REPERTOIRE",
-            "The characters that people need, and their keys",
-        ))
-}
-
 /// The option for all differences.
 fn all_option<'a>(alloc: Global) -> Arg<'a> {
     Arg::new(alloc, "all")
@@ -77,25 +47,66 @@ fn all_option<'a>(alloc: Global) -> Arg<'a> {
         .action(ArgAction::SetTrue)
 }
 
-/// The command that explains how two tables differ.
-fn explain_command<'a>(alloc: Global) -> Result<Command<'a>, AllocError> {
-    Command::new(alloc, "explain")
-        .about("Prints the shortest keys on which two tables differ")
+/// The file of characters and keys.
+fn repertoire_file<'a>(alloc: Global) -> Arg<'a> {
+    file(
+        alloc,
+        "REPERTOIRE",
+        "The characters that people need, and their keys",
+    )
+}
+
+/// A command on an old table and a new one.
+fn move_command<'a>(
+    alloc: Global,
+    name: &'a str,
+    about: &'a str,
+) -> Result<Command<'a>, AllocError> {
+    Command::new(alloc, name)
+        .about(about)
         .arg(names_option(alloc))?
-        .arg(fresh_option(alloc))?
-        .arg(all_option(alloc))?
         .arg(file(alloc, "OLD", "The manifest of the old table"))?
         .arg(file(alloc, "NEW", "The manifest of the new table"))
 }
 
-/// All commands.
-pub fn command_line<'a>(alloc: Global) -> Result<Command<'a>, AllocError> {
-    Command::new(alloc, "composecheck")
-        .version("0.1.0")
-        .about("Checks migrations between X11 Compose tables, and types with them")
-        .subcommand_required(true)
-        .subcommand(type_command(alloc)?)?
+/// The command that checks a certificate.
+fn check_command<'a>(alloc: Global) -> Result<Command<'a>, AllocError> {
+    let about = "Checks by a certificate that a new table changes nobody's typing";
+    move_command(alloc, "check", about)?
+        .arg(repertoire_file(alloc))?
+        .arg(file(alloc, "CERTIFICATE", "The certificate"))
+}
+
+/// The command that makes a certificate.
+fn make_command<'a>(alloc: Global) -> Result<Command<'a>, AllocError> {
+    let about = "Makes a certificate, or prints why there is none";
+    move_command(alloc, "make", about)?
+        .arg(fresh_option(alloc))?
+        .arg(repertoire_file(alloc))
+}
+
+/// The command that explains how two tables differ.
+fn explain_command<'a>(alloc: Global) -> Result<Command<'a>, AllocError> {
+    let about = "Prints the shortest keys on which two tables differ";
+    move_command(alloc, "explain", about)?
+        .arg(fresh_option(alloc))?
+        .arg(all_option(alloc))
+}
+
+/// Adds the commands on an old table and a new one.
+fn add_move_commands<'a>(alloc: Global, command: Command<'a>) -> Result<Command<'a>, AllocError> {
+    command
         .subcommand(check_command(alloc)?)?
         .subcommand(explain_command(alloc)?)?
         .subcommand(make_command(alloc)?)
+}
+
+/// All commands.
+pub fn command_line<'a>(alloc: Global) -> Result<Command<'a>, AllocError> {
+    let command = Command::new(alloc, "composecheck")
+        .version("0.1.0")
+        .about("Checks migrations between X11 Compose tables, and types with them")
+        .subcommand_required(true)
+        .subcommand(type_command(alloc)?)?;
+    add_move_commands(alloc, command)
 }
