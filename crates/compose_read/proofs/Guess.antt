@@ -1,20 +1,22 @@
 -- Places in the order of their numbers: those of one sequence stay in the order in which they were.
-use Rattle.std.proofs.Common.{◌≡◌, ℕ, suc, ◌+◌, ◌*◌, ◌%◌, ◌≤◌, ◌<◌, List, [], ◌∷◌, Bool, true, false, cond, not, ◌&&◌, nat_cmp, nat_lt, Less, Equal, Greater, filter, length, map, get_or, refl, sym, subst, ◌∙◌, ap, inl, inr, arith}
-use Rattle.std.specs.List.{All, sum_by}
+use Rattle.std.proofs.Common.{◌≡◌, ℕ, suc, ◌+◌, ◌*◌, ◌%◌, ◌≤◌, ◌<◌, List, [], ◌∷◌, Bool, true, false, cond, not, ◌&&◌, nat_cmp, nat_lt, ◌++◌, Less, Equal, Greater, filter, length, map, take, drop, get_or, refl, sym, subst, ◌∙◌, ap, inl, inr, arith}
+use Rattle.std.specs.List.{All, sum_by, take-map}
 use Rattle.std.specs.List.Sorted.{IsPermutation, IsSorted, IsStableBy, IsNonDecreasing, IsNonDecreasingBy, ties}
 use Rattle.std.specs.Ordering.{is_lt, ordering_reverse}
 use Rattle.std.specs.Cmp.Lexicographic.{slice_cmp}
 use Rattle.std.specs.declared.cmp.Ordering.{Ordering}
 use Rattle.std.proofs.lemmas.Bool.{cases_lt, lt-ltb, le-ltb}
 use Rattle.std.proofs.lemmas.Cmp.{nat_list_cmp_total}
+use Rattle.std.proofs.Math.Seq.{take-append_seam}
 use Rattle.std.proofs.lemmas.Nat.{mod-mul-add}
-use Rattle.std.proofs.lemmas.List.{ext_get_or, get_or-map, length-map}
-use Rattle.std.proofs.lemmas.List.Elements.{All-filter, All-from_get_or, All-tail, filter_passes}
+use Rattle.std.proofs.lemmas.List.{drop-map, ext_get_or, get_or-map, length-map}
+use Rattle.std.proofs.lemmas.List.Elements.{All-filter, All-from_get_or, All-tail, filter-append, filter_passes}
 use Rattle.std.proofs.lemmas.List.Kept.{IsNonDecreasingBy-filter}
-use Rattle.std.proofs.lemmas.List.Sorted.{All-permutation, IsPermutation-map, IsNonDecreasingBy-from_default, IsNonDecreasingBy-from_sort, sum_by-IsPermutation}
+use Rattle.std.proofs.lemmas.List.Sorted.{All-permutation, IsPermutation-map, IsPermutation-put_mid, IsPermutation-trans, IsNonDecreasingBy-from_default, IsNonDecreasingBy-from_sort, sum_by-IsPermutation}
 use Rattle.std.proofs.lemmas.List.Sums.{sum_by-cons}
 use Rattle.std.proofs.lemmas.Map.Lookups.{exact_bytes}
-use Rattle.compose_read.specs.Guess.{by_sequence, front, AreNumbers}
+use borrow.Rule.Slice.PartMut.{mid_of, post_of, put_mid, put_same}
+use Rattle.compose_read.specs.Guess.{by_sequence, digit, front, front_at, AreNumbers}
 use Rattle.compose_read.specs.Rows.{sequence_at}
 use Rattle.compose_read.specs.declared.rows.RowPlace.{RowPlace}
 
@@ -82,11 +84,33 @@ filter-map p f (n ∷ ns) = ap (λ l. cond (p (f n)) (f n ∷ l) l) (filter-map 
     go true = refl
     go false = refl
 
+-- ---- a part of a list is put in another order
+
+module _ {X : Type 0} (xs ys : List X) (a k : ℕ) (zs : List X) where
+  pub permuted_part : IsPermutation xs ys → IsPermutation (mid_of a k ys) zs → IsPermutation xs (put_mid a k ys zs)
+  permuted_part h part = IsPermutation-trans xs ys (put_mid a k ys zs) h (IsPermutation-put_mid a k ys zs part)
+
+  pub stable_part : (lt : X → X → Bool) → IsStableBy lt xs ys → IsStableBy lt (mid_of a k ys) zs → IsStableBy lt xs (put_mid a k ys zs)
+  stable_part lt h part x =
+      let tied = ties lt x in let front = filter tied (take a ys) in let back = post_of a k ys in
+      filter-append tied (take a ys) (zs ++ back)
+      ∙ ap (λ l. front ++ l) (filter-append tied zs back ∙ ap (λ l. l ++ filter tied back) (part x) ∙ sym (filter-append tied (mid_of a k ys) back))
+      ∙ sym (filter-append tied (take a ys) (mid_of a k ys ++ back))
+      ∙ ap (filter tied) (put_same a k ys)
+      ∙ h x
+
 -- ---- the numbers of places
 
+-- the front of the digits that stand at a place
+pub front_of_part : (keysyms digits : List ℕ) (p : RowPlace) → digits ≡ map digit keysyms → front (take p.keysym_count (drop p.first_keysym digits)) ≡ front_at keysyms p
+front_of_part keysyms digits p are =
+    ap (λ ds. front (take p.keysym_count (drop p.first_keysym ds))) are
+    ∙ ap (λ ds. front (take p.keysym_count ds)) (drop-map digit p.first_keysym keysyms)
+    ∙ ap front (take-map digit p.keysym_count (drop p.first_keysym keysyms))
+
 -- of two numbers with one front, the one of the earlier index is not above the other
-in_turn : (m n front front' : ℕ) → m ≡ front * 4294967296 + m % 4294967296 → n ≡ front' * 4294967296 + n % 4294967296 → front ≡ front' → m % 4294967296 ≤ n % 4294967296 → m ≤ n
-in_turn m n front front' a b same le = let scaled = ap (λ f. f * 4294967296) same in omega (a, b, scaled, le, arith)
+in_turn : (m n front front' : ℕ) → m ≡ front * 131072 + m % 131072 → n ≡ front' * 131072 + n % 131072 → front ≡ front' → m % 131072 ≤ n % 131072 → m ≤ n
+in_turn m n front front' a b same le = let scaled = ap (λ f. f * 131072) same in omega (a, b, scaled, le, arith)
 
 tied_sequences : (keysyms : List ℕ) (p q : RowPlace) → ties (by_sequence keysyms) p q ≡ true → sequence_at keysyms p ≡ sequence_at keysyms q
 tied_sequences keysyms p q e = go (slice_cmp nat_cmp s t) refl (nat_list_cmp_total.antisymm t s) e
@@ -110,24 +134,24 @@ none = record { first_keysym = 0; first_byte = 0; keysym_count = 0; byte_count =
 module _ (keysyms : List ℕ) (places : List RowPlace) (numbers : List ℕ) (are : AreNumbers keysyms places numbers) where
   -- the place that a number picks
   abbrev pub place_of : ℕ → RowPlace
-  place_of n = get_or places (n % 4294967296) none
+  place_of n = get_or places (n % 131072) none
 
-  index_of : (index : ℕ) → index < length places → get_or numbers index 0 % 4294967296 ≡ index
+  index_of : (index : ℕ) → index < length places → get_or numbers index 0 % 131072 ≡ index
   index_of index l =
       let fits = are.fits in
-      ap (λ n. n % 4294967296) (are.each none index l) ∙ mod-mul-add (front (sequence_at keysyms (get_or places index none))) 4294967296 index (omega arith)
+      ap (λ n. n % 131072) (are.each none index l) ∙ mod-mul-add (front_at keysyms (get_or places index none)) 131072 index (omega arith)
 
-  pub indexes_within : All (λ n. n % 4294967296 < length places) numbers
-  indexes_within = All-from_get_or (λ n. n % 4294967296 < length places) numbers 0
+  pub indexes_within : All (λ n. n % 131072 < length places) numbers
+  indexes_within = All-from_get_or (λ n. n % 131072 < length places) numbers 0
       (λ index l. let count = are.count in let within : index < length places = omega arith in subst (λ i. i < length places) (sym (index_of index within)) within)
 
-  fronts : All (λ n. n ≡ front (sequence_at keysyms (place_of n)) * 4294967296 + n % 4294967296) numbers
-  fronts = All-from_get_or (λ n. n ≡ front (sequence_at keysyms (place_of n)) * 4294967296 + n % 4294967296) numbers 0
+  fronts : All (λ n. n ≡ front_at keysyms (place_of n) * 131072 + n % 131072) numbers
+  fronts = All-from_get_or (λ n. n ≡ front_at keysyms (place_of n) * 131072 + n % 131072) numbers 0
       (λ index l. let count = are.count in let within : index < length places = omega arith in
-      are.each none index within ∙ ap (λ i. front (sequence_at keysyms (get_or places i none)) * 4294967296 + i) (sym (index_of index within)))
+      are.each none index within ∙ ap (λ i. front_at keysyms (get_or places i none) * 131072 + i) (sym (index_of index within)))
 
-  indexes_rise : IsNonDecreasingBy (λ n. n % 4294967296) numbers
-  indexes_rise = IsNonDecreasingBy-from_default (λ n. n % 4294967296) numbers 0
+  indexes_rise : IsNonDecreasingBy (λ n. n % 131072) numbers
+  indexes_rise = IsNonDecreasingBy-from_default (λ n. n % 131072) numbers 0
       (λ i j le l. let count = are.count in let a = index_of i (omega arith) in let b = index_of j (omega arith) in omega arith)
 
   in_order : map place_of numbers ≡ places
@@ -140,16 +164,16 @@ module _ (keysyms : List ℕ) (places : List RowPlace) (numbers : List ℕ) (are
   ties_rise : (p : RowPlace) → IsNonDecreasing (filter (λ n. ties (by_sequence keysyms) p (place_of n)) numbers)
   ties_rise p i j d le l =
       let tied : ℕ → Bool = λ n. ties (by_sequence keysyms) p (place_of n) in
-      let one = All-filter tied (λ n. n ≡ front (sequence_at keysyms (place_of n)) * 4294967296 + n % 4294967296) numbers fronts in
+      let one = All-filter tied (λ n. n ≡ front_at keysyms (place_of n) * 131072 + n % 131072) numbers fronts in
       let at = filter_passes tied numbers in
       let kept = filter tied numbers in
-      let same = λ (k : ℕ) (within : k < length kept). ap front (tied_sequences keysyms p (place_of (get_or kept k d)) (at k d within)) in
+      let same = λ (k : ℕ) (within : k < length kept). ap (λ s. front (map digit s)) (tied_sequences keysyms p (place_of (get_or kept k d)) (at k d within)) in
       in_turn (get_or kept i d) (get_or kept j d) _ _ (one i d (omega arith)) (one j d l) (sym (same i (omega arith)) ∙ same j l)
-      (IsNonDecreasingBy-filter (λ n. n % 4294967296) tied numbers indexes_rise i j d le l)
+      (IsNonDecreasingBy-filter (λ n. n % 131072) tied numbers indexes_rise i j d le l)
 
   module _ (sorted : List ℕ) (permuted : IsPermutation numbers sorted) where
-    pub sorted_within : All (λ n. n % 4294967296 < length places) sorted
-    sorted_within = All-permutation (λ n. n % 4294967296 < length places) numbers sorted permuted indexes_within
+    pub sorted_within : All (λ n. n % 131072 < length places) sorted
+    sorted_within = All-permutation (λ n. n % 131072 < length places) numbers sorted permuted indexes_within
 
     pub picked_permutation : IsPermutation places (map place_of sorted)
     picked_permutation = subst (λ l. IsPermutation l (map place_of sorted)) in_order (IsPermutation-map place_of numbers sorted permuted)
@@ -161,3 +185,9 @@ module _ (keysyms : List ℕ) (places : List RowPlace) (numbers : List ℕ) (are
         ∙ ap (map place_of) (kept_same tied numbers sorted permuted (ties_rise p) (IsNonDecreasingBy-filter (λ n. n) tied sorted (IsNonDecreasingBy-from_sort (λ n. n) sorted up)))
         ∙ sym (filter-map (ties (by_sequence keysyms) p) place_of numbers)
         ∙ ap (filter (ties (by_sequence keysyms) p)) in_order
+
+-- ---- vectors
+
+-- what a vector holds after a write to all its elements
+pub given_back : {X : Type 0} (count : ℕ) (new old : List X) → count ≡ length new → take count (new ++ drop (length new) old) ≡ new
+given_back count new old long = ap (λ n. take n (new ++ drop (length new) old)) long ∙ take-append_seam new (drop (length new) old)

@@ -1,15 +1,22 @@
--- Rows in flat arrays stay what they are when more keysyms and texts are put behind them.
-use Rattle.std.proofs.Common.{◌≡◌, ℕ, suc, ◌+◌, ◌≤◌, List, [], ◌∷◌, ◌++◌, length, take, drop, get_or, nat_lt, refl, sym, ◌∙◌, ap, ap₂, subst, arith, inl, inr}
-use Rattle.std.specs.Prelude.{Result, Ok, Err, OnErr}
+-- Rows in flat arrays stay what they are when more keysyms and texts are put behind them, and what is put there is one more row.
+use Rattle.std.proofs.Common.{◌≡◌, ℕ, suc, ◌+◌, ◌-◌, ◌≤◌, List, [], ◌∷◌, ◌++◌, true, length, take, drop, get_or, nat_lt, nat_le, refl, sym, ◌∙◌, ap, ap₂, subst, arith, inl, inr, ◌&&◌}
+use Rattle.std.specs.Prelude.{Result, Ok, Err, OnOk, IsTrue}
+use Rattle.std.specs.List.{list_all}
 use Rattle.std.specs.Str.{IsUtf8, IsCharBoundary}
-use Rattle.std.proofs.Math.Seq.{drop-append_seam, take-length}
-use Rattle.std.proofs.lemmas.List.{drop-append-le, take-append-le, length-drop, map-append, length-append}
-use Rattle.std.proofs.lemmas.List.Elements.{All-push}
-use Rattle.std.proofs.lemmas.Bool.{cases_Bool, ltb-true, ltb-false}
-use Rattle.std.proofs.lemmas.Str.{IsCharBoundary-at_seam, IsCharBoundary-end}
+use Rattle.std.proofs.Math.Seq.{take-length}
 use Rattle.std.proofs.Math.ListN.{get_or-append}
-use Rattle.compose_model.specs.Table.{Definition}
-use Rattle.compose_read.specs.Rows.{definition_at, rows_of, IsPlaced, ArePlaced}
+use Rattle.std.proofs.lemmas.List.{drop-append-le, take-append-le, length-drop, map-append, length-append, append-nil}
+use Rattle.std.proofs.lemmas.List.Elements.{All-push}
+use Rattle.std.proofs.lemmas.List.Folds.{list_all-append}
+use Rattle.std.proofs.lemmas.Bool.{cases_Bool, and_parts, and_from, ltb-true, ltb-false, leb-true}
+use Rattle.std.proofs.lemmas.Str.{IsCharBoundary-at_seam, IsCharBoundary-end, IsUtf8-nil}
+use Rattle.compose_model.specs.Table.{Definition, is_definition, is_table}
+use Rattle.compose_lex.specs.Escape.{Unescapes, IsText}
+use Rattle.compose_lex.specs.Lexed.{PushGives}
+use Rattle.compose_lex.specs.declared.LexFault.{LexFault}
+use Rattle.compose_lex.specs.declared.LexFault.TheVariants as lex_faults
+use Rattle.compose_read.specs.Rows.{definition_at, rows_of, IsPlaced, ArePlaced, Drafted, drafted, with_row}
+use Rattle.compose_read.specs.Sequence.{is_fed}
 use Rattle.compose_read.specs.declared.rows.RowPlace.{RowPlace}
 
 -- ---- pieces
@@ -19,9 +26,10 @@ piece_stays : {X : Type 0} (a n : ℕ) (xs ys : List X) → a + n ≤ length xs 
 piece_stays a n xs ys h =
     ap (take n) (drop-append-le a xs ys (omega arith)) ∙ take-append-le n (drop a xs) ys (let l = length-drop a xs in omega arith)
 
--- and what is put behind is a piece
-piece_behind : {X : Type 0} (xs ys : List X) → take (length ys) (drop (length xs) (xs ++ ys)) ≡ ys
-piece_behind xs ys = ap (take (length ys)) (drop-append_seam xs ys) ∙ take-length ys
+-- what stands behind a place is a piece
+rest_taken : {X : Type 0} (first : ℕ) (xs : List X) (count from : ℕ) → from ≡ first → count ≡ length xs - first → take count (drop from xs) ≡ drop first xs
+rest_taken first xs count from e f =
+    (let l = length-drop first xs in let n : count ≡ length (drop first xs) = omega arith in ap₂ (λ n a. take n (drop a xs)) n e) ∙ take-length (drop first xs)
 
 boundary_stays : (bs text : List ℕ) (i : ℕ) → IsUtf8 text → IsCharBoundary bs i → IsCharBoundary (bs ++ text) i
 boundary_stays bs text i u h = elim (cases_Bool (nat_lt i (length bs))) [
@@ -30,13 +38,6 @@ boundary_stays bs text i u h = elim (cases_Bool (nat_lt i (length bs))) [
   | inr e ↦ (let l = ltb-false i (length bs) e in let end : length bs ≡ i = omega (arith, h.0) in
       subst (IsCharBoundary (bs ++ text)) end (IsCharBoundary-at_seam (bs ++ text) bs text refl u))
 ]
-
-subst₃ : {X Y Z : Type 0} (P : X → Y → Z → Type 0) {x x' : X} {y y' : Y} {z z' : Z} → x ≡ x' → y ≡ y' → z ≡ z' → P x y z → P x' y' z'
-subst₃ P {x} {x'} {y} {y'} {z} {z'} e f g h = subst (λ a. P a y' z') e (subst (λ b. P x b z') f (subst (P x y) g h))
-
-pub on_err : {X E : Type 0} {P : Type 0} (r : Result X E) → P → OnErr r P
-on_err (Ok x) h = tt
-on_err (Err e) h = h
 
 -- ---- rows
 
@@ -61,36 +62,109 @@ module _ (keysyms texts more text : List ℕ) (u : IsUtf8 text) where
   rows_stay [] h = refl
   rows_stay (p ∷ ps) h = ap₂ (λ d ds. d ∷ ds) (row_stays p (h 0 p (omega arith))) (rows_stay ps (λ k d l. h (suc k) d (omega arith)))
 
-  -- the same, where the places stay too
-  pub all_placed_kept : (ks ts : List ℕ) (ps qs : List RowPlace) → ks ≡ keysyms ++ more → ts ≡ texts ++ text → qs ≡ ps → ArePlaced keysyms texts ps → ArePlaced ks ts qs
-  all_placed_kept ks ts ps qs e f g h = subst₃ ArePlaced (sym e) (sym f) (sym g) (all_placed_stay ps h)
+-- ---- definitions that are being read
 
-  pub rows_kept : (ks ts : List ℕ) (ps qs : List RowPlace) → ks ≡ keysyms ++ more → ts ≡ texts ++ text → qs ≡ ps → ArePlaced keysyms texts ps → rows_of ks ts qs ≡ rows_of keysyms texts ps
-  rows_kept ks ts ps qs e f g h = (λ i. rows_of (e i) (f i) (g i)) ∙ rows_stay ps h
+pub definition_fits : (d : Definition) → is_definition d ≡ true → (length d.sequence ≤ 32) × (length d.text ≤ 255)
+definition_fits d h =
+    let a = and_parts (nat_lt 0 (length d.sequence) && nat_le (length d.sequence) 32 && list_all is_fed d.sequence) (nat_le (length d.text) 255) h in
+    let b = and_parts (nat_lt 0 (length d.sequence) && nat_le (length d.sequence) 32) (list_all is_fed d.sequence) a.0 in
+    let c = and_parts (nat_lt 0 (length d.sequence)) (nat_le (length d.sequence) 32) b.0 in
+    (leb-true (length d.sequence) 32 c.1, leb-true (length d.text) 255 a.1)
 
-  -- the row of what was put behind
-  module _ (p : RowPlace) (keysyms_from : p.first_keysym ≡ length keysyms) (keysym_count : p.keysym_count ≡ length more) (text_from : p.first_byte ≡ length texts) (byte_count : p.byte_count ≡ length text) where
-    new_row : definition_at (keysyms ++ more) (texts ++ text) p ≡ record { sequence = more; text = text }
-    new_row = ap₂ (λ s t. let d : Definition = record { sequence = s; text = t } in d)
-        (ap₂ (λ n a. take n (drop a (keysyms ++ more))) keysym_count keysyms_from ∙ piece_behind keysyms more)
-        (ap₂ (λ n a. take n (drop a (texts ++ text))) byte_count text_from ∙ piece_behind texts text)
+abbrev pub IsDrafted : List ℕ → List ℕ → List RowPlace → ℕ → ℕ → Type 0
+IsDrafted keysyms texts places first_keysym first_byte = ArePlaced keysyms texts places × (first_keysym ≤ length keysyms) × IsCharBoundary texts first_byte × IsTrue (is_table (rows_of keysyms texts places))
 
-    new_placed : length more ≤ 32 → IsPlaced (keysyms ++ more) (texts ++ text) p
-    new_placed few = record {
-      few = omega arith;
-      keysyms_within = (let l = length-append keysyms more in omega arith);
-      starts = subst (IsCharBoundary (texts ++ text)) (sym text_from) (IsCharBoundary-at_seam (texts ++ text) texts text refl u);
-      ends = subst (IsCharBoundary (texts ++ text)) (let l = length-append texts text in omega arith) (IsCharBoundary-end (texts ++ text));
+module _ (ks ts : List ℕ) (ps : List RowPlace) (fk fb : ℕ) (is : IsDrafted ks ts ps fk fb) where
+  module _ (more text : List ℕ) (u : IsUtf8 text) where
+    grown : IsDrafted (ks ++ more) (ts ++ text) ps fk fb
+    grown = (
+      all_placed_stay ks ts more text u ps is.0,
+      (let l = length-append ks more in let k = is.1 in omega arith),
+      boundary_stays ts text fb u is.2,
+      subst (λ rows. is_table rows ≡ true) (sym (rows_stay ks ts more text u ps is.0)) is.3,
+    )
+
+    drafted_grown : drafted (ks ++ more) (ts ++ text) ps fk fb ≡ record { table = rows_of ks ts ps; row = record { sequence = drop fk ks ++ more; text = drop fb ts ++ text } }
+    drafted_grown = (λ i. let d : Drafted = record { table = rows_stay ks ts more text u ps is.0 i; row = record { sequence = drop-append-le fk ks more is.1 i; text = drop-append-le fb ts text is.2.0 i } } in d)
+
+  -- with one more keysym
+  module _ (new : List ℕ) (k : ℕ) (e : new ≡ ks ++ k ∷ []) where
+    pub with_keysym : IsDrafted new ts ps fk fb
+    with_keysym = subst (λ ts. IsDrafted new ts ps fk fb) (append-nil ts) (subst (λ ks. IsDrafted ks (ts ++ []) ps fk fb) (sym e) (grown (k ∷ []) [] IsUtf8-nil))
+
+    pub drafted_keysym : drafted new ts ps fk fb ≡ with_row (drafted ks ts ps fk fb) (record { sequence = drop fk ks ++ k ∷ []; text = drop fb ts })
+    drafted_keysym =
+        (λ i. drafted (e i) (sym (append-nil ts) i) ps fk fb)
+        ∙ drafted_grown (k ∷ []) [] IsUtf8-nil
+        ∙ ap (λ text. let d : Drafted = record { table = rows_of ks ts ps; row = record { sequence = drop fk ks ++ k ∷ []; text = text } } in d) (append-nil (drop fb ts))
+
+  -- with more text
+  module _ (new text : List ℕ) (e : new ≡ ts ++ text) (u : IsUtf8 text) where
+    pub with_text : IsDrafted ks new ps fk fb
+    with_text = subst (λ ks. IsDrafted ks new ps fk fb) (append-nil ks) (subst (λ ts. IsDrafted (ks ++ []) ts ps fk fb) (sym e) (grown [] text u))
+
+    pub drafted_text : drafted ks new ps fk fb ≡ with_row (drafted ks ts ps fk fb) (record { sequence = drop fk ks; text = drop fb ts ++ text })
+    drafted_text =
+        (λ i. drafted (sym (append-nil ks) i) (e i) ps fk fb)
+        ∙ drafted_grown [] text u
+        ∙ ap (λ sequence. let d : Drafted = record { table = rows_of ks ts ps; row = record { sequence = sequence; text = drop fb ts ++ text } } in d) (append-nil (drop fk ks))
+
+  -- with the text of a raw text, or as it was
+  module _ (raw new : List ℕ) (r : Result (Unit {0}) LexFault) (said : Result (List ℕ) LexFault) (gives : PushGives ts new r said) (found : OnOk r ((bytes : List ℕ) × (new ≡ ts ++ bytes) × Unescapes raw bytes × IsText bytes)) where
+    text_behind : (r : Result (Unit {0}) LexFault) → PushGives ts new r said → OnOk r ((bytes : List ℕ) × (new ≡ ts ++ bytes) × Unescapes raw bytes × IsText bytes) → (text : List ℕ) × (new ≡ ts ++ text) × IsUtf8 text
+    text_behind (Ok _) g f = (f.0, f.1, f.3.utf8)
+    text_behind (Err lex_faults.NoMemory) g f = ([], g ∙ sym (append-nil ts), IsUtf8-nil)
+    text_behind (Err e) g f = ([], g.1 ∙ sym (append-nil ts), IsUtf8-nil)
+
+    abbrev behind : (text : List ℕ) × (new ≡ ts ++ text) × IsUtf8 text
+    behind = text_behind r gives found
+
+    pub with_raw_text : IsDrafted ks new ps fk fb
+    with_raw_text = with_text new behind.0 behind.1 behind.2
+
+    pub table_stays : rows_of ks new ps ≡ rows_of ks ts ps
+    table_stays = ap (λ (d : Drafted). d.table) (drafted_text new behind.0 behind.1 behind.2)
+
+    pub text_given : PushGives (drop fb ts) (drop fb new) r said
+    text_given = go r gives
+      where
+        go : (r : Result (Unit {0}) LexFault) → PushGives ts new r said → PushGives (drop fb ts) (drop fb new) r said
+        go (Ok _) g = (g.0, g.1, ap (drop fb) g.2 ∙ drop-append-le fb ts g.0 is.2.0)
+        go (Err lex_faults.NoMemory) g = ap (drop fb) g
+        go (Err e) g = (g.0, ap (drop fb) g.1)
+
+    pub text_found : OnOk r ((bytes : List ℕ) × (drop fb new ≡ drop fb ts ++ bytes) × Unescapes raw bytes × IsText bytes)
+    text_found = go r found
+      where
+        go : (r : Result (Unit {0}) LexFault) → OnOk r ((bytes : List ℕ) × (new ≡ ts ++ bytes) × Unescapes raw bytes × IsText bytes) → OnOk r ((bytes : List ℕ) × (drop fb new ≡ drop fb ts ++ bytes) × Unescapes raw bytes × IsText bytes)
+        go (Ok _) f = (f.0, ap (drop fb) f.1 ∙ drop-append-le fb ts f.0 is.2.0, f.2, f.3)
+        go (Err e) f = tt
+
+  -- with the place of the one that was read
+  module _ (p : RowPlace) (keysym_from : p.first_keysym ≡ fk) (byte_from : p.first_byte ≡ fb) (keysym_count : p.keysym_count ≡ length ks - fk) (byte_count : p.byte_count ≡ length ts - fb)
+      (definition : is_definition (record { sequence = drop fk ks; text = drop fb ts }) ≡ true) where
+    row_there : definition_at ks ts p ≡ record { sequence = drop fk ks; text = drop fb ts }
+    row_there = (λ i. let d : Definition = record { sequence = rest_taken fk ks p.keysym_count p.first_keysym keysym_from keysym_count i; text = rest_taken fb ts p.byte_count p.first_byte byte_from byte_count i } in d)
+
+    pub table_finished : rows_of ks ts (ps ++ p ∷ []) ≡ rows_of ks ts ps ++ record { sequence = drop fk ks; text = drop fb ts } ∷ []
+    table_finished = map-append (definition_at ks ts) ps (p ∷ []) ∙ ap (λ d. rows_of ks ts ps ++ d ∷ []) row_there
+
+    there : IsPlaced ks ts p
+    there = let l = length-drop fk ks in let k = is.1 in let b = is.2.0 in record {
+      few = (let f = definition_fits (record { sequence = drop fk ks; text = drop fb ts }) definition in omega (arith, f.0));
+      keysyms_within = omega arith;
+      starts = subst (IsCharBoundary ts) (sym byte_from) is.2;
+      ends = subst (IsCharBoundary ts) (omega arith) (IsCharBoundary-end ts);
     }
 
-    pub all_placed_push : (ps : List RowPlace) → length more ≤ 32 → ArePlaced keysyms texts ps → ArePlaced (keysyms ++ more) (texts ++ text) (ps ++ p ∷ [])
-    all_placed_push ps few h = All-push (IsPlaced (keysyms ++ more) (texts ++ text)) ps p (all_placed_stay ps h) (new_placed few)
+    finished : IsDrafted ks ts (ps ++ p ∷ []) fk fb
+    finished = (
+      All-push (IsPlaced ks ts) ps p is.0 there,
+      is.1,
+      is.2,
+      subst (λ rows. is_table rows ≡ true) (sym table_finished)
+          (list_all-append is_definition (rows_of ks ts ps) (record { sequence = drop fk ks; text = drop fb ts } ∷ []) ∙ and_from (is_table (rows_of ks ts ps)) (is_table (record { sequence = drop fk ks; text = drop fb ts } ∷ [])) is.3 (and_from (is_definition (record { sequence = drop fk ks; text = drop fb ts })) true definition refl)),
+    )
 
-    pub rows_push : (ps : List RowPlace) → ArePlaced keysyms texts ps → rows_of (keysyms ++ more) (texts ++ text) (ps ++ p ∷ []) ≡ rows_of keysyms texts ps ++ record { sequence = more; text = text } ∷ []
-    rows_push ps h = map-append (definition_at (keysyms ++ more) (texts ++ text)) ps (p ∷ []) ∙ ap₂ (λ ds d. ds ++ d ∷ []) (rows_stay ps h) new_row
-
-    pub all_placed_pushed : (ks ts : List ℕ) (ps qs : List RowPlace) → ks ≡ keysyms ++ more → ts ≡ texts ++ text → qs ≡ ps ++ p ∷ [] → length more ≤ 32 → ArePlaced keysyms texts ps → ArePlaced ks ts qs
-    all_placed_pushed ks ts ps qs e f g few h = subst₃ ArePlaced (sym e) (sym f) (sym g) (all_placed_push ps few h)
-
-    pub rows_pushed : (ks ts : List ℕ) (ps qs : List RowPlace) → ks ≡ keysyms ++ more → ts ≡ texts ++ text → qs ≡ ps ++ p ∷ [] → ArePlaced keysyms texts ps → rows_of ks ts qs ≡ rows_of keysyms texts ps ++ record { sequence = more; text = text } ∷ []
-    rows_pushed ks ts ps qs e f g h = (λ i. rows_of (e i) (f i) (g i)) ∙ rows_push ps h
+    pub finished_with : (qs : List RowPlace) → qs ≡ ps ++ p ∷ [] → IsDrafted ks ts qs fk fb
+    finished_with qs e = subst (λ ps. IsDrafted ks ts ps fk fb) (sym e) finished

@@ -6,7 +6,8 @@ use Rattle.std.proofs.lemmas.Option.{slice_get-get_or, same_Some}
 use Rattle.keysym_core.specs.Lines.{lines_of}
 use Rattle.keysym_core.specs.Names.{KeysymNames}
 use Rattle.compose_read.specs.Lines.{Source, Visit, included, source_named, visits, max_depth, numbered, own_lines, source_lines, visits_below}
-use Rattle.compose_read.specs.Progress.{front, reading_on, ReadsOn}
+use Rattle.compose_read.specs.Rows.{Drafted, no_row}
+use Rattle.compose_read.specs.Progress.{front, read_so_far, reading_on, ReadsOn}
 use Rattle.compose_read.specs.Read.{read_on, definitions_of}
 use Rattle.compose_read.specs.Given.{ReadGives}
 use Rattle.compose_model.specs.Table.{Definition}
@@ -112,12 +113,15 @@ module _ (names : KeysymNames) (sources : List Source) (left source depth line :
 
 -- ---- from the root
 
+abbrev nothing : Drafted
+nothing = record { table = []; row = no_row }
+
 none_in_front : (r : Result (List Definition) ReadFault) → front [] r ≡ r
 none_in_front (Ok table) = refl
 none_in_front (Err e) = refl
 
 module _ (names : KeysymNames) (sources : List Source) (root : List ℕ) (source : ℕ) (named : position (λ (s : Source). bytes_eq root s.name) sources ≡ Some source) where
-  root_read : definitions_of names sources root ≡ reading_on names sources (record { lines = 0; definitions = [] }) (visits_below sources 8 source ++ [])
+  root_read : definitions_of names sources root ≡ reading_on names sources (read_so_far 0 nothing) (visits_below sources 8 source ++ [])
   root_read = go (nat_lt (source_named sources root) (length sources)) named ∙ sym (none_in_front (read_on names sources 0 0 (visits_below sources 8 source))) ∙ ap (λ vs. front [] (read_on names sources 0 0 vs)) (sym (append-nil (visits_below sources 8 source)))
     where
       go : (b : Bool) → (let o : Option ℕ = cond b (Some (source_named sources root)) None in o) ≡ Some source
@@ -125,11 +129,11 @@ module _ (names : KeysymNames) (sources : List Source) (root : List ℕ) (source
       go true h = ap (λ n. read_on names sources 0 0 (visits_below sources 8 n)) (same_Some (source_named sources root) source h)
       go false h = cc
 
-  pub all_read : (table : List Definition) (q : Progress) → table ≡ [] → ReadsOn {X = Unit {0}} names sources (visits_below sources 8 source) (record { lines = 0; definitions = table }) q (Ok tt) → definitions_of names sources root ≡ Ok q.definitions
-  all_read table q e h =
-      root_read ∙ ap (λ t. let p : Progress = record { lines = 0; definitions = t } in reading_on names sources p (visits_below sources 8 source ++ [])) (sym e) ∙ h [] ∙ ap Ok (append-nil q.definitions)
+  pub all_read : (draft : Drafted) (q : Progress) → draft ≡ nothing → ReadsOn {X = Unit {0}} names sources (visits_below sources 8 source) (read_so_far 0 draft) q (Ok tt) → definitions_of names sources root ≡ Ok q.draft.table
+  all_read draft q e h =
+      root_read ∙ ap (λ d. reading_on names sources (read_so_far 0 d) (visits_below sources 8 source ++ [])) (sym e) ∙ h [] ∙ ap Ok (append-nil q.draft.table)
 
-  pub root_refused : {X : Type 0} (view : X → List Definition) (table : List Definition) (q : Progress) (fault : ReadFault) → table ≡ [] → ReadsOn {X = Unit {0}} names sources (visits_below sources 8 source) (record { lines = 0; definitions = table }) q (Err fault)
+  pub root_refused : {X : Type 0} (view : X → List Definition) (draft : Drafted) (q : Progress) (fault : ReadFault) → draft ≡ nothing → ReadsOn {X = Unit {0}} names sources (visits_below sources 8 source) (read_so_far 0 draft) q (Err fault)
       → ReadGives view (Err fault) (definitions_of names sources root)
-  root_refused view table q faults.NoMemory e h = tt
-  root_refused view table q fault e h = root_read ∙ ap (λ t. let p : Progress = record { lines = 0; definitions = t } in reading_on names sources p (visits_below sources 8 source ++ [])) (sym e) ∙ h []
+  root_refused view draft q faults.NoMemory e h = tt
+  root_refused view draft q fault e h = root_read ∙ ap (λ d. reading_on names sources (read_so_far 0 d) (visits_below sources 8 source ++ [])) (sym e) ∙ h []

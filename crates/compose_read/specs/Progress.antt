@@ -7,6 +7,7 @@ use Rattle.compose_lex.specs.declared.LexFault.TheVariants as lex_faults
 use Rattle.compose_model.specs.Table.{Definition, is_definition}
 use Rattle.compose_read.specs.Lines.{Source, Visit, included, max_depth}
 use Rattle.compose_read.specs.Read.{read_on, line_gives}
+use Rattle.compose_read.specs.Rows.{Drafted}
 use Rattle.compose_read.specs.declared.ReadFault.{ReadFault}
 use Rattle.compose_read.specs.declared.ReadFault.TheVariants as faults
 use Rattle.compose_read.specs.declared.line.Place.{Place}
@@ -51,9 +52,13 @@ abbrev pub front : List Definition → Result (List Definition) ReadFault → Re
 front table (Ok more) = Ok (table ++ more)
 front table (Err e) = Err e
 
+-- so many lines are read, and what they gave
+abbrev pub read_so_far : ℕ → Drafted → Progress
+read_so_far lines draft = record { lines = lines; draft = draft }
+
 -- all definitions, where these lines come behind what is read so far
 abbrev pub reading_on : KeysymNames → List Source → Progress → List Visit → Result (List Definition) ReadFault
-reading_on names sources p vs = front p.definitions (read_on names sources p.lines (length p.definitions) vs)
+reading_on names sources p vs = front p.draft.table (read_on names sources p.lines (length p.draft.table) vs)
 
 -- these lines lead from the one to the other, whatever comes behind them, or to the fault
 abbrev pub ReadsOn : {X : Type 0} → KeysymNames → List Source → List Visit → Progress → Progress → Result X ReadFault → Type 0

@@ -1,14 +1,9 @@
 -- Rows in flat arrays: all keysyms one behind another, all texts one behind another, and where each row's stand.
-use Rattle.std.specs.Prelude.{ℕ, ◌+◌, ◌≤◌, List, map, length, take, drop, string_bytes}
+use Rattle.std.specs.Prelude.{ℕ, ◌+◌, ◌≤◌, List, [], map, length, take, drop}
 use Rattle.std.specs.List.{All}
 use Rattle.std.specs.Str.{IsCharBoundary}
 use Rattle.compose_model.specs.Table.{Definition}
-use Rattle.compose_read.specs.declared.rows.Row.{Row}
 use Rattle.compose_read.specs.declared.rows.RowPlace.{RowPlace}
-
--- the definition of a row
-abbrev pub row_read : Row → Definition
-row_read r = record { sequence = r.sequence.items; text = string_bytes r.text }
 
 abbrev pub sequence_at : List ℕ → RowPlace → List ℕ
 sequence_at keysyms p = take p.keysym_count (drop p.first_keysym keysyms)
@@ -29,3 +24,20 @@ pub record IsPlaced (keysyms texts : List ℕ) (p : RowPlace) : Type 0 where
 
 abbrev pub ArePlaced : List ℕ → List ℕ → List RowPlace → Type 0
 ArePlaced keysyms texts places = All (IsPlaced keysyms texts) places
+
+-- ---- definitions that are being read
+
+-- the whole ones, and one behind them
+pub record Drafted : Type 0 where
+  pub table : List Definition
+  pub row : Definition
+
+abbrev pub no_row : Definition
+no_row = record { sequence = []; text = [] }
+
+abbrev pub with_row : Drafted → Definition → Drafted
+with_row d row = record { table = d.table; row = row }
+
+-- the last one has all keysyms and bytes from these places on
+abbrev pub drafted : List ℕ → List ℕ → List RowPlace → ℕ → ℕ → Drafted
+drafted keysyms texts places first_keysym first_byte = record { table = rows_of keysyms texts places; row = record { sequence = drop first_keysym keysyms; text = drop first_byte texts } }

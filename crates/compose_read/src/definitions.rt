@@ -1,7 +1,6 @@
 //! The definitions of a table in reading order.
-use crate::rows::{Row, Rows};
+use crate::rows::Rows;
 use keysym_core::Keysym;
-use std::alloc::{AllocError, Global};
 use std::marker::Model;
 
 /// The definitions of a table in reading order, with repeated and overlapping sequences as they were read.
@@ -22,17 +21,15 @@ impl Model for Definitions {
 }
 
 impl Definitions {
-    ghost use Rattle.std.specs.Prelude.{◌≡◌, ◌<◌, ◌++◌, [], ◌∷◌, length, Some, slice_get, option_map, IsTrue, OnOk, OnErr};
-    ghost use Rattle.compose_model.specs.Table.{is_definition, is_table};
-    ghost use Rattle.compose_read.specs.Rows.{row_read};
+    ghost use Rattle.std.specs.Prelude.{◌≡◌, ◌<◌, length, Some, slice_get, option_map, IsTrue};
+    ghost use Rattle.compose_model.specs.Table.{is_table};
 
-    /// No definitions.
-    pub(crate) fn new(alloc: Global) -> Definitions
-        ensures { result ≡ [] }
+    /// The definitions of these rows.
+    pub(crate) fn from_rows(rows: Rows) -> Definitions
+        requires { IsTrue (is_table rows) }
+        ensures { result ≡ rows }
     {
-        Definitions {
-            rows: Rows::new(alloc),
-        }
+        Definitions { rows }
     }
 
     /// How many definitions there are. O(1).
@@ -57,22 +54,6 @@ impl Definitions {
         ensures { option_map (λ d. d.text) (slice_get self.now index) ≡ Some result.now }
     {
         self.rows.text(index)
-    }
-
-    /// Asks for room for so many more definitions of usual lengths. A refusal only leaves less room. O(definitions) at most.
-    pub(crate) fn reserve(&mut self, definitions: usize)
-        ensures { self.new ≡ self.old }
-    {
-        self.rows.reserve(definitions);
-    }
-
-    /// Adds the definition of a row behind the others, if there is memory. O(its keysyms and bytes).
-    pub(crate) fn push(&mut self, row: &Row) -> Result<(), AllocError>
-        requires { IsTrue (is_definition (row_read row.now)) }
-        ensures ok { OnOk result (self.new ≡ self.old ++ row_read row.now ∷ []) }
-        ensures err { OnErr result (self.new ≡ self.old) }
-    {
-        self.rows.push(row.sequence.as_slice(), row.text.as_str())
     }
 
     /// The rows of the definitions.

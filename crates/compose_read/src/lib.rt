@@ -19,6 +19,7 @@ ghost use Rattle.compose_model.specs.declared.Rule.TheVariants.{Refuse, Longest}
 ghost use Rattle.compose_read.specs.declared.ReadFault.TheVariants.{NoMemory};
 
 mod definitions;
+mod draft;
 mod line;
 mod reading;
 mod rows;

@@ -1,5 +1,5 @@
 //! What one line gives: nothing, a definition, an included source, or a fault.
-ghost use Rattle.std.specs.Prelude.{◌≡◌, ◌≤◌, ◌<◌, ℕ, List, [], map, length, Option, Some, None, Ok, Err, IfOk, IfErr, IfSome, OnOk, IsTrue, MatchOption, IsUtf8, string_bytes, option_copied};
+ghost use Rattle.std.specs.Prelude.{◌≡◌, ◌≤◌, ◌<◌, ℕ, List, [], map, length, Option, Some, None, Ok, Err, IfOk, IfErr, IfSome, OnOk, IsTrue, MatchOption, IsUtf8, option_copied};
 ghost use Rattle.std.specs.List.{list_all};
 ghost use Rattle.keysym_core.specs.Names.{text, value};
 ghost use Rattle.compose_lex.specs.Line.{include};
@@ -8,16 +8,16 @@ ghost use Rattle.compose_read.specs.Lines.{included_by};
 ghost use Rattle.compose_read.specs.Read.{event_keysym, sequence_of, string_text, result_text, definition_of, include_fault};
 ghost use Rattle.compose_read.specs.Given.{ReadGives};
 ghost use Rattle.compose_read.specs.Progress.{visit, lifted, no_definition, keysym_text, FindsLine};
-ghost use Rattle.compose_read.specs.Rows.{row_read};
+ghost use Rattle.compose_read.specs.Rows.{with_row};
 ghost use Rattle.compose_read.specs.Sequence.{is_fed, AreFed};
 
 use crate::ReadFault;
-use crate::rows::Row;
+use crate::draft::Draft;
 use crate::sources::Sources;
 use arrayvec::ArrayVec;
-use compose_lex::{LexFault, Said, lex_line_into, push_text};
+use compose_lex::{LexFault, Said, lex_line_into};
 use keysym_core::{Keysym, Names};
-use std::alloc::{AllocError, Global};
+use std::alloc::AllocError;
 
 /// The most includes that lead to a line.
 pub(crate) const MAX_DEPTH: usize = 8;
@@ -30,7 +30,7 @@ pub(crate) struct Place {
     pub(crate) depth: usize,
 }
 
-/// What is found on a line; a definition is left in the buffer's row.
+/// What is found on a line; a definition is left in the draft.
 #[derive(Drop)]
 pub(crate) enum Found {
     Nothing,
@@ -38,25 +38,8 @@ pub(crate) enum Found {
     Definition,
 }
 
-/// The names of the events and the row of the line that was read last. Each line uses it anew, so that none takes memory of its own.
-#[derive(Drop)]
-pub(crate) struct LineBuffer<'a> {
-    pub(crate) events: ArrayVec<&'a str, 32>,
-    pub(crate) row: Row,
-}
-
-impl<'a> LineBuffer<'a> {
-    /// A buffer for any number of lines. It takes no memory.
-    pub(crate) fn new(alloc: Global) -> LineBuffer<'a> {
-        LineBuffer {
-            events: ArrayVec::new(),
-            row: Row {
-                sequence: Vec::new(alloc),
-                text: String::new(alloc),
-            },
-        }
-    }
-}
+/// The names of the events of the line that was read last. Each line uses the list anew.
+pub(crate) type Events<'a> = ArrayVec<&'a str, 32>;
 
 /// What the line at this place gives. Where it is known to be a text, it is not tested for UTF-8.
 pub(crate) fn read_line<'a>(
@@ -65,16 +48,18 @@ pub(crate) fn read_line<'a>(
     place: Place,
     bytes: &'a [u8],
     is_text: bool,
-    buffer: &mut LineBuffer<'a>,
+    events: &mut Events<'a>,
+    draft: &mut Draft,
 ) -> Result<Found, ReadFault>
     requires { IsTrue is_text → IsUtf8 bytes.now }
-    ensures { FindsLine names.now sources.now (visit place bytes.now) (row_read buffer.new.row) result }
+    ensures finds { FindsLine names.now sources.now (visit place bytes.now) draft.new.row result }
+    ensures kept { OnOk result (draft.new.table ≡ draft.old.table) }
 {
     let (source, line) = (place.source, place.line);
     let Some(text) = line_text(bytes, is_text) else {
         return Err(ReadFault::NotUtf8 { source, line });
     };
-    match lex_line_into(text, &mut buffer.events) {
+    match lex_line_into(text, events) {
         Err(fault) => Err(lex_fault(place, fault)),
         Ok(Said::Blank) => Ok(Found::Nothing),
         Ok(Said::Include(name)) => Ok(Found::Include(include(sources, place, name)?)),
@@ -84,8 +69,14 @@ pub(crate) fn read_line<'a>(
                 result_name,
             },
         ) => {
-            let events = buffer.events.as_slice();
-            read_production(names, place, events, raw_text, result_name, &mut buffer.row)?;
+            read_production(
+                names,
+                place,
+                events.as_slice(),
+                raw_text,
+                result_name,
+                draft,
+            )?;
             Ok(Found::Definition)
         }
     }
@@ -132,48 +123,49 @@ fn lex_fault(place: Place, fault: LexFault) -> ReadFault
     }
 }
 
-/// Reads the definition of a production into the row.
+/// Reads the definition of a production into the draft.
 fn read_production(
     names: &Names,
     place: Place,
     events: &[&str],
     raw_text: Option<&str>,
     result_name: Option<&str>,
-    row: &mut Row,
+    draft: &mut Draft,
 ) -> Result<(), ReadFault>
     requires { (0 < length events.now) × (length events.now ≤ 32) }
-    ensures exact { (bytes : List ℕ) → ReadGives (λ _. row_read row.new) result (definition_of names.now (visit place bytes) (map (λ e. e.now) events.now) (option_copied raw_text.entry) (option_copied result_name.entry)) }
-    ensures definition { OnOk result (IsTrue (is_definition (row_read row.new))) }
+    ensures exact { (bytes : List ℕ) → ReadGives (λ _. draft.new.row) result (definition_of names.now (visit place bytes) (map (λ e. e.now) events.now) (option_copied raw_text.entry) (option_copied result_name.entry)) }
+    ensures definition { OnOk result (IsTrue (is_definition draft.new.row)) }
+    ensures kept { OnOk result (draft.new.table ≡ draft.old.table) }
 {
-    row.sequence.clear();
-    row.text.clear();
-    read_sequence(names, place, events, &mut row.sequence)?;
+    draft.begin();
+    read_sequence(names, place, events, draft)?;
     match raw_text {
         Some(raw) => {
-            read_string(place, raw, &mut row.text)?;
+            read_string(place, raw, draft)?;
             result_keysym(names, place, events.len(), result_name)?;
         }
         None => {
             let keysym = result_keysym(names, place, events.len(), result_name)?;
-            push_keysym_text(names, keysym, &mut row.text)?;
+            push_keysym_text(names, keysym, draft)?;
         }
     }
     Ok(())
 }
 
-/// Reads the keysyms of the events into an empty list.
+/// Reads the keysyms of the events into a draft that has none yet.
 fn read_sequence(
     names: &Names,
     place: Place,
     events: &[&str],
-    sequence: &mut Vec<Keysym>,
+    draft: &mut Draft,
 ) -> Result<(), ReadFault>
-    requires { sequence.old.items ≡ [] }
-    ensures exact { (bytes : List ℕ) → ReadGives (λ _. sequence.new.items) result (sequence_of names.now (visit place bytes) 0 (map (λ e. e.now) events.now)) }
-    ensures fed { OnOk result (AreFed sequence.new.items × (length sequence.new.items ≡ length events.now)) }
+    requires { draft.old.row.sequence ≡ [] }
+    ensures exact { (bytes : List ℕ) → ReadGives (λ _. draft.new.row.sequence) result (sequence_of names.now (visit place bytes) 0 (map (λ e. e.now) events.now)) }
+    ensures fed { OnOk result (AreFed draft.new.row.sequence × (length draft.new.row.sequence ≡ length events.now)) }
+    ensures kept { OnOk result ((draft.new.table ≡ draft.old.table) × (draft.new.row.text ≡ draft.old.row.text)) }
 {
     for (index, event) in events.iter().enumerate() {
-        sequence.push(event_keysym(names, place, index, event)?)?;
+        draft.push_keysym(event_keysym(names, place, index, event)?)?;
     }
     Ok(())
 }
@@ -199,13 +191,14 @@ fn event_keysym(names: &Names, place: Place, index: usize, event: &str) -> Resul
     Ok(keysym)
 }
 
-/// Reads the text of a raw text into an empty one.
-fn read_string(place: Place, raw: &str, text: &mut String) -> Result<(), ReadFault>
-    requires { string_bytes text.old ≡ [] }
-    ensures exact { (bytes : List ℕ) → ReadGives (λ _. Some (string_bytes text.new)) result (string_text (visit place bytes) (Some raw.now)) }
-    ensures fits { OnOk result (length (string_bytes text.new) ≤ 255) }
+/// Reads the text of a raw text into a draft that has none yet.
+fn read_string(place: Place, raw: &str, draft: &mut Draft) -> Result<(), ReadFault>
+    requires { draft.old.row.text ≡ [] }
+    ensures exact { (bytes : List ℕ) → ReadGives (λ _. Some draft.new.row.text) result (string_text (visit place bytes) (Some raw.now)) }
+    ensures fits { OnOk result (length draft.new.row.text ≤ 255) }
+    ensures kept { OnOk result ((draft.new.table ≡ draft.old.table) × (draft.new.row.sequence ≡ draft.old.row.sequence)) }
 {
-    match push_text(text, raw) {
+    match draft.push_raw_text(raw) {
         Ok(()) => Ok(()),
         Err(fault) => Err(lex_fault(place, fault)),
     }
@@ -231,19 +224,19 @@ fn result_keysym(
     Ok(Some(keysym))
 }
 
-/// Puts the text of a result keysym, if there is one, into an empty text.
+/// Puts the text of a result keysym, if there is one, into a draft that has none yet.
 fn push_keysym_text(
     names: &Names,
     keysym: Option<Keysym>,
-    text: &mut String,
+    draft: &mut Draft,
 ) -> Result<(), AllocError>
-    requires { string_bytes text.old ≡ [] }
-    ensures same { OnOk result (string_bytes text.new ≡ keysym_text names.now keysym) }
-    ensures fits { OnOk result (length (string_bytes text.new) ≤ 255) }
+    requires { draft.old.row.text ≡ [] }
+    ensures same { OnOk result (draft.new ≡ with_row draft.old (record { sequence = draft.old.row.sequence; text = keysym_text names.now keysym })) }
+    ensures fits { OnOk result (length draft.new.row.text ≤ 255) }
 {
     if let Some(keysym) = keysym {
         if let Some(character) = names.text_of(keysym) {
-            text.push(character)?;
+            draft.push_character(character)?;
         }
     }
     Ok(())

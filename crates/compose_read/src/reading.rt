@@ -8,8 +8,10 @@ ghost use Rattle.compose_read.specs.Progress.{visit, ReadsOn};
 
 use crate::ReadFault;
 use crate::definitions::Definitions;
-use crate::line::{Found, LineBuffer, MAX_DEPTH, Place, read_line};
+use crate::draft::Draft;
+use crate::line::{Events, Found, MAX_DEPTH, Place, read_line};
 use crate::sources::Sources;
+use arrayvec::ArrayVec;
 use keysym_core::{Names, first_line};
 use std::alloc::Global;
 
@@ -22,11 +24,11 @@ pub(crate) const MAX_DEFINITIONS: usize = 100_000;
 /// How many bytes of a source go with one definition. It is a guess, for the room that is asked for.
 const BYTES_A_DEFINITION: usize = 80;
 
-/// How many lines are read so far, and their definitions.
+/// How many lines are read so far, and the draft of their definitions.
 #[derive(Drop)]
 pub(crate) struct Progress {
     pub(crate) lines: usize,
-    pub(crate) definitions: Definitions,
+    pub(crate) draft: Draft,
 }
 
 /// The definitions that are read from the root in reading order, or the fault of the first faulty line. O(b) in the bytes of all sources that are visited, included ones each time.
@@ -44,19 +46,18 @@ pub fn read_definitions(
     };
     let mut progress = Progress {
         lines: 0,
-        definitions: Definitions::new(alloc),
+        draft: Draft::new(alloc),
     };
-    let mut buffer = LineBuffer::new(alloc);
+    let mut events = ArrayVec::new();
     read_source(
         names,
         sources,
         source,
         MAX_DEPTH,
-        &mut buffer,
+        &mut events,
         &mut progress,
     )?;
-    let _ = progress.definitions.len();
-    Ok(progress.definitions)
+    Ok(progress.draft.into_definitions())
 }
 
 /// Reads all lines of a source on, and behind each include those of the included source; so many levels are left below it.
@@ -65,7 +66,7 @@ fn read_source<'a>(
     sources: &'a Sources,
     source: usize,
     left: usize,
-    buffer: &mut LineBuffer<'a>,
+    events: &mut Events<'a>,
     progress: &mut Progress,
 ) -> Result<(), ReadFault>
     requires within { source < length sources.now }
@@ -75,7 +76,7 @@ fn read_source<'a>(
     let depth = MAX_DEPTH - left;
     let mut rest = without_mark(sources.bytes(source));
     progress
-        .definitions
+        .draft
         .reserve((rest.len() / BYTES_A_DEFINITION).min(MAX_DEFINITIONS));
     let is_text = simdutf8::is_utf8(rest);
     let mut line = 0;
@@ -87,9 +88,9 @@ fn read_source<'a>(
             line,
             depth,
         };
-        let included = take_line(names, sources, place, bytes, is_text, buffer, progress)?;
+        let included = take_line(names, sources, place, bytes, is_text, events, progress)?;
         if let Some(included) = included {
-            read_source(names, sources, included, left - 1, buffer, progress)?;
+            read_source(names, sources, included, left - 1, events, progress)?;
         }
     }
     Ok(())
@@ -102,7 +103,7 @@ fn take_line<'a>(
     place: Place,
     bytes: &'a [u8],
     is_text: bool,
-    buffer: &mut LineBuffer<'a>,
+    events: &mut Events<'a>,
     progress: &mut Progress,
 ) -> Result<Option<usize>, ReadFault>
     requires { IsTrue is_text → IsUtf8 bytes.now }
@@ -114,16 +115,24 @@ fn take_line<'a>(
     if progress.lines >= MAX_LINES {
         return Err(ReadFault::TooManyLines { source, line });
     }
-    let found = read_line(names, sources, place, bytes, is_text, buffer)?;
+    let found = read_line(
+        names,
+        sources,
+        place,
+        bytes,
+        is_text,
+        events,
+        &mut progress.draft,
+    )?;
     progress.lines += 1;
     match found {
         Found::Nothing => Ok(None),
         Found::Include(included) => Ok(Some(included)),
         Found::Definition => {
-            if progress.definitions.len() >= MAX_DEFINITIONS {
+            if progress.draft.len() >= MAX_DEFINITIONS {
                 return Err(ReadFault::TooManyDefinitions { source, line });
             }
-            progress.definitions.push(&buffer.row)?;
+            progress.draft.finish()?;
             Ok(None)
         }
     }

@@ -9,11 +9,11 @@
 //! keysyms                a b    c
 //! texts                  x      y z
 //! ```
-ghost use Rattle.std.specs.Prelude.{◌≡◌, ◌≤◌, length, IfOk};
+ghost use Rattle.std.specs.Prelude.{◌≡◌, ◌≤◌, length, take, drop, IfOk};
 ghost use Rattle.compose_read.specs.Rows.{sequence_at};
 
 use keysym_core::Keysym;
-use std::alloc::{AllocError, Global};
+use std::alloc::AllocError;
 use std::marker::Model;
 
 /// Where the keysyms and the text of a row stand, in 12 bytes without a gap.
@@ -23,13 +23,6 @@ pub(crate) struct RowPlace {
     pub(crate) first_byte: u32,
     pub(crate) keysym_count: u16,
     pub(crate) byte_count: u16,
-}
-
-/// A row as it is read.
-#[derive(Drop)]
-pub(crate) struct Row {
-    pub(crate) sequence: Vec<Keysym>,
-    pub(crate) text: String,
 }
 
 /// Definitions in flat arrays: 12 bytes a row, and its keysyms and its text.
@@ -53,28 +46,7 @@ impl Model for Rows {
 }
 
 impl Rows {
-    ghost use Rattle.std.specs.Prelude.{◌≡◌, ◌<◌, ◌≤◌, ◌++◌, [], ◌∷◌, length, Some, slice_get, option_map, OnOk, OnErr};
-
-    /// No rows.
-    pub(crate) fn new(alloc: Global) -> Rows
-        ensures { result ≡ [] }
-    {
-        Rows {
-            keysyms: Vec::new(alloc),
-            texts: String::new(alloc),
-            places: Vec::new(alloc),
-        }
-    }
-
-    /// Asks for room for so many more rows of three keysyms and three bytes of text. A refusal only leaves less room. O(rows) at most.
-    pub(crate) fn reserve(&mut self, rows: usize)
-        ensures { self.new ≡ self.old }
-    {
-        let many = rows.saturating_mul(3);
-        let _ = self.keysyms.reserve(many);
-        let _ = self.texts.reserve(many);
-        let _ = self.places.reserve(rows);
-    }
+    ghost use Rattle.std.specs.Prelude.{◌≡◌, ◌<◌, length, Some, slice_get, option_map};
 
     /// How many rows there are. O(1).
     pub(crate) fn len(&self) -> usize
@@ -101,29 +73,10 @@ impl Rows {
         let texts = self.texts.as_str();
         &texts[start..start + place.byte_count as usize]
     }
-
-    /// Puts a row behind the others, if there is memory. O(its keysyms and bytes).
-    pub(crate) fn push(&mut self, sequence: &[Keysym], text: &str) -> Result<(), AllocError>
-        requires few { length sequence.now ≤ 32 }
-        requires short { length text.now ≤ 255 }
-        ensures ok { OnOk result (self.new ≡ self.old ++ record { sequence = sequence.now; text = text.now } ∷ []) }
-        ensures err { OnErr result (self.new ≡ self.old) }
-    {
-        let place = RowPlace {
-            first_keysym: place_of(self.keysyms.len())?,
-            first_byte: place_of(self.texts.len())?,
-            keysym_count: sequence.len() as u16,
-            byte_count: text.len() as u16,
-        };
-        self.keysyms.extend_from_slice(sequence)?;
-        self.texts.push_str(text)?;
-        self.places.push(place)?;
-        Ok(())
-    }
 }
 
 /// The place behind so many entries, if it fits.
-fn place_of(count: usize) -> Result<u32, AllocError>
+pub(crate) fn place_of(count: usize) -> Result<u32, AllocError>
     ensures { IfOk result (λ place. place ≡ count) }
 {
     u32::try_from(count).map_err(|_| AllocError)
@@ -133,8 +86,15 @@ fn place_of(count: usize) -> Result<u32, AllocError>
 pub(crate) fn keysyms_at(keysyms: &[Keysym], place: RowPlace) -> &[Keysym]
     ensures { result.now ≡ sequence_at keysyms.now place }
 {
-    let start = keysyms.len().min(place.first_keysym as usize);
-    let behind = &keysyms[start..];
+    part_at(keysyms, place)
+}
+
+/// What stands at the places of a row's keysyms; nothing behind the end. O(1).
+pub(crate) fn part_at<T>(items: &[T], place: RowPlace) -> &[T]
+    ensures { result.now ≡ take place.keysym_count (drop place.first_keysym items.now) }
+{
+    let start = items.len().min(place.first_keysym as usize);
+    let behind = &items[start..];
     let count = behind.len().min(place.keysym_count as usize);
     &behind[..count]
 }

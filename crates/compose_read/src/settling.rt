@@ -1,5 +1,5 @@
 //! Settling: each sequence once, in rising order, and none that begins another.
-ghost use Rattle.std.specs.Prelude.{◌≡◌, ◌≤◌, ◌<◌, ◌+◌, ◌*◌, ◌%◌, ℕ, List, length, map, slice_index, slice_index_or, nat_eq, IfOk, IsTrue};
+ghost use Rattle.std.specs.Prelude.{◌≡◌, ◌≤◌, ◌<◌, ◌+◌, ◌*◌, ◌%◌, ℕ, List, length, map, slice_index, slice_index_or, nat_eq, IfOk, OnOk, IsTrue};
 ghost use Rattle.compose_model.specs.Table.{Definition};
 ghost use Rattle.keysym_core.specs.Names.{KeysymNames};
 ghost use Rattle.compose_model.specs.Table.{IsSameTable};
@@ -10,12 +10,12 @@ ghost use Rattle.compose_read.specs.Given.{SettleGives};
 ghost use Rattle.compose_read.specs.Rows.{rows_of, ArePlaced};
 ghost use Rattle.compose_read.specs.Guess.{by_sequence, digit, front, AreNumbers};
 ghost use Rattle.std.specs.List.{All, starts_with};
-ghost use Rattle.std.specs.List.Sorted.{IsPermutation, IsStableBy};
+ghost use Rattle.std.specs.List.Sorted.{IsPermutation, IsSortedBy, IsStableBy};
 ghost use Rattle.compose_read.specs.declared.rows.RowPlace.{RowPlace};
 ghost use Rattle.compose_read.specs.declared.settling.SettleFault.TheVariants.{NoMemory};
 
 use crate::definitions::Definitions;
-use crate::rows::{RowPlace, Rows, keysyms_at};
+use crate::rows::{RowPlace, Rows, keysyms_at, part_at};
 use crate::sequences::Sequences;
 use arrayvec::ArrayVec;
 use compose_model::Rule;
@@ -77,11 +77,11 @@ fn sorted(
     ensures placed { IfOk result (λ r. (texts : List ℕ) → ArePlaced keysyms.now texts places.items → ArePlaced keysyms.now texts r.items) }
 {
     let mut sorted = guessed(alloc, keysyms, &places)?;
-    sorted.sort_by(|a, b| keysyms_at(keysyms, *a).cmp(&keysyms_at(keysyms, *b)))?;
+    sort_run(alloc, keysyms, &mut sorted)?;
     Ok(sorted)
 }
 
-/// The places in about the order of their sequences, those of one sequence in the order in which they were. It is quick, since numbers alone are sorted. NoMemory for more than 2^32 - 1 places.
+/// The places in about the order of their sequences, those of one sequence in the order in which they were. It is quick, since numbers are sorted, and sequences only where these have one front. NoMemory for more than 131,071 places; a table has at most 100,000 definitions.
 fn guessed(
     alloc: Global,
     keysyms: &[Keysym],
@@ -91,14 +91,52 @@ fn guessed(
     ensures stable { IfOk result (λ r. IsStableBy (by_sequence keysyms.now) places.now r.items) }
 {
     let mut numbers = numbers(alloc, keysyms, places)?;
-    numbers.sort()?;
-    picked(alloc, places, &numbers)
+    numbers.sort_unstable();
+    let mut picked = picked(alloc, places, &numbers)?;
+    sort_runs(alloc, keysyms, &numbers, &mut picked)?;
+    Ok(picked)
 }
 
-/// The places at the indexes that these numbers have in their low 32 bits.
-fn picked(alloc: Global, places: &[RowPlace], numbers: &[u128]) -> Result<Vec<RowPlace>, AllocError>
-    requires { All (λ n. n % 4294967296 < length places.now) numbers.now }
-    ensures { IfOk result (λ r. (d : RowPlace) → r.items ≡ map (λ n. slice_index_or places.now (n % 4294967296) d) numbers.now) }
+/// Puts each run of places whose numbers have one front in the order of their sequences. O(n) for runs of one, O(n log n) comparisons of sequences at most.
+fn sort_runs(
+    alloc: Global,
+    keysyms: &[Keysym],
+    numbers: &[u64],
+    places: &mut [RowPlace],
+) -> Result<(), AllocError>
+    requires { length numbers.now ≤ length places.old }
+    ensures permutation { IsPermutation places.old places.new }
+    ensures stable { IsStableBy (by_sequence keysyms.now) places.old places.new }
+{
+    let mut start = 0;
+    for (index, number) in numbers.iter().enumerate() {
+        if number / INDEXES != numbers[start] / INDEXES {
+            sort_run(alloc, keysyms, &mut places[start..index])?;
+            start = index;
+        }
+    }
+    sort_run(alloc, keysyms, &mut places[start..])
+}
+
+/// Puts places in the order of their sequences, those of one sequence in the order in which they were. O(n log n) comparisons, O(n) where they are in order.
+fn sort_run(alloc: Global, keysyms: &[Keysym], run: &mut [RowPlace]) -> Result<(), AllocError>
+    ensures permutation { IsPermutation run.old run.new }
+    ensures sorted { OnOk result (IsSortedBy (by_sequence keysyms.now) run.new) }
+    ensures stable { IsStableBy (by_sequence keysyms.now) run.old run.new }
+{
+    if run.len() < 2 {
+        return Ok(());
+    }
+    run.sort_by(
+        alloc,
+        |a, b| keysyms_at(keysyms, *a).cmp(&keysyms_at(keysyms, *b)),
+    )
+}
+
+/// The places at the indexes that these numbers have in their low 17 bits.
+fn picked(alloc: Global, places: &[RowPlace], numbers: &[u64]) -> Result<Vec<RowPlace>, AllocError>
+    requires { All (λ n. n % 131072 < length places.now) numbers.now }
+    ensures { IfOk result (λ r. (d : RowPlace) → r.items ≡ map (λ n. slice_index_or places.now (n % 131072) d) numbers.now) }
 {
     let mut picked = Vec::with_capacity(alloc, numbers.len())?;
     for number in numbers {
@@ -108,48 +146,65 @@ fn picked(alloc: Global, places: &[RowPlace], numbers: &[u128]) -> Result<Vec<Ro
 }
 
 /// The numbers of the places.
-fn numbers(alloc: Global, keysyms: &[Keysym], places: &[RowPlace]) -> Result<Vec<u128>, AllocError>
+fn numbers(alloc: Global, keysyms: &[Keysym], places: &[RowPlace]) -> Result<Vec<u64>, AllocError>
     ensures { IfOk result (λ r. AreNumbers keysyms.now places.now r.items) }
 {
-    if places.len() > u32::MAX as usize {
+    if places.len() as u64 >= INDEXES {
         return Err(AllocError);
     }
+    let digits = digits(alloc, keysyms)?;
     let mut numbers = Vec::with_capacity(alloc, places.len())?;
     for (index, place) in places.iter().enumerate() {
-        numbers.push(number_of(keysyms_at(keysyms, *place), index as u32))?;
+        numbers.push(number_of(part_at(&digits, *place), index as u32))?;
     }
     Ok(numbers)
 }
 
-/// How many indexes a number can have.
-const INDEXES: u128 = 1 << 32;
-
-/// How many digits there are.
-const DIGITS: u64 = 1 << 19;
-
-/// The number of a place: the digits of its sequence's first five keysyms, and its index in the 32 bits below them.
-#[tactic(auto, unfolding(crate::specs::Guess::front))]
-fn number_of(keysyms: &[Keysym], index: u32) -> u128
-    ensures { result ≡ front keysyms.now * 4294967296 + index }
+/// The digits of these keysyms.
+fn digits(alloc: Global, keysyms: &[Keysym]) -> Result<Vec<u16>, AllocError>
+    ensures { IfOk result (λ r. r.items ≡ map digit keysyms.now) }
 {
-    let first_three = (digit(keysyms, 0) * DIGITS + digit(keysyms, 1)) * DIGITS + digit(keysyms, 2);
-    let last_two = digit(keysyms, 3) * DIGITS + digit(keysyms, 4);
-    let front = u128::from(first_three) * u128::from(DIGITS * DIGITS) + u128::from(last_two);
-    front * INDEXES + u128::from(index)
+    let mut digits = Vec::with_capacity(alloc, keysyms.len())?;
+    for keysym in keysyms {
+        digits.push(digit(*keysym))?;
+    }
+    Ok(digits)
 }
 
-/// The digit of the keysym at this index, which never falls where keysyms rise; 0 behind the end.
-fn digit(keysyms: &[Keysym], index: usize) -> u64
-    ensures same { result ≡ digit (slice_index keysyms.now index) }
-    ensures fits { result < 524288 }
+/// How many indexes a number can have.
+const INDEXES: u64 = 1 << 17;
+
+/// How many digits there are.
+const DIGITS: u64 = 1 << 15;
+
+/// The number of a place: the digits of its sequence's first three keysyms, and its index in the 17 bits below them.
+#[tactic(auto, unfolding(crate::specs::Guess::front))]
+fn number_of(digits: &[u16], index: u32) -> u64
+    ensures { result ≡ front digits.now * 131072 + index }
 {
-    match keysyms.get(index) {
-        Some(keysym) => {
-            let value = u64::from(keysym.value());
-            value.min(0x1_0000) + value.saturating_sub(0x100_0000).min(0x6_ffff)
-        }
+    let front = (digit_at(digits, 0) * DIGITS + digit_at(digits, 1)) * DIGITS + digit_at(digits, 2);
+    front * INDEXES + u64::from(index)
+}
+
+/// The digit at this index; 0 behind the end.
+fn digit_at(digits: &[u16], index: usize) -> u64
+    ensures same { result ≡ slice_index digits.now index }
+    ensures fits { result < 65536 }
+{
+    match digits.get(index) {
+        Some(digit) => u64::from(*digit),
         None => 0,
     }
+}
+
+/// The digit of a keysym, which never falls where keysyms rise. Keysyms below 0x2100, those from 0xfe00 to 0xffff and Unicode keysyms up to U+5CFF have one each.
+fn digit(keysym: Keysym) -> u16
+    ensures { result ≡ digit keysym }
+{
+    let value = keysym.value();
+    let keys = value.saturating_sub(0xfe00).min(0x200);
+    let unicode = value.saturating_sub(0x100_0000).min(0x5cff);
+    (value.min(0x2100) + keys + unicode) as u16
 }
 
 /// The places of the rows that stay of these, which rise.

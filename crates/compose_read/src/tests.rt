@@ -131,8 +131,8 @@ static MANY_DEFINITIONS: [(&str, usize, &str); 2] = [
     ),
 ];
 
-/// Tables whose order the first five keysyms do not tell, and what is printed.
-static GUESSED: [(&str, &str, bool, &str); 4] = [
+/// Tables whose order the first three keysyms do not tell, and what is printed.
+static GUESSED: [(&str, &str, bool, &str); 8] = [
     (
         "<a> <a> <a> <a> <a> <c> : \"1\"\n<a> <a> <a> <a> <a> <b> <z> : \"2\"\n<a> <a> <a> <a> <a> <b> <y> : \"3\"\n",
         "",
@@ -156,6 +156,30 @@ static GUESSED: [(&str, &str, bool, &str); 4] = [
         "",
         false,
         "0x61,0x61,0x61,0x61,0x61,0x61=4;0x62=5;",
+    ),
+    (
+        "<a> <a> <a> <d> : \"1\"\n<a> <a> <a> <c> : \"2\"\n<a> <a> <a> <b> : \"3\"\n<a> <a> <a> <c> : \"4\"\n",
+        "",
+        false,
+        "0x61,0x61,0x61,0x62=3;0x61,0x61,0x61,0x63=4;0x61,0x61,0x61,0x64=1;",
+    ),
+    (
+        "<b> <a> <a> <c> : \"1\"\n<a> <a> <a> <c> : \"2\"\n<c> : \"3\"\n<b> <a> <a> <b> : \"4\"\n<a> <a> <a> <b> : \"5\"\n<b> <a> <a> <c> : \"6\"\n",
+        "",
+        false,
+        "0x61,0x61,0x61,0x62=5;0x61,0x61,0x61,0x63=2;0x62,0x61,0x61,0x62=4;0x62,0x61,0x61,0x63=6;0x63=3;",
+    ),
+    (
+        "<U5D01> <a> : \"1\"\n<U5D00> <b> : \"2\"\n<U5CFF> <c> : \"3\"\n<U5CFE> <d> : \"4\"\n<0x10000> <e> : \"5\"\n<0xffff> <f> : \"6\"\n",
+        "",
+        false,
+        "0xffff,0x66=6;0x10000,0x65=5;0x1005cfe,0x64=4;0x1005cff,0x63=3;0x1005d00,0x62=2;0x1005d01,0x61=1;",
+    ),
+    (
+        "<0xfe00> <a> : \"1\"\n<0xfdff> <b> : \"2\"\n<0x2101> <c> : \"3\"\n<0x2100> <d> : \"4\"\n<0x20ff> <e> : \"5\"\n",
+        "",
+        false,
+        "0x20ff,0x65=5;0x2100,0x64=4;0x2101,0x63=3;0xfdff,0x62=2;0xfe00,0x61=1;",
     ),
 ];
 

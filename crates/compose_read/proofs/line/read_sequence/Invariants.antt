@@ -6,7 +6,8 @@ use Rattle.compose_read.proofs.line.read_sequence.Given as goal
 
 abbrev pub invariant-loop-index : goal.invariant-loop-index
 invariant-loop-index l = record {
-  exact : (bytes : List ℕ) → sequence_behind l.names (visit l.place bytes) l.events l.sequence.items l.index ≡ sequence_behind l.names (visit l.place bytes) l.events [] 0;
-  fed : AreFed l.sequence.items;
-  count : length l.sequence.items ≡ l.index;
+  exact : (bytes : List ℕ) → sequence_behind l.names (visit l.place bytes) l.events l.draft.row.sequence l.index ≡ sequence_behind l.names (visit l.place bytes) l.events [] 0;
+  fed : AreFed l.draft.row.sequence;
+  kept : (l.draft.table ≡ l.fn.draft.table) × (l.draft.row.text ≡ l.fn.draft.row.text);
+  count : length l.draft.row.sequence ≡ l.index;
 }

@@ -1,8 +1,7 @@
 use Rattle.std.proofs.Common.{◌≡◌, ◌∙◌, ◌-◌, ◌<◌, length, ◌++◌, sym, ap, subst, rules, arith}
-use Rattle.std.specs.Prelude.{Ok, Err, IfSome}
+use Rattle.std.specs.Prelude.{Err, IfSome}
 use Rattle.compose_read.specs.Lines.{visits_below}
-use Rattle.compose_read.specs.Progress.{reading_on, ReadsOn}
-use Rattle.compose_read.specs.declared.reading.Progress.{Progress}
+use Rattle.compose_read.specs.Progress.{read_so_far, reading_on, ReadsOn}
 use Rattle.compose_read.proofs.TextLines.{text_lines, next_text}
 use Rattle.compose_read.proofs.Visits.{visits_are, left_to_visit, plain_turn, line_refused, include_turn, include_refused}
 use Rattle.compose_read.proofs.reading.+read_source.Goals as goal
@@ -10,7 +9,7 @@ use Rattle.compose_read.proofs.reading.+read_source.Goals as goal
 pub loop-bytes-init : goal.loop-bytes-init
 loop-bytes-init t c =
     let names = c.args.names.now in let sources = c.args.sources.now in let left = c.args.left in let source = c.args.source in record {
-      reads = λ ws. ap (λ t. let p : Progress = record { lines = c.args.progress.now.lines; definitions = t } in reading_on names sources p (left_to_visit sources left source (8 - left) 0 c.without_mark-rest.result.now ++ ws)) c.reserve.ensures
+      reads = λ ws. ap (λ d. reading_on names sources (read_so_far c.args.progress.now.lines d) (left_to_visit sources left source (8 - left) 0 c.without_mark-rest.result.now ++ ws)) c.reserve.ensures
           ∙ ap (λ vs. reading_on names sources c.args.progress.now (vs ++ ws))
           (ap (left_to_visit sources left source (8 - left) 0) c.without_mark-rest.ensures ∙ sym (visits_are sources left source c.bytes.result.now c.requires.within c.bytes.ensures));
       texts = λ is. text_lines c.without_mark-rest.result.now (c.is_utf8-is_text.ensures.0 is);

@@ -1,9 +1,10 @@
-use Rattle.std.proofs.Common.{◌≡◌, ◌∙◌, List, sym, subst, rules}
-use Rattle.std.specs.Prelude.{Err}
+use Rattle.std.proofs.Common.{◌≡◌, ◌∙◌, List, sym, ap, subst, rules}
+use Rattle.std.specs.Prelude.{Result, Ok, Err}
 use Rattle.compose_model.specs.Table.{Definition}
 use Rattle.compose_read.specs.Read.{definitions_of}
 use Rattle.compose_read.specs.Given.{ReadGives}
 use Rattle.compose_read.proofs.Visits.{all_read, root_refused}
+use Rattle.compose_read.specs.declared.ReadFault.{ReadFault}
 use Rattle.compose_read.proofs.reading.read_definitions.Goals as goal
 
 pub returns-in_err-read_source-clause-exact : goal.returns-in_err-read_source-clause-exact
@@ -16,3 +17,4 @@ returns-in_err-read_source-clause-exact c =
 pub returns-clause-exact : goal.returns-clause-exact
 returns-clause-exact c =
     all_read c.args.names.now c.args.sources.now c.args.root.now c.in-Some.source (sym c.place.ensures.place ∙ c.in-Some.is) c.new.result c.read_source.new.progress c.new.ensures c.in_ok-read_source.ensures
+    ∙ ap (λ table. let r : Result (List Definition) ReadFault = Ok table in r) (sym c.into_definitions.ensures.same)

@@ -1,28 +1,39 @@
-use Rattle.std.proofs.Common.{◌%◌, ◌<◌, length, map, sym, subst, ◌∙◌, ap}
+use Rattle.std.proofs.Common.{◌≡◌, ◌%◌, ◌++◌, ◌<◌, ℕ, List, length, map, take, drop, sym, subst, ◌∙◌, ap, arith, rules}
 use Rattle.std.specs.List.{All}
 use Rattle.std.specs.List.Sorted.{IsPermutation, IsStableBy}
-use Rattle.std.proofs.lemmas.Result.{IfOk-weaker}
+use Rattle.std.proofs.lemmas.List.{length-map}
+use Rattle.std.proofs.lemmas.List.Sorted.{IsPermutation-trans}
 use Rattle.compose_read.specs.Guess.{by_sequence}
-use Rattle.compose_read.proofs.Guess.{none, place_of, sorted_within, picked_permutation, picked_stable}
+use Rattle.compose_read.specs.declared.rows.RowPlace.{RowPlace}
+use Rattle.compose_read.proofs.Guess.{none, given_back, place_of, sorted_within, picked_permutation, picked_stable}
 use Rattle.compose_read.proofs.settling.guessed.Goals as goal
 
 pub picked-requires : goal.picked-requires
 picked-requires c =
-    subst (All (λ n. n % 4294967296 < length c.args.places.now)) (sym c.deref.ensures.value)
-    (sorted_within c.args.keysyms.now c.args.places.now c.in_ok-numbers.numbers.items c.in_ok-numbers.ensures c.sort.new.self.items c.in_ok-sort.ensures.permutation)
+    subst (All (λ n. n % 131072 < length c.args.places.now)) (sym c.deref.ensures.value)
+    (sorted_within c.args.keysyms.now c.args.places.now c.in_ok-numbers.numbers.items c.in_ok-numbers.ensures c.sort_unstable.new.self.items c.sort_unstable.ensures.permutation)
+
+pub sort_runs-requires : goal.sort_runs-requires
+sort_runs-requires c =
+    let place = place_of c.args.keysyms.now c.args.places.now c.in_ok-numbers.numbers.items c.in_ok-numbers.ensures in
+    let picked = ap (λ (ps : List RowPlace). length ps) (c.deref_mut.ensures.value ∙ c.in_ok-picked.ensures none) ∙ length-map c.deref.result.now place in
+    let numbers = ap (λ (ns : List ℕ). length ns) (c.deref-2.ensures.value ∙ sym c.deref.ensures.value) in
+    omega arith
 
 pub returns-clause-permutation : goal.returns-clause-permutation
 returns-clause-permutation c =
-    let ks = c.args.keysyms.now in let ps = c.args.places.now in let ns = c.in_ok-numbers.numbers.items in let are = c.in_ok-numbers.ensures in
-    IfOk-weaker c.picked.result _ (λ r. IsPermutation ps r.items)
-    (λ r is. subst (IsPermutation ps) (sym (is none ∙ ap (map (place_of ks ps ns are)) c.deref.ensures.value))
-    (picked_permutation ks ps ns are c.sort.new.self.items c.in_ok-sort.ensures.permutation))
-    c.picked.ensures
+    let ks = c.args.keysyms.now in let ps = c.args.places.now in let ns = c.in_ok-numbers.numbers.items in let are = c.in_ok-numbers.ensures in let sorted = c.sort_unstable.new.self.items in
+    let picked = sym (c.deref_mut.ensures.value ∙ c.in_ok-picked.ensures none ∙ ap (map (place_of ks ps ns are)) c.deref.ensures.value) in
+    let long : c.in_ok-picked.picked.len ≡ length c.sort_runs.new.places = search rules in
+    let written = given_back c.in_ok-picked.picked.len c.sort_runs.new.places c.in_ok-picked.picked.items long in
+    subst (IsPermutation ps) (sym written)
+    (IsPermutation-trans ps _ _ (subst (IsPermutation ps) picked (picked_permutation ks ps ns are sorted c.sort_unstable.ensures.permutation)) c.sort_runs.ensures.permutation)
 
 pub returns-clause-stable : goal.returns-clause-stable
 returns-clause-stable c =
-    let ks = c.args.keysyms.now in let ps = c.args.places.now in let ns = c.in_ok-numbers.numbers.items in let are = c.in_ok-numbers.ensures in
-    IfOk-weaker c.picked.result _ (λ r. IsStableBy (by_sequence ks) ps r.items)
-    (λ r is. subst (IsStableBy (by_sequence ks) ps) (sym (is none ∙ ap (map (place_of ks ps ns are)) c.deref.ensures.value))
-    (picked_stable ks ps ns are c.sort.new.self.items c.in_ok-sort.ensures.permutation c.in_ok-sort.ensures.sorted))
-    c.picked.ensures
+    let ks = c.args.keysyms.now in let ps = c.args.places.now in let ns = c.in_ok-numbers.numbers.items in let are = c.in_ok-numbers.ensures in let sorted = c.sort_unstable.new.self.items in
+    let picked = sym (c.deref_mut.ensures.value ∙ c.in_ok-picked.ensures none ∙ ap (map (place_of ks ps ns are)) c.deref.ensures.value) in
+    let long : c.in_ok-picked.picked.len ≡ length c.sort_runs.new.places = search rules in
+    let written = given_back c.in_ok-picked.picked.len c.sort_runs.new.places c.in_ok-picked.picked.items long in
+    let stable = subst (IsStableBy (by_sequence ks) ps) picked (picked_stable ks ps ns are sorted c.sort_unstable.ensures.permutation c.sort_unstable.ensures.sorted) in
+    subst (IsStableBy (by_sequence ks) ps) (sym written) (λ p. c.sort_runs.ensures.stable p ∙ stable p)

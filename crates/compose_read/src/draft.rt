@@ -1,0 +1,130 @@
+//! Definitions that are being read.
+//!
+//! The keysyms and the text of a definition are put behind those of the others as they are read, so that none is copied. Where it is whole, its place is noted.
+use crate::definitions::Definitions;
+use crate::rows::{RowPlace, Rows, place_of};
+use compose_lex::{LexFault, push_text};
+use keysym_core::Keysym;
+use std::alloc::{AllocError, Global};
+use std::marker::Model;
+
+/// Definitions in flat arrays, and one behind them that is being read.
+#[derive(Drop)]
+pub(crate) struct Draft {
+    keysyms: Vec<Keysym>,
+    texts: String,
+    places: Vec<RowPlace>,
+    first_keysym: usize,
+    first_byte: usize,
+}
+
+impl Model for Draft {
+    ghost use Rattle.std.specs.Prelude.{◌≤◌, length, drop, string_bytes, IsTrue};
+    ghost use Rattle.std.specs.Str.{IsCharBoundary};
+    ghost use Rattle.compose_model.specs.Table.{is_table};
+    ghost use Rattle.compose_read.specs.Rows.{Drafted, drafted, rows_of, ArePlaced};
+
+    ghost Value = { Drafted };
+
+    ghost view = { λ d. drafted d.keysyms.items (string_bytes d.texts) d.places.items d.first_keysym d.first_byte };
+
+    ghost invariant = { λ d. ArePlaced d.keysyms.items (string_bytes d.texts) d.places.items × (d.first_keysym ≤ length d.keysyms.items) × IsCharBoundary (string_bytes d.texts) d.first_byte × IsTrue (is_table (rows_of d.keysyms.items (string_bytes d.texts) d.places.items)) };
+}
+
+impl Draft {
+    ghost use Rattle.std.specs.Prelude.{◌≡◌, ◌++◌, ℕ, List, [], ◌∷◌, length, OnOk, IsTrue, encode_utf8};
+    ghost use Rattle.compose_model.specs.Table.{is_definition, is_table};
+    ghost use Rattle.compose_lex.specs.Lexed.{PushGives};
+    ghost use Rattle.compose_lex.specs.Escape.{text_of, Unescapes, IsText};
+    ghost use Rattle.compose_read.specs.Rows.{with_row, no_row};
+
+    /// No definitions, and none that is being read. Takes no memory.
+    pub(crate) fn new(alloc: Global) -> Draft
+        ensures { result ≡ record { table = []; row = no_row } }
+    {
+        Draft {
+            keysyms: Vec::new(alloc),
+            texts: String::new(alloc),
+            places: Vec::new(alloc),
+            first_keysym: 0,
+            first_byte: 0,
+        }
+    }
+
+    /// Asks for room for so many more definitions of three keysyms and three bytes of text. A refusal only leaves less room. O(definitions) at most.
+    pub(crate) fn reserve(&mut self, definitions: usize)
+        ensures { self.new ≡ self.old }
+    {
+        let many = definitions.saturating_mul(3);
+        let _ = self.keysyms.reserve(many);
+        let _ = self.texts.reserve(many);
+        let _ = self.places.reserve(definitions);
+    }
+
+    /// How many definitions there are. O(1).
+    pub(crate) fn len(&self) -> usize
+        ensures { result ≡ length self.now.table }
+    {
+        self.places.len()
+    }
+
+    /// Begins a definition. O(1).
+    pub(crate) fn begin(&mut self)
+        ensures { self.new ≡ with_row self.old no_row }
+    {
+        self.first_keysym = self.keysyms.len();
+        self.first_byte = self.texts.len();
+    }
+
+    /// Puts a keysym behind those of the definition that is being read. O(1).
+    pub(crate) fn push_keysym(&mut self, keysym: Keysym) -> Result<(), AllocError>
+        ensures { OnOk result (self.new ≡ with_row self.old (record { sequence = self.old.row.sequence ++ keysym ∷ []; text = self.old.row.text })) }
+    {
+        self.keysyms.push(keysym)?;
+        Ok(())
+    }
+
+    /// Puts the text that a raw text stands for behind that of the definition. O(bytes).
+    pub(crate) fn push_raw_text(&mut self, raw: &str) -> Result<(), LexFault>
+        ensures exact { PushGives self.old.row.text self.new.row.text result (text_of raw.now) }
+        ensures found { OnOk result ((bytes : List ℕ) × (self.new.row.text ≡ self.old.row.text ++ bytes) × Unescapes raw.now bytes × IsText bytes) }
+        ensures others { (self.new.table ≡ self.old.table) × (self.new.row.sequence ≡ self.old.row.sequence) }
+    {
+        push_text(&mut self.texts, raw)
+    }
+
+    /// Puts a character behind the text of the definition. O(1).
+    pub(crate) fn push_character(&mut self, character: char) -> Result<(), AllocError>
+        ensures { OnOk result (self.new ≡ with_row self.old (record { sequence = self.old.row.sequence; text = self.old.row.text ++ encode_utf8 character })) }
+    {
+        self.texts.push(character)?;
+        Ok(())
+    }
+
+    /// Puts the definition that is being read behind the others. O(1).
+    pub(crate) fn finish(&mut self) -> Result<(), AllocError>
+        requires { IsTrue (is_definition self.old.row) }
+        ensures { OnOk result (self.new.table ≡ self.old.table ++ self.old.row ∷ []) }
+    {
+        let place = RowPlace {
+            first_keysym: place_of(self.first_keysym)?,
+            first_byte: place_of(self.first_byte)?,
+            keysym_count: (self.keysyms.len() - self.first_keysym) as u16,
+            byte_count: (self.texts.len() - self.first_byte) as u16,
+        };
+        self.places.push(place)?;
+        Ok(())
+    }
+
+    /// The definitions, without the one that is being read. O(1).
+    pub(crate) fn into_definitions(self) -> Definitions
+        ensures same { result ≡ self.table }
+        ensures table { IsTrue (is_table self.table) }
+    {
+        Definitions::from_rows(Rows {
+            keysyms: self.keysyms,
+            texts: self.texts,
+            places: self.places,
+        })
+    }
+}
