@@ -150,12 +150,11 @@ with_last : (table : List Definition) (s : List ℕ) → 0 < length table → sh
 with_last [] s h = absurd (omega arith)
 with_last (c ∷ table) s h = refl
 
--- behind the first definition, what is shared with the last one is shared with the one before
-pub shared_previous : (all : List Definition) (i : ℕ) → 0 < i → i < length all → shared (sequence_at all (i - 1)) (sequence_at all i) ≡ shared_with_last (take i all) (sequence_at all i)
-shared_previous all i some h =
-    let e : i - 1 + 1 ≡ i = omega arith in
-    sym (with_last (take i all) (sequence_at all i) (let n = length-take-le i all (omega arith) in omega arith)
-    ∙ ap (λ x. shared x (sequence_at all i)) (ap (λ j. last_sequence (take j all)) (sym e) ∙ last_of_front all (i - 1) (omega arith)))
+-- what is shared with the sequence at a place is shared with the last one up to it
+pub shared_on : (all : List Definition) (i : ℕ) (t s : List ℕ) → i < length all → t ≡ sequence_at all i → shared t s ≡ shared_with_last (take (i + 1) all) s
+shared_on all i t s h is =
+    ap (λ x. shared x s) (is ∙ sym (last_of_front all i h))
+    ∙ sym (with_last (take (i + 1) all) s (let n = length-take-le (i + 1) all (omega arith) in omega arith))
 
 -- nothing is shared with nothing
 pub shared_nothing : (s : List ℕ) → shared s [] ≡ 0

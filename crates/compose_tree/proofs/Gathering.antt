@@ -12,7 +12,7 @@ use Rattle.compose_tree.specs.Rows.{NodeRow, row_at, with_edge, counts_of, edges
 
 -- ---- the edges of one node
 
-edges_join : (i : ℕ) (es fs : List NodeEdge) → edges_at i (es ++ fs) ≡ edges_at i es ++ edges_at i fs
+pub edges_join : (i : ℕ) (es fs : List NodeEdge) → edges_at i (es ++ fs) ≡ edges_at i es ++ edges_at i fs
 edges_join i es fs = ap (map (λ (e : NodeEdge). e.edge)) (filter-append (λ (e : NodeEdge). nat_eq e.node i) es fs) ∙ map-append (λ (e : NodeEdge). e.edge) (filter (λ (e : NodeEdge). nat_eq e.node i) es) (filter (λ (e : NodeEdge). nat_eq e.node i) fs)
 
 first_if : ℕ → NodeEdge → List NodeEdge → Bool → List Edge

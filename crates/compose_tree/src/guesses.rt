@@ -1,5 +1,4 @@
 //! Guesses of where an edge stands, by node and keysym.
-use crate::packed::{PackedEdge, PackedNode};
 use crate::table::NodeId;
 use keysym_core::Keysym;
 use std::alloc::{AllocError, Global};
@@ -23,25 +22,11 @@ pub struct Guesses {
 }
 
 impl Guesses {
-    /// The guesses for the packed edges of these nodes. O(edges).
-    pub fn new(
-        alloc: Global,
-        nodes: &[PackedNode],
-        edges: &[PackedEdge],
-    ) -> Result<Guesses, AllocError> {
-        let mut guesses = Guesses {
-            places: vec![in alloc; 0; edges.len().saturating_mul(GUESSES_PER_EDGE)]?,
-        };
-        let mut number = 0u32;
-        for pair in nodes.windows(2) {
-            if let [node, next] = pair
-                && let Some(own) = edges.get(node.first as usize..next.first as usize)
-            {
-                guesses.note(NodeId(number), own);
-            }
-            number = number.saturating_add(1);
-        }
-        Ok(guesses)
+    /// Guesses for so many edges, of which none is noted yet. O(edges).
+    pub fn new(alloc: Global, edge_count: usize) -> Result<Guesses, AllocError> {
+        Ok(Guesses {
+            places: vec![in alloc; 0; edge_count.saturating_mul(GUESSES_PER_EDGE)]?,
+        })
     }
 
     /// The guess for the edge of this keysym at the node. O(1).
@@ -52,13 +37,11 @@ impl Guesses {
         }
     }
 
-    /// Notes where a node's edges stand.
-    fn note(&mut self, node: NodeId, edges: &[PackedEdge]) {
-        for (place, edge) in edges.iter().enumerate() {
-            let slot = self.slot(node, edge.keysym);
-            if let (Some(guess), Ok(place)) = (self.places.get_mut(slot), u8::try_from(place)) {
-                *guess = place;
-            }
+    /// Notes that the edge of this keysym stands at this place among the node's edges. O(1).
+    pub fn note(&mut self, node: NodeId, keysym: Keysym, place: usize) {
+        let slot = self.slot(node, keysym);
+        if let (Some(guess), Ok(place)) = (self.places.get_mut(slot), u8::try_from(place)) {
+            *guess = place;
         }
     }
 

@@ -39,6 +39,9 @@ use std::marker::Model;
 /// Every keysym is below this.
 const KEYSYMS: u32 = Keysym::GREATEST + 1;
 
+/// Few texts have more bytes: most are one character. There is room for so many a text at first.
+const COMMON_TEXT: usize = 3;
+
 /// A table as flat arrays: 8 bytes a node, 12 bytes an edge (4 of them its guesses), 4 bytes a leaf and its text.
 #[derive(Drop)]
 pub struct PackedTable {
@@ -61,15 +64,18 @@ impl Model for PackedTable {
     ghost invariant = { λ t. IsPacked t.nodes.items t.edges.items t.places.items (string_bytes t.texts) (unpacked t.nodes.items t.edges.items t.places.items (string_bytes t.texts)) };
 }
 
-/// The code of a target, if it fits.
+/// The code of a target, if it fits. Both kinds of target take one way, since a branch on the kind is often mispredicted.
 fn pack_target(target: Target) -> Result<u32, AllocError>
     ensures { IfOk result (λ code. code ≡ packed_target target) }
 {
-    match target {
-        Target::Node(node) if node.0 < 0x8000_0000 => Ok(node.0 * 2),
-        Target::Leaf(leaf) if leaf.0 < 0x8000_0000 => Ok(leaf.0 * 2 + 1),
-        _ => Err(AllocError),
+    let (number, leaf) = match target {
+        Target::Node(node) => (node.0, 0),
+        Target::Leaf(leaf) => (leaf.0, 1),
+    };
+    if number >= 0x8000_0000 {
+        return Err(AllocError);
     }
+    Ok(number * 2 + leaf)
 }
 
 /// The target of a code.
@@ -132,17 +138,6 @@ fn pack_nodes(
     Ok(nodes)
 }
 
-/// The place of each node's first edge, and behind them the end of the edges.
-fn first_places(alloc: Global, nodes: &[PackedNode]) -> Result<Vec<u32>, AllocError>
-    ensures { IfOk result (λ places. places.items ≡ map (λ node. node.first) nodes.now) }
-{
-    let mut places = Vec::with_capacity(alloc, nodes.len())?;
-    for node in nodes {
-        places.push(node.first)?;
-    }
-    Ok(places)
-}
-
 /// The packed edge, if its target fits.
 fn pack_edge(edge: Edge) -> Result<PackedEdge, AllocError>
     ensures { IfOk result (λ packed. packed ≡ packed_edge edge) }
@@ -153,56 +148,53 @@ fn pack_edge(edge: Edge) -> Result<PackedEdge, AllocError>
     })
 }
 
-/// The edges of all nodes, each put at its node's next place.
+/// The edges of all nodes, each put at its node's next place. Guesses note which of its node's edges each one is.
 fn pack_edges(
     alloc: Global,
     nodes: &[PackedNode],
     depths: &[u32],
     edges: &[NodeEdge],
+    guesses: &mut Guesses,
 ) -> Result<Vec<PackedEdge>, AllocError>
     requires at_nodes { AreAtNodes (length depths.now) edges.now }
     requires nodes { nodes.now ≡ packed_nodes 0 (gathered 0 depths.now edges.now) }
     ensures { IfOk result (λ packed. packed.items ≡ packed_edges (gathered 0 depths.now edges.now)) }
 {
-    let mut places = first_places(alloc, nodes)?;
     let blank = PackedEdge {
         keysym: Keysym::default(),
         target: 0,
     };
     let mut packed = vec![in alloc; blank; nodes[depths.len()].first as usize]?;
+    let mut counts = vec![in alloc; 0; depths.len()]?;
     for edge in edges {
         let node = edge.node as usize;
-        let place = places[node];
-        packed[place as usize] = pack_edge(edge.edge)?;
-        places[node] = place_behind(place, 1)?;
+        let count = counts[node];
+        let place = nodes[node].first as usize + count;
+        guesses.note(NodeId(edge.node), edge.edge.keysym, count);
+        packed[place] = pack_edge(edge.edge)?;
+        counts[node] = count + 1;
     }
     Ok(packed)
 }
 
-/// For each text its place in the pool, and behind them the end of the pool.
-fn pack_places(alloc: Global, sequences: &Sequences) -> Result<Vec<u32>, AllocError>
-    ensures { IfOk result (λ places. places.items ≡ packed_places 0 (texts_of sequences.now)) }
-{
-    let mut places = Vec::with_capacity(alloc, sequences.len().saturating_add(1))?;
-    let mut place = 0;
-    for index in 0..sequences.len() {
-        places.push(place)?;
-        place = place_behind(place, sequences.text(index).len())?;
-    }
-    places.push(place)?;
-    Ok(places)
-}
-
-/// All texts, one behind another, so many bytes in all.
-fn pack_texts(alloc: Global, sequences: &Sequences, count: usize) -> Result<String, AllocError>
-    ensures bytes { IfOk result (λ texts. string_bytes texts ≡ pool (texts_of sequences.now)) }
+/// For each text its place in the pool, and behind them the end of the pool; and the pool, all texts one behind another.
+fn pack_texts(alloc: Global, sequences: &Sequences) -> Result<(Vec<u32>, String), AllocError>
+    ensures places { IfOk result (λ packed. packed.0.items ≡ packed_places 0 (texts_of sequences.now)) }
+    ensures bytes { IfOk result (λ packed. string_bytes packed.1 ≡ pool (texts_of sequences.now)) }
     ensures utf8 { IfOk result (λ _. IsTrue (list_all is_utf8 (texts_of sequences.now))) }
 {
-    let mut texts = String::with_capacity(alloc, count)?;
+    let mut places = Vec::with_capacity(alloc, sequences.len().saturating_add(1))?;
+    let mut texts = String::with_capacity(alloc, sequences.len().saturating_mul(COMMON_TEXT))?;
+    let mut place = 0;
     for index in 0..sequences.len() {
-        texts.push_str(sequences.text(index))?;
+        let text = sequences.text(index);
+        places.push(place)?;
+        place = place_behind(place, text.len())?;
+        texts.push_str(text)?;
     }
-    Ok(texts)
+    places.push(place)?;
+    texts.shrink_to_fit();
+    Ok((places, texts))
 }
 
 /// 1 where the keysym is no greater than the other, and else 0. By arithmetic, since a comparison becomes a branch, which a
@@ -294,11 +286,9 @@ impl ComposeTable for PackedTable {
         let rows = build_rows(alloc, &sequences)?;
         let (depths, node_edges) = rows.parts();
         let nodes = pack_nodes(alloc, depths, node_edges)?;
-        let edges = pack_edges(alloc, &nodes, depths, node_edges)?;
-        let places = pack_places(alloc, &sequences)?;
-        let byte_count = places.last().map_or(0, |end| *end as usize);
-        let texts = pack_texts(alloc, &sequences, byte_count)?;
-        let guesses = Guesses::new(alloc, &nodes, &edges)?;
+        let mut guesses = Guesses::new(alloc, node_edges.len())?;
+        let edges = pack_edges(alloc, &nodes, depths, node_edges, &mut guesses)?;
+        let (places, texts) = pack_texts(alloc, &sequences)?;
         Ok(from_arrays(&sequences, nodes, edges, places, texts, guesses))
     }
 

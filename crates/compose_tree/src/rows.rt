@@ -43,13 +43,13 @@ impl Rows {
     ghost use Rattle.std.specs.Prelude.{◌≡◌, ◌<◌, ◌++◌, [], ◌∷◌, length, OnOk, IfOk};
     ghost use Rattle.compose_tree.specs.Rows.{rows_of, with_edge, gathered, AreAtNodes};
 
-    /// The row of the root alone, with room for so many edges.
-    fn root(alloc: Global, edge_count: usize) -> Result<Rows, AllocError>
+    /// The row of the root alone, with room for two edges for each of so many sequences. O(1).
+    fn root(alloc: Global, sequence_count: usize) -> Result<Rows, AllocError>
         ensures { IfOk result (λ rows. rows ≡ rows_of []) }
     {
         Ok(Rows {
             depths: vec![in alloc; 0; 1]?,
-            edges: Vec::with_capacity(alloc, edge_count)?,
+            edges: Vec::with_capacity(alloc, sequence_count.saturating_mul(2))?,
         })
     }
 
@@ -108,22 +108,6 @@ fn sequence_of(sequences: &Sequences, index: usize) -> &[Keysym]
     sequences.sequence(index)
 }
 
-/// How many keysyms the sequence at this place shares with the one before it.
-fn shared_with_previous(sequences: &Sequences, index: usize) -> usize
-    requires settled { IsSettled sequences.now }
-    requires in_range { index < length sequences.now }
-    ensures count { result ≡ shared_with_last (take index sequences.now) (sequence_at sequences.now index) }
-    ensures below { result < length (sequence_at sequences.now index) }
-{
-    if index == 0 {
-        return 0;
-    }
-    shared_front(
-        sequence_of(sequences, index - 1),
-        sequence_of(sequences, index),
-    )
-}
-
 /// Where the edge of the keysym at this place of the sequence leads: to the leaf behind the last one, else to the node.
 fn target_at(sequence: &[Keysym], place: usize, node: u32, leaf: u32) -> Target
     requires { place < length sequence.now }
@@ -160,25 +144,30 @@ fn open_nodes(
     Ok(())
 }
 
-/// Adds the sequence at this place to the rows of those before it.
+/// Adds the sequence, which is the one at this place and shares so many keysyms with the one before it, to the rows of those
+/// before it.
 fn add_sequence(
     rows: &mut Rows,
     path: &mut Vec<u32>,
     sequences: &Sequences,
+    sequence: &[Keysym],
+    shared: usize,
     index: u32,
 ) -> Result<(), BuildFault>
     requires settled { IsSettled sequences.now }
     requires in_range { index < length sequences.now }
     requires rows { rows.old ≡ rows_of (take index sequences.now) }
     requires path { path.old.items ≡ path_of (take index sequences.now) }
+    requires sequence { sequence.now ≡ sequence_at sequences.now index }
+    requires shared { shared ≡ shared_with_last (take index sequences.now) (sequence_at sequences.now index) }
+    requires below { shared < length sequence.now }
     requires few { length rows.old ≤ max_nodes }
     ensures rows { OnOk result (rows.new ≡ rows_of (take (index + 1) sequences.now)) }
     ensures path { OnOk result (path.new.items ≡ path_of (take (index + 1) sequences.now)) }
     ensures few { OnOk result (length rows.new ≤ max_nodes) }
     ensures many { IfErr result (λ fault. fault ≡ BuildFault.TooManyNodes → max_nodes < length (nodes sequences.now)) }
 {
-    let sequence = sequence_of(sequences, index as usize);
-    let shared = shared_with_previous(sequences, index as usize);
+    let _ = sequences;
     let opened = sequence.len() - (shared + 1);
     if opened > MAX_NODES - rows.len() {
         return Err(BuildFault::TooManyNodes);
@@ -206,8 +195,12 @@ pub fn build_rows(alloc: Global, sequences: &Sequences) -> Result<Rows, BuildFau
     };
     let mut rows = Rows::root(alloc, sequences.len())?;
     let mut path = vec![in alloc; 0u32; 1]?;
+    let mut previous: &[Keysym] = &[];
     for index in 0..count {
-        add_sequence(&mut rows, &mut path, sequences, index)?;
+        let sequence = sequence_of(sequences, index as usize);
+        let shared = shared_front(previous, sequence);
+        add_sequence(&mut rows, &mut path, sequences, sequence, shared, index)?;
+        previous = sequence;
     }
     Ok(rows)
 }

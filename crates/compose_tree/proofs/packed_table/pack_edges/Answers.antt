@@ -1,11 +1,11 @@
-use Rattle.std.proofs.Common.{◌≡◌, ◌+◌, ◌∙◌, ap, sym, map, set, take, drop, get_or, length, replicate, zero-add, arith}
+use Rattle.std.proofs.Common.{◌≡◌, ◌+◌, ◌∙◌, ap, sym, set, take, drop, get_or, length, replicate, zero-add, arith, rules}
 use Rattle.std.proofs.Math.Seq.{take-length, drop-length}
 use Rattle.compose_tree.specs.declared.packed.PackedNode.{PackedNode}
 use Rattle.compose_tree.specs.Rows.{gathered}
 use Rattle.compose_tree.specs.Packed.{packed_nodes, packed_edges}
-use Rattle.compose_tree.proofs.Gathering.{rows_count}
+use Rattle.compose_tree.proofs.Gathering.{rows_count, counts_none}
 use Rattle.compose_tree.proofs.PackedLookups.{packed_count}
-use Rattle.compose_tree.proofs.Scattering.{laid, laid_none, laid_all, next_none, end_place, put_at}
+use Rattle.compose_tree.proofs.Scattering.{laid, laid_none, laid_all, end_place, put_at}
 use Rattle.compose_tree.proofs.packed_table.pack_edges.Goals as goal
 
 pub bounds-nodes-depths : goal.bounds-nodes-depths
@@ -22,33 +22,46 @@ loop-edge-init c =
     let count : (get_or c.args.nodes.now (length ds) none).first ≡ length (packed_edges rows) =
     ap (λ ns. (get_or ns (length ds) none).first) c.requires.nodes ∙ ap (λ n. (get_or (packed_nodes 0 rows) n none).first) (sym (rows_count 0 ds es)) ∙ end_place rows 0 none ∙ zero-add (length (packed_edges rows)) in
     let laid_blank : c.in_ok-packed.packed.items ≡ replicate (get_or c.args.nodes.now (length ds) none).first (record { keysym = c.default.result; target = 0 }) = c.in_ok-packed.ensures.items_if_clones_equal (λ y same. same) in
+    let none_counted : c.in_ok-counts.counts.items ≡ replicate (length ds) 0 = search rules in
     record {
       so_far = laid_blank ∙ (λ t. replicate (count t) (record { keysym = c.default.ensures t; target = 0 })) ∙ sym (laid_none 0 ds es);
-      next = c.in_ok-places.ensures ∙ ap (map (λ (n : PackedNode). n.first)) c.requires.nodes ∙ sym (next_none 0 0 ds es);
+      counted = none_counted ∙ sym (counts_none 0 ds);
     }
 
-pub index-place-requires : goal.index-place-requires
-index-place-requires c =
-    let p = put_at c.args.depths.now c.args.edges.now c.loop-edge.edge-index c.edge-item.result c.loop-edge.packed.items c.loop-edge.places.items c.requires.at_nodes c.loop-edge-test.true c.edge-item.is c.loop-edge.invariant.so_far c.loop-edge.invariant.next in
-    omega (arith, p.in_places)
+pub bounds-nodes-node : goal.bounds-nodes-node
+bounds-nodes-node c =
+    let p = put_at c.args.depths.now c.args.edges.now c.loop-edge.edge-index c.edge-item.result c.args.nodes.now c.loop-edge.packed.items c.loop-edge.counts.items c.requires.at_nodes c.loop-edge-test.true c.edge-item.is c.requires.nodes c.loop-edge.invariant.so_far c.loop-edge.invariant.counted in
+    omega (arith, p.at_node)
+
+pub overflow_add-place : goal.overflow_add-place
+overflow_add-place c =
+    let p = put_at c.args.depths.now c.args.edges.now c.loop-edge.edge-index c.edge-item.result c.args.nodes.now c.loop-edge.packed.items c.loop-edge.counts.items c.requires.at_nodes c.loop-edge-test.true c.edge-item.is c.requires.nodes c.loop-edge.invariant.so_far c.loop-edge.invariant.counted in
+    let none : PackedNode = record { depth = 0; first = 0 } in
+    let place : (get_or c.args.nodes.now c.edge-item.result.node none).first + c.index-count.result.now ≡ p.q = ap (λ n. (get_or c.args.nodes.now c.edge-item.result.node none).first + n) c.index-count.ensures ∙ p.next none c.index-count.result.now in
+    omega (arith, p.within, place, c.loop-edge.packed.small)
 
 pub index_mut-requires : goal.index_mut-requires
 index_mut-requires c =
-    let p = put_at c.args.depths.now c.args.edges.now c.loop-edge.edge-index c.edge-item.result c.loop-edge.packed.items c.loop-edge.places.items c.requires.at_nodes c.loop-edge-test.true c.edge-item.is c.loop-edge.invariant.so_far c.loop-edge.invariant.next in
-    omega (arith, p.within, c.index-place.ensures ∙ p.next c.index-place.result.now)
+    let p = put_at c.args.depths.now c.args.edges.now c.loop-edge.edge-index c.edge-item.result c.args.nodes.now c.loop-edge.packed.items c.loop-edge.counts.items c.requires.at_nodes c.loop-edge-test.true c.edge-item.is c.requires.nodes c.loop-edge.invariant.so_far c.loop-edge.invariant.counted in
+    let none : PackedNode = record { depth = 0; first = 0 } in
+    let place : (get_or c.args.nodes.now c.edge-item.result.node none).first + c.index-count.result.now ≡ p.q = ap (λ n. (get_or c.args.nodes.now c.edge-item.result.node none).first + n) c.index-count.ensures ∙ p.next none c.index-count.result.now in
+    omega (arith, p.within, place)
 
-pub index_mut-requires-in-loop-edge : goal.index_mut-requires-in-loop-edge
-index_mut-requires-in-loop-edge c =
-    let p = put_at c.args.depths.now c.args.edges.now c.loop-edge.edge-index c.edge-item.result c.loop-edge.packed.items c.loop-edge.places.items c.requires.at_nodes c.loop-edge-test.true c.edge-item.is c.loop-edge.invariant.so_far c.loop-edge.invariant.next in
-    omega (arith, p.in_places)
+pub overflow_add-count : goal.overflow_add-count
+overflow_add-count c =
+    let p = put_at c.args.depths.now c.args.edges.now c.loop-edge.edge-index c.edge-item.result c.args.nodes.now c.loop-edge.packed.items c.loop-edge.counts.items c.requires.at_nodes c.loop-edge-test.true c.edge-item.is c.requires.nodes c.loop-edge.invariant.so_far c.loop-edge.invariant.counted in
+    let none : PackedNode = record { depth = 0; first = 0 } in
+    let place : (get_or c.args.nodes.now c.edge-item.result.node none).first + c.index-count.result.now ≡ p.q = ap (λ n. (get_or c.args.nodes.now c.edge-item.result.node none).first + n) c.index-count.ensures ∙ p.next none c.index-count.result.now in
+    omega (arith, p.within, place, c.loop-edge.packed.small)
 
 pub loop-edge-preserved : goal.loop-edge-preserved
 loop-edge-preserved c =
-    let p = put_at c.args.depths.now c.args.edges.now c.loop-edge.edge-index c.edge-item.result c.loop-edge.packed.items c.loop-edge.places.items c.requires.at_nodes c.loop-edge-test.true c.edge-item.is c.loop-edge.invariant.so_far c.loop-edge.invariant.next in
-    let place : c.index-place.result.now ≡ p.q = c.index-place.ensures ∙ p.next c.index-place.result.now in
+    let p = put_at c.args.depths.now c.args.edges.now c.loop-edge.edge-index c.edge-item.result c.args.nodes.now c.loop-edge.packed.items c.loop-edge.counts.items c.requires.at_nodes c.loop-edge-test.true c.edge-item.is c.requires.nodes c.loop-edge.invariant.so_far c.loop-edge.invariant.counted in
+    let none : PackedNode = record { depth = 0; first = 0 } in
+    let place : (get_or c.args.nodes.now c.edge-item.result.node none).first + c.index-count.result.now ≡ p.q = ap (λ n. (get_or c.args.nodes.now c.edge-item.result.node none).first + n) c.index-count.ensures ∙ p.next none c.index-count.result.now in
     record {
       so_far = ap (λ q. set c.loop-edge.packed.items q c.in_ok-packed-2.field-0) place ∙ ap (set c.loop-edge.packed.items p.q) c.in_ok-packed-2.ensures ∙ p.packed_is;
-      next = ap (set c.loop-edge.places.items c.edge-item.result.node) (c.in_ok-places-2.ensures ∙ ap (λ q. q + 1) place) ∙ p.places_are;
+      counted = p.counts_are c.index-count.result.now c.index-count.ensures;
     }
 
 pub returns : goal.returns
