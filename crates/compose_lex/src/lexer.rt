@@ -167,6 +167,7 @@ fn behind_include(rest: &str) -> Option<&str>
 }
 
 /// A line, behind its first blanks.
+#[inline(always)]
 fn reading_at<'a>(
     line_len: usize,
     rest: &'a str,
