@@ -32,7 +32,7 @@ impl Model for Draft {
 }
 
 impl Draft {
-    ghost use Rattle.std.specs.Prelude.{◌≡◌, ◌++◌, ℕ, List, [], ◌∷◌, length, OnOk, IsTrue, encode_utf8};
+    ghost use Rattle.std.specs.Prelude.{◌≡◌, ◌++◌, ℕ, List, [], ◌∷◌, length, OnOk, OnErr, IsTrue, encode_utf8};
     ghost use Rattle.compose_model.specs.Table.{is_definition, is_table};
     ghost use Rattle.compose_lex.specs.Lexed.{PushGives};
     ghost use Rattle.compose_lex.specs.Escape.{text_of, Unescapes, IsText};
@@ -76,9 +76,10 @@ impl Draft {
         self.first_byte = self.texts.len();
     }
 
-    /// Puts a keysym behind those of the definition that is being read. O(1).
+    /// Puts a keysym behind those of the definition that is being read. A refusal changes nothing. O(1).
     pub(crate) fn push_keysym(&mut self, keysym: Keysym) -> Result<(), AllocError>
-        ensures { OnOk result (self.new ≡ with_row self.old (record { sequence = self.old.row.sequence ++ keysym ∷ []; text = self.old.row.text })) }
+        ensures pushed { OnOk result (self.new ≡ with_row self.old (record { sequence = self.old.row.sequence ++ keysym ∷ []; text = self.old.row.text })) }
+        ensures unchanged { OnErr result (self.new ≡ self.old) }
     {
         self.keysyms.push(keysym)?;
         Ok(())
@@ -93,18 +94,20 @@ impl Draft {
         push_text(&mut self.texts, raw)
     }
 
-    /// Puts a character behind the text of the definition. O(1).
+    /// Puts a character behind the text of the definition. A refusal changes nothing. O(1).
     pub(crate) fn push_character(&mut self, character: char) -> Result<(), AllocError>
-        ensures { OnOk result (self.new ≡ with_row self.old (record { sequence = self.old.row.sequence; text = self.old.row.text ++ encode_utf8 character })) }
+        ensures pushed { OnOk result (self.new ≡ with_row self.old (record { sequence = self.old.row.sequence; text = self.old.row.text ++ encode_utf8 character })) }
+        ensures unchanged { OnErr result (self.new ≡ self.old) }
     {
         self.texts.push(character)?;
         Ok(())
     }
 
-    /// Puts the definition that is being read behind the others. O(1).
+    /// Puts the definition that is being read behind the others. A refusal changes nothing. O(1).
     pub(crate) fn finish(&mut self) -> Result<(), AllocError>
         requires { IsTrue (is_definition self.old.row) }
-        ensures { OnOk result (self.new.table ≡ self.old.table ++ self.old.row ∷ []) }
+        ensures finished { OnOk result (self.new.table ≡ self.old.table ++ self.old.row ∷ []) }
+        ensures unchanged { OnErr result (self.new ≡ self.old) }
     {
         let place = RowPlace {
             first_keysym: place_of(self.first_keysym)?,

@@ -21,7 +21,7 @@ pub loop-index-preserved : goal.loop-index-preserved
 loop-index-preserved c =
     let names = c.args.names.now in let events = c.args.events.now in let index = c.loop-index.index in
     let within : index < length events = omega arith in
-    let pushed = ap (λ (d : Drafted). d.row.sequence) c.in_ok-push_keysym.ensures in record {
+    let pushed = ap (λ (d : Drafted). d.row.sequence) c.in_ok-push_keysym.ensures.pushed in record {
       exact = λ bytes.
           ap (λ ks. sequence_behind names (visit c.args.place bytes) events ks (index + 1)) pushed
           ∙ sym (event_taken names (visit c.args.place bytes) events c.loop-index.draft.row.sequence index _ c.in_ok-event_keysym.field-0 within (c.in_ok-event_keysym.ensures.exact bytes))

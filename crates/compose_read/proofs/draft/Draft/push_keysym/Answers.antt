@@ -8,8 +8,8 @@ invariant_of-self-2 c =
     with_keysym c.self.inside.keysyms.items (string_bytes c.self.inside.texts) c.self.inside.places.items c.self.inside.first_keysym c.self.inside.first_byte c.self.invariant
     c.push.new.self.items c.args.keysym c.in_ok-push.ensures.items
 
-pub returns : goal.returns
-returns c =
+pub returns-clause-pushed : goal.returns-clause-pushed
+returns-clause-pushed c =
     drafted_keysym c.self.inside.keysyms.items (string_bytes c.self.inside.texts) c.self.inside.places.items c.self.inside.first_keysym c.self.inside.first_byte c.self.invariant
     c.push.new.self.items c.args.keysym c.in_ok-push.ensures.items
     ∙ ap (λ (d : Drafted). with_row d (record { sequence = d.row.sequence ++ c.args.keysym ∷ []; text = d.row.text })) c.self.view_is
