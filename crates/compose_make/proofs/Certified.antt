@@ -14,7 +14,7 @@ use Rattle.compose_model.proofs.NodeLemmas.{same_is}
 use Rattle.compose_read.specs.Settle.{IsSettled}
 use Rattle.compose_cert.specs.Repertoire.{IsRepertoire}
 use Rattle.compose_cert.specs.Spelling.{max_count, are_counted, is_typed}
-use Rattle.compose_tree.proofs.Lookups.{sequence_few}
+use Rattle.compose_model.proofs.Definitions.{sequence_few}
 use Rattle.compose_model.specs.Nodes.{nodes, number_of}
 use Rattle.compose_model.specs.Step.{pending}
 use Rattle.compose_check.specs.declared.fault.CheckFault.{CheckFault}

@@ -18,7 +18,8 @@ use Rattle.compose_model.specs.Certificate.{Repertoire, is_key}
 use Rattle.compose_model.proofs.Tests.{both_at, list_any-weaker}
 use Rattle.compose_model.proofs.Steps.{effect_tells, effect_is, pending_from-append}
 use Rattle.compose_model.proofs.NodeLemmas.{same_is, same_from, edge_extends, extended_is_node}
-use Rattle.compose_model.proofs.Reached.{IsReached, node_reached, fed_of, steps_from-append, root_reached}
+use Rattle.compose_model.proofs.Definitions.{sequence_fed}
+use Rattle.compose_model.proofs.Reached.{IsReached, node_reached, steps_from-append, root_reached}
 use Rattle.compose_walk.specs.Evidence.{comes_first}
 use Rattle.compose_make.specs.Least.{are_keys, spells, is_plain, is_plain_key, is_whole, is_candidate, IsLeastTyping, IsLeastOf}
 use Rattle.compose_make.proofs.Order.{first_by_length, first_then}
@@ -184,7 +185,7 @@ module _ (names : KeysymNames) (table : List Definition) (repertoire : Repertoir
     fed_last : (p : List ℕ) (k : ℕ) → is_sequence table (p ++ k ∷ []) ≡ true → is_ignored k ≡ false
     fed_last p k h =
         let d = both_at is_definition (λ (d : Definition). same (p ++ k ∷ []) d.sequence) table sound h in
-        let keys : list_all (λ j. is_keysym j && not (is_ignored j)) (p ++ k ∷ []) ≡ true = ap (list_all (λ j. is_keysym j && not (is_ignored j))) (same_is (p ++ k ∷ []) d.0.sequence d.2) ∙ fed_of d.0 d.1 in
+        let keys : list_all (λ j. is_keysym j && not (is_ignored j)) (p ++ k ∷ []) ≡ true = ap (list_all (λ j. is_keysym j && not (is_ignored j))) (same_is (p ++ k ∷ []) d.0.sequence d.2) ∙ sequence_fed d.0 d.1 in
         not-true (is_ignored k) (and_parts (is_keysym k) (not (is_ignored k)) (last_of (λ j. is_keysym j && not (is_ignored j)) p k keys).1).1
 
     sequence_types : (c : ℕ) (p : List ℕ) (k : ℕ) → Whole c (p ++ k ∷ []) → Types names table (p ++ k ∷ []) c

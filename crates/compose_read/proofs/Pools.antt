@@ -11,6 +11,7 @@ use Rattle.std.proofs.lemmas.List.Folds.{list_all-append}
 use Rattle.std.proofs.lemmas.Bool.{cases_Bool, and_parts, and_from, ltb-true, ltb-false, leb-true}
 use Rattle.std.proofs.lemmas.Str.{IsCharBoundary-at_seam, IsCharBoundary-end, IsUtf8-nil}
 use Rattle.compose_model.specs.Table.{Definition, is_definition, is_table}
+use Rattle.compose_model.proofs.Definitions.{sequence_few}
 use Rattle.compose_lex.specs.Escape.{Unescapes, IsText}
 use Rattle.compose_lex.specs.Lexed.{PushGives}
 use Rattle.compose_lex.specs.declared.LexFault.{LexFault}
@@ -63,13 +64,6 @@ module _ (keysyms texts more text : List ℕ) (u : IsUtf8 text) where
   rows_stay (p ∷ ps) h = ap₂ (λ d ds. d ∷ ds) (row_stays p (h 0 p (omega arith))) (rows_stay ps (λ k d l. h (suc k) d (omega arith)))
 
 -- ---- definitions that are being read
-
-pub definition_fits : (d : Definition) → is_definition d ≡ true → (length d.sequence ≤ 32) × (length d.text ≤ 255)
-definition_fits d h =
-    let a = and_parts (nat_lt 0 (length d.sequence) && nat_le (length d.sequence) 32 && list_all is_fed d.sequence) (nat_le (length d.text) 255) h in
-    let b = and_parts (nat_lt 0 (length d.sequence) && nat_le (length d.sequence) 32) (list_all is_fed d.sequence) a.0 in
-    let c = and_parts (nat_lt 0 (length d.sequence)) (nat_le (length d.sequence) 32) b.0 in
-    (leb-true (length d.sequence) 32 c.1, leb-true (length d.text) 255 a.1)
 
 abbrev pub IsDrafted : List ℕ → List ℕ → List RowPlace → ℕ → ℕ → Type 0
 IsDrafted keysyms texts places first_keysym first_byte = ArePlaced keysyms texts places × (first_keysym ≤ length keysyms) × IsCharBoundary texts first_byte × IsTrue (is_table (rows_of keysyms texts places))
@@ -151,7 +145,7 @@ module _ (ks ts : List ℕ) (ps : List RowPlace) (fk fb : ℕ) (is : IsDrafted k
 
     there : IsPlaced ks ts p
     there = let l = length-drop fk ks in let k = is.1 in let b = is.2.0 in record {
-      few = (let f = definition_fits (record { sequence = drop fk ks; text = drop fb ts }) definition in omega (arith, f.0));
+      few = (let f = sequence_few (record { sequence = drop fk ks; text = drop fb ts }) definition in omega arith);
       keysyms_within = omega arith;
       starts = subst (IsCharBoundary ts) (sym byte_from) is.2;
       ends = subst (IsCharBoundary ts) (omega arith) (IsCharBoundary-end ts);

@@ -14,6 +14,7 @@ use Rattle.std.proofs.lemmas.Map.Views.{length-le_from_below}
 use Rattle.keysym_core.specs.Keysym.{is_keysym, is_ignored}
 use Rattle.compose_model.specs.Table.{Definition, same, is_proper_prefix, is_sequence, is_extended, text_at, is_table, is_definition}
 use Rattle.compose_model.specs.Nodes.{nodes, leaves, is_node, node, number_of, has_edge, edges}
+use Rattle.compose_model.proofs.Definitions.{sequence_few, sequence_fed, text_few, definition_at}
 use Rattle.compose_model.proofs.Tests.{both_at}
 use Rattle.compose_model.proofs.NodeLemmas.{same_is, same_from, node_means, root_first, keysyms_are, edge_key, listed_edge}
 use Rattle.compose_model.proofs.Exact.{sequence_text}
@@ -27,37 +28,6 @@ use Rattle.compose_tree.proofs.Prefixes.{Before, not_before_itself, all_found_ke
 use Rattle.compose_tree.proofs.OneMore.{edges_sorted, edge_is_listed}
 use Rattle.compose_tree.proofs.NextIn.{head_before, tail_rises}
 use Rattle.compose_tree.proofs.Adding.{leaves_are}
-
--- ---- what a definition keeps to
-
-pub sequence_few : (d : Definition) → is_definition d ≡ true → length d.sequence ≤ 32
-sequence_few d h =
-    let len = length d.sequence in
-    let keys = list_all (λ k. is_keysym k && not (is_ignored k)) d.sequence in
-    leb-true len 32 (and_parts (nat_lt 0 len) (nat_le len 32) (and_parts (nat_lt 0 len && nat_le len 32) keys (and_parts (nat_lt 0 len && nat_le len 32 && keys) (nat_le (length d.text) 255) h).0).0).1
-
-pub sequence_some : (d : Definition) → is_definition d ≡ true → 0 < length d.sequence
-sequence_some d h =
-    let len = length d.sequence in
-    let keys = list_all (λ k. is_keysym k && not (is_ignored k)) d.sequence in
-    ltb-true 0 len (and_parts (nat_lt 0 len) (nat_le len 32) (and_parts (nat_lt 0 len && nat_le len 32) keys (and_parts (nat_lt 0 len && nat_le len 32 && keys) (nat_le (length d.text) 255) h).0).0).0
-
-keysyms_fit : (d : Definition) → is_definition d ≡ true → list_all (λ k. is_keysym k && not (is_ignored k)) d.sequence ≡ true
-keysyms_fit d h =
-    let len = length d.sequence in
-    let keys = list_all (λ k. is_keysym k && not (is_ignored k)) d.sequence in
-    (and_parts (nat_lt 0 len && nat_le len 32) keys (and_parts (nat_lt 0 len && nat_le len 32 && keys) (nat_le (length d.text) 255) h).0).1
-
-pub text_few : (d : Definition) → is_definition d ≡ true → length d.text ≤ 255
-text_few d h =
-    let len = length d.sequence in
-    let keys = list_all (λ k. is_keysym k && not (is_ignored k)) d.sequence in
-    leb-true (length d.text) 255 (and_parts (nat_lt 0 len && nat_le len 32 && keys) (nat_le (length d.text) 255) h).1
-
-pub definition_at : (table : List Definition) (i : ℕ) (d : Definition) → is_table table ≡ true → i < length table → is_definition (get_or table i d) ≡ true
-definition_at [] i d t h = absurd (omega arith)
-definition_at (e ∷ table) zero d t h = (and_parts (is_definition e) (is_table table) t).0
-definition_at (e ∷ table) (suc i) d t h = definition_at table i d (and_parts (is_definition e) (is_table table) t).1 (omega arith)
 
 -- ---- nodes
 
@@ -186,7 +156,7 @@ keysym_fits k j is fits = let l : j ≤ 536870911 = leb-true j 536870911 fits in
 pub edge_fits : (table : List Definition) (p : List ℕ) (k : ℕ) → is_table table ≡ true → has_edge table p k ≡ true → k < 536870912
 edge_fits table p k t h =
     let d = both_at is_definition (λ (d : Definition). list_any (λ j. k == j) d.sequence) table t (sym (keysyms_are table (λ j. k == j)) ∙ edge_key table p k h) in
-    let j = both_at (λ j. is_keysym j && not (is_ignored j)) (λ j. k == j) d.0.sequence (keysyms_fit d.0 d.1) d.2 in
+    let j = both_at (λ j. is_keysym j && not (is_ignored j)) (λ j. k == j) d.0.sequence (sequence_fed d.0 d.1) d.2 in
     keysym_fits k j.0 (eqb-true k j.0 j.2) (and_parts (is_keysym j.0) (not (is_ignored j.0)) j.1).0
 
 -- so no node has more edges than there are keysyms

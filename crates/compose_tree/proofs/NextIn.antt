@@ -11,6 +11,7 @@ use Rattle.std.proofs.lemmas.List.Folds.{list_any-append}
 use Rattle.keysym_core.specs.Keysym.{is_keysym, is_ignored}
 use Rattle.compose_model.specs.Table.{Definition, same, is_proper_prefix, is_sequence, is_extended, is_prefix_free, is_table, is_definition}
 use Rattle.compose_model.specs.Nodes.{proper_prefixes, nodes, is_node, number_of}
+use Rattle.compose_model.proofs.Definitions.{sequence_some}
 use Rattle.compose_model.proofs.NodeLemmas.{same_is, same_from, root_is_node, extended_is_node}
 use Rattle.compose_model.proofs.Lift.{not_extended}
 use Rattle.compose_model.proofs.SameTable.{extended_from}
@@ -217,17 +218,10 @@ module _ (c : Definition) (rows : List Definition) (d : Definition) (rise : sequ
 
 -- behind each front of a settled table the next definition goes on
 pub next_of_settled : (table : List Definition) (d : Definition) → IsSettled (table ++ d ∷ []) → Next table d
-next_of_settled [] d s = go d.sequence refl (nonempty d s.definitions)
+next_of_settled [] d s = go d.sequence refl (sequence_some d (and_parts (is_definition d) true s.definitions).0)
   where
-    nonempty : (d : Definition) → is_table (d ∷ []) ≡ true → nat_lt 0 (length d.sequence) ≡ true
-    nonempty d h =
-        let len = length d.sequence in
-        let keys = list_all (λ k. is_keysym k && not (is_ignored k)) d.sequence in
-        (and_parts (nat_lt 0 len) (nat_le len 32) (and_parts (nat_lt 0 len && nat_le len 32) keys
-        (and_parts (nat_lt 0 len && nat_le len 32 && keys) (nat_le (length d.text) 255) (and_parts (is_definition d) true h).0).0).0).0
-
-    go : (t : List ℕ) → d.sequence ≡ t → nat_lt 0 (length d.sequence) ≡ true → Next [] d
-    go [] e h = let f : nat_lt 0 0 ≡ true = ap (λ t. nat_lt 0 (length t)) (sym e) ∙ h in cc
+    go : (t : List ℕ) → d.sequence ≡ t → 0 < length d.sequence → Next [] d
+    go [] e h = absurd (let none : length d.sequence ≡ 0 = ap length e in omega arith)
     go (k ∷ rest) e h = first_next d k rest e s.prefix_free
 next_of_settled (c ∷ rows) d s = later_next c rows d s.rise s.prefix_free
 

@@ -12,7 +12,8 @@ use Rattle.compose_tree.specs.declared.packed.PackedEdge.{PackedEdge}
 use Rattle.compose_tree.specs.declared.packed.PackedNode.{PackedNode}
 use Rattle.compose_tree.specs.Targets.{leaf_text}
 use Rattle.compose_tree.specs.Packed.{packed_places, pool, texts_of, IsPacked}
-use Rattle.compose_tree.proofs.Lookups.{leaves_count, leaf_text_is, text_few, definition_at}
+use Rattle.compose_model.proofs.Definitions.{text_few, definition_at}
+use Rattle.compose_tree.proofs.Lookups.{leaves_count, leaf_text_is}
 use Rattle.compose_tree.proofs.Unpacking.{piece}
 
 -- the place of text i and of the one behind it, counted from a place, and its bytes in the pool

@@ -19,7 +19,8 @@ use Rattle.compose_tree.specs.Rows.{NodeRow, where_to, edge_of, row_of, rows_of}
 use Rattle.compose_tree.specs.Packed.{spelled, spelled_behind}
 use Rattle.compose_tree.proofs.Prefixes.{behind_sorted, joined_sorted, prefix_of_longer}
 use Rattle.compose_tree.proofs.OneMore.{edges_sorted, edge_is_listed, is_leaf, leaves_sorted, at_node, at_leaf, not_root}
-use Rattle.compose_tree.proofs.Lookups.{node_few, sequence_some}
+use Rattle.compose_model.proofs.Definitions.{sequence_some}
+use Rattle.compose_tree.proofs.Lookups.{node_few}
 use Rattle.compose_tree.proofs.Adding.{leaves_are}
 
 flat_map_of_map : {X Y Z : Type 0} (g : Y → List Z) (h : X → Y) (xs : List X) → flat_map g (map h xs) ≡ flat_map (λ x. g (h x)) xs

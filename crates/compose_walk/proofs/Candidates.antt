@@ -14,7 +14,8 @@ use Rattle.compose_model.specs.Certificate.{AreFresh}
 use Rattle.compose_model.proofs.Tests.{both_at, list_any-weaker}
 use Rattle.compose_model.proofs.Steps.{effect_tells, ignored_key, no_cancel_test, pending_from-append, uncancelled_head, uncancelled_rest}
 use Rattle.compose_model.proofs.NodeLemmas.{same_is, node_means, extended_is_node}
-use Rattle.compose_model.proofs.Reached.{IsReached, root_reached, reached_more, node_reached, shorter_prefix, fed_of, uncancelled_from-append}
+use Rattle.compose_model.proofs.Definitions.{sequence_fed}
+use Rattle.compose_model.proofs.Reached.{IsReached, root_reached, reached_more, node_reached, shorter_prefix, uncancelled_from-append}
 use Rattle.compose_model.proofs.Avoids.{avoids_both, node_avoids, edge_not_fresh}
 use Rattle.compose_model.proofs.Exact.{edge_fed, edge_goes_on}
 use Rattle.compose_walk.specs.Evidence.{Evidence, Shows, IsLeast, IsDifference, comes_first}
@@ -36,7 +37,7 @@ prefix_fed (j ∷ p) (x ∷ s) h a =
 pub node_fed : (table : List Definition) (p : List ℕ) → is_table table ≡ true → is_node table p ≡ true → list_all (λ j. not (is_ignored j)) p ≡ true
 node_fed table p t h = elim (or_cases (same p []) (is_extended table p) (sym (node_means table p) ∙ h)) [
   | inl e ↦ ap (list_all (λ j. not (is_ignored j))) (same_is p [] e)
-  | inr e ↦ (let d = both_at is_definition (λ (d : Definition). is_proper_prefix p d.sequence) table t e in prefix_fed p d.0.sequence d.2 (fed_of d.0 d.1))
+  | inr e ↦ (let d = both_at is_definition (λ (d : Definition). is_proper_prefix p d.sequence) table t e in prefix_fed p d.0.sequence d.2 (sequence_fed d.0 d.1))
 ]
 
 -- what begins a node is a node

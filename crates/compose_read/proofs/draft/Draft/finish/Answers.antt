@@ -1,16 +1,18 @@
 use Rattle.std.proofs.Common.{◌≡◌, true, drop, sym, subst, arith, string_bytes}
 use Rattle.std.proofs.lemmas.List.{length-drop}
-use Rattle.compose_model.specs.Table.{is_definition}
+use Rattle.compose_model.specs.Table.{Definition, is_definition}
+use Rattle.compose_model.proofs.Definitions.{sequence_few, text_few}
 use Rattle.compose_read.specs.Rows.{Drafted}
-use Rattle.compose_read.proofs.Pools.{definition_fits, finished_with}
+use Rattle.compose_read.proofs.Pools.{finished_with}
 use Rattle.compose_read.proofs.draft.Draft.finish.Goals as goal
 
 pub invariant_of-self-2 : goal.invariant_of-self-2
 invariant_of-self-2 c =
     let ks = c.self.inside.keysyms.items in let ts = string_bytes c.self.inside.texts in
     let definition = subst (λ (d : Drafted). is_definition d.row ≡ true) (sym c.self.view_is) c.requires in
-    let fits = definition_fits (record { sequence = drop c.self.inside.first_keysym ks; text = drop c.self.inside.first_byte ts }) definition in
+    let row : Definition = record { sequence = drop c.self.inside.first_keysym ks; text = drop c.self.inside.first_byte ts } in
+    let few = sequence_few row definition in let short = text_few row definition in
     let keysyms = length-drop c.self.inside.first_keysym ks in let bytes = length-drop c.self.inside.first_byte ts in
     finished_with c.self.inside.keysyms.items (string_bytes c.self.inside.texts) c.self.inside.places.items c.self.inside.first_keysym c.self.inside.first_byte c.self.invariant _
-    c.in_ok-place_of.ensures c.in_ok-place_of-2.ensures (omega (arith, fits.0, keysyms, c.self.invariant.1, c.len.ensures)) (omega (arith, fits.1, bytes, c.self.invariant.2.0, c.len-2.ensures)) definition
+    c.in_ok-place_of.ensures c.in_ok-place_of-2.ensures (omega (arith, few, keysyms, c.self.invariant.1, c.len.ensures)) (omega (arith, short, bytes, c.self.invariant.2.0, c.len-2.ensures)) definition
     c.push.new.self.items c.in_ok-push.ensures.items
