@@ -1,5 +1,5 @@
 //! Settling: each sequence once, in rising order, and none that begins another.
-ghost use Rattle.std.specs.Prelude.{◌≡◌, ◌≤◌, ◌<◌, ◌+◌, ◌*◌, ◌%◌, ℕ, List, length, map, slice_index, slice_index_or, nat_eq, IfOk, OnOk, IsTrue};
+ghost use Rattle.std.specs.Prelude.{◌≡◌, ◌≤◌, ◌<◌, ◌+◌, ◌*◌, ◌%◌, ℕ, List, length, map, slice_index, slice_index_or, nat_eq, true, false, IfOk, OnOk, IsTrue};
 ghost use Rattle.compose_model.specs.Table.{Definition};
 ghost use Rattle.keysym_core.specs.Names.{KeysymNames};
 ghost use Rattle.compose_model.specs.Table.{IsSameTable};
@@ -164,11 +164,10 @@ fn numbers(alloc: Global, keysyms: &[Keysym], places: &[RowPlace]) -> Result<Vec
 fn digits(alloc: Global, keysyms: &[Keysym]) -> Result<Vec<u16>, AllocError>
     ensures { IfOk result (λ r. r.items ≡ map digit keysyms.now) }
 {
-    let mut digits = Vec::with_capacity(alloc, keysyms.len())?;
-    for keysym in keysyms {
-        digits.push(digit(*keysym))?;
-    }
-    Ok(digits)
+    keysyms
+        .iter()
+        .map(|keysym| digit(*keysym))
+        .collect(alloc)
 }
 
 /// How many indexes a number can have.
@@ -223,7 +222,9 @@ fn settle_sorted(
     for place in places {
         if let Some(before) = last {
             let (short, long) = (keysyms_at(keysyms, before), keysyms_at(keysyms, place));
-            if stays_before(short, long, rule)? {
+            if begins(short, long) {
+                leave_out(short, long, rule)?;
+            } else {
                 kept.push(before)?;
             }
         }
@@ -235,23 +236,21 @@ fn settle_sorted(
     Ok(kept)
 }
 
-/// Whether a row stays before the next one, by their sequences.
-fn stays_before(short: &[Keysym], long: &[Keysym], rule: Rule) -> Result<bool, SettleFault>
-    requires { (length short.now ≤ 32) × (length long.now ≤ 32) }
-    ensures { (d e : Definition) → d.sequence ≡ short.now → e.sequence ≡ long.now → SettleGives (λ b. b) result (stays_before rule d e) }
+/// Leaves out a row whose sequence begins that of the next one, or refuses it where that one is longer and the rule says so.
+fn leave_out(short: &[Keysym], long: &[Keysym], rule: Rule) -> Result<(), SettleFault>
+    requires few { (length short.now ≤ 32) × (length long.now ≤ 32) }
+    requires begins { starts_with nat_eq long.now short.now ≡ true }
+    ensures { (d e : Definition) → d.sequence ≡ short.now → e.sequence ≡ long.now → SettleGives (λ _. false) result (stays_before rule d e) }
 {
-    if !begins(short, long) {
-        return Ok(true);
-    }
     if long.len() == short.len() {
-        return Ok(false);
+        return Ok(());
     }
     match rule {
         Rule::Refuse => Err(SettleFault::Overlap {
             short: key_list(short),
             long: key_list(long),
         }),
-        Rule::Longest => Ok(false),
+        Rule::Longest => Ok(()),
     }
 }
 
