@@ -76,17 +76,33 @@ fn sorted(
     ensures same { IfOk result (λ r. (texts : List ℕ) → IsSameTable (rows_of keysyms.now texts r.items) (rows_of keysyms.now texts places.items)) }
     ensures placed { IfOk result (λ r. (texts : List ℕ) → ArePlaced keysyms.now texts places.items → ArePlaced keysyms.now texts r.items) }
 {
-    let mut sorted = guessed(alloc, keysyms, &places)?;
+    let mut sorted = guessed(alloc, keysyms, places)?;
     sort_run(alloc, keysyms, &mut sorted)?;
     Ok(sorted)
 }
 
-/// The places in about the order of their sequences, those of one sequence in the order in which they were. It is quick, since numbers are sorted, and sequences only where these have one front. NoMemory for more than 131,071 places; a table has at most 100,000 definitions.
+/// The places in about the order of their sequences, those of one sequence in the order in which they were. More of them than a number has indexes stay as they are; a table has at most 100,000 definitions.
 fn guessed(
+    alloc: Global,
+    keysyms: &[Keysym],
+    places: Vec<RowPlace>,
+) -> Result<Vec<RowPlace>, AllocError>
+    ensures permutation { IfOk result (λ r. IsPermutation places.items r.items) }
+    ensures stable { IfOk result (λ r. IsStableBy (by_sequence keysyms.now) places.items r.items) }
+{
+    if places.len() as u64 >= INDEXES {
+        return Ok(places);
+    }
+    sorted_by_front(alloc, keysyms, &places)
+}
+
+/// The places in the order of the digits of their sequences, and those whose digits are alike in that of the sequences. It is quick, since numbers are sorted, and few sequences.
+fn sorted_by_front(
     alloc: Global,
     keysyms: &[Keysym],
     places: &[RowPlace],
 ) -> Result<Vec<RowPlace>, AllocError>
+    requires { length places.now < 131072 }
     ensures permutation { IfOk result (λ r. IsPermutation places.now r.items) }
     ensures stable { IfOk result (λ r. IsStableBy (by_sequence keysyms.now) places.now r.items) }
 {
@@ -147,11 +163,9 @@ fn picked(alloc: Global, places: &[RowPlace], numbers: &[u64]) -> Result<Vec<Row
 
 /// The numbers of the places.
 fn numbers(alloc: Global, keysyms: &[Keysym], places: &[RowPlace]) -> Result<Vec<u64>, AllocError>
+    requires { length places.now < 131072 }
     ensures { IfOk result (λ r. AreNumbers keysyms.now places.now r.items) }
 {
-    if places.len() as u64 >= INDEXES {
-        return Err(AllocError);
-    }
     let digits = digits(alloc, keysyms)?;
     let mut numbers = Vec::with_capacity(alloc, places.len())?;
     for (index, place) in places.iter().enumerate() {
@@ -164,10 +178,7 @@ fn numbers(alloc: Global, keysyms: &[Keysym], places: &[RowPlace]) -> Result<Vec
 fn digits(alloc: Global, keysyms: &[Keysym]) -> Result<Vec<u16>, AllocError>
     ensures { IfOk result (λ r. r.items ≡ map digit keysyms.now) }
 {
-    keysyms
-        .iter()
-        .map(|keysym| digit(*keysym))
-        .collect(alloc)
+    keysyms.iter().map(|keysym| digit(*keysym)).collect(alloc)
 }
 
 /// How many indexes a number can have.

@@ -6,7 +6,7 @@ use Rattle.std.proofs.lemmas.List.Sorted.{IsPermutation-trans}
 use Rattle.compose_read.specs.Guess.{by_sequence}
 use Rattle.compose_read.specs.declared.rows.RowPlace.{RowPlace}
 use Rattle.compose_read.proofs.Guess.{none, given_back, place_of, sorted_within, picked_permutation, picked_stable}
-use Rattle.compose_read.proofs.settling.guessed.Goals as goal
+use Rattle.compose_read.proofs.settling.sorted_by_front.Goals as goal
 
 pub picked-requires : goal.picked-requires
 picked-requires c =
