@@ -1,6 +1,7 @@
 #!/usr/bin/env python3
 """The gate: `rt ci` from nothing, then the command-line cases against both built programs, `composecheck` and the same on the
-plain form of a table, and the second reading of lines against `composecheck`.
+plain form of a table, some of them again with each allocation refused in turn, and the second reading of lines against
+`composecheck`.
 
 The last line is `N passed, M failed` over all."""
 import os
@@ -36,7 +37,8 @@ def main():
     passed, failed = follow(["rt", "ci"])
     if failed == 0:
         shutil.copy(built("composecheck"), PROGRAM)
-        runs = [("run.py", PROGRAM), ("run.py", built("composecheck_plain")), ("lex_reference.py", PROGRAM)]
+        plain = built("composecheck_plain")
+        runs = [("run.py", PROGRAM), ("run.py", plain), ("refusals.py", PROGRAM), ("refusals.py", plain), ("lex_reference.py", PROGRAM)]
         for script, program in runs:
             more = follow([sys.executable, os.path.join("tests", script), program])
             passed, failed = passed + more[0], failed + more[1]

@@ -1,4 +1,7 @@
 //! `composecheck check`: whether a certificate shows that the new table follows the old one.
+ghost use Rattle.std.specs.Prelude.{◌≡◌, IfOk};
+ghost use Rattle.compose_commands.specs.Ends.{check_ends};
+
 use crate::inputs::{MoveFiles, read_given};
 use crate::outcome::Outcome;
 use crate::refusal::Refusal;
@@ -48,7 +51,9 @@ fn check_files<T: ComposeTable>(
 }
 
 /// Prints `yes`, or `no` and the first demand that is not met.
-fn print_verdict(rt: &impl Print, verdict: Verdict) -> Result<Outcome, Refusal> {
+fn print_verdict(rt: &impl Print, verdict: Verdict) -> Result<Outcome, Refusal>
+    ensures { IfOk result (λ outcome. outcome ≡ check_ends verdict) }
+{
     match verdict {
         Verdict::Yes => {
             println!(rt; "yes")?;

@@ -1,11 +1,14 @@
 //! The commands by their names, and how a run ends.
-ghost use Rattle.std.specs.Prelude.{◌≤◌};
+ghost use Rattle.std.specs.Prelude.{◌≡◌, ◌≤◌, IfOk};
 ghost use Rattle.std.specs.Process.{exit_status};
+ghost use Rattle.clap.specs.Words.{kind_of};
+ghost use Rattle.compose_commands.specs.Ends.{words_end, command_ends};
 
 use crate::outcome::Outcome;
 use crate::refusal::Refusal;
 use crate::{checking, explaining, making, typing, words};
 use clap::ArgMatches;
+use clap::error::ErrorKind;
 use compose_tree::ComposeTable;
 use std::process::ExitCode;
 use std::rt::{Env, Files};
@@ -40,13 +43,20 @@ fn read_words(rt: &(impl Env + AllocGlobal)) -> io::Result<Vec<String>> {
 }
 
 /// Prints the help that the words ask for, or why they are refused.
-fn answer_words(rt: &(impl Print + Eprint), error: &clap::Error) -> io::Result<Outcome> {
-    error.print(rt)?;
-    Ok(if error.exit_code() == 0 {
-        Outcome::Yes
-    } else {
-        Outcome::Refused
-    })
+fn answer_words(rt: &(impl Print + Eprint), error: &clap::Error) -> io::Result<Outcome>
+    ensures { IfOk result (λ outcome. outcome ≡ words_end (kind_of error.now)) }
+{
+    match error.kind() {
+        ErrorKind::OutOfMemory => finish(rt, Err(Refusal::NoMemory)),
+        ErrorKind::DisplayHelp | ErrorKind::DisplayVersion => {
+            error.print(rt)?;
+            Ok(Outcome::Yes)
+        }
+        _ => {
+            error.print(rt)?;
+            Ok(Outcome::Refused)
+        }
+    }
 }
 
 /// Runs the command that was named.
@@ -64,7 +74,9 @@ fn dispatch<T: ComposeTable>(
 }
 
 /// Prints why there is no answer, if there is none.
-fn finish(rt: &impl Eprint, ended: Result<Outcome, Refusal>) -> io::Result<Outcome> {
+fn finish(rt: &impl Eprint, ended: Result<Outcome, Refusal>) -> io::Result<Outcome>
+    ensures { IfOk result (λ outcome. outcome ≡ command_ends ended) }
+{
     match ended {
         Ok(outcome) => Ok(outcome),
         Err(refusal) => {

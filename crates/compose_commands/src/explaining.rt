@@ -1,4 +1,7 @@
 //! `composecheck explain`: the keys on which two tables differ.
+ghost use Rattle.std.specs.Prelude.{◌≡◌, IfOk};
+ghost use Rattle.compose_commands.specs.Ends.{explain_ends};
+
 use crate::inputs::{MoveFiles, read_fresh};
 use crate::outcome::Outcome;
 use crate::refusal::Refusal;
@@ -56,7 +59,9 @@ fn explain_move<T: ComposeTable>(
 }
 
 /// Prints what was explained.
-fn print_explained(rt: &impl Print, explained: Explained) -> Result<Outcome, Refusal> {
+fn print_explained(rt: &impl Print, explained: Explained) -> Result<Outcome, Refusal>
+    ensures { IfOk result (λ outcome. outcome ≡ explain_ends explained) }
+{
     match explained {
         Explained::Follows => {
             println!(rt; "follows")?;

@@ -1,4 +1,7 @@
 //! `composecheck make`: a certificate, or why there is none.
+ghost use Rattle.std.specs.Prelude.{◌≡◌, IfOk};
+ghost use Rattle.compose_commands.specs.Ends.{make_ends};
+
 use crate::inputs::{MoveFiles, read_fresh, read_given};
 use crate::outcome::Outcome;
 use crate::refusal::Refusal;
@@ -52,7 +55,9 @@ fn make_of_move<T: ComposeTable>(
 }
 
 /// Prints what was made.
-fn print_made(rt: &impl Print, made: MadeText) -> Result<Outcome, Refusal> {
+fn print_made(rt: &impl Print, made: MadeText) -> Result<Outcome, Refusal>
+    ensures { IfOk result (λ outcome. outcome ≡ make_ends made) }
+{
     match made {
         MadeText::Certificate(text) => {
             print!(rt; "{text}")?;

@@ -1,5 +1,6 @@
 //! How a run ends.
-ghost use Rattle.std.specs.Prelude.{◌≤◌};
+ghost use Rattle.std.specs.Prelude.{◌≡◌};
+ghost use Rattle.compose_commands.specs.Ends.{status_of};
 
 /// How a run ends, in the order of the exit statuses.
 #[derive(Clone, Copy, Debug, PartialEq, Eq, Drop)]
@@ -17,7 +18,7 @@ pub enum Outcome {
 impl Outcome {
     /// The exit status, 0 to 3.
     pub fn status(self) -> u8
-        ensures { result ≤ 3 }
+        ensures { result ≡ status_of self }
     {
         self as u8
     }

@@ -1,0 +1,89 @@
+#!/usr/bin/env python3
+"""refusals.py PROGRAM: some cases of tests/cases again, with each allocation of a run refused in turn.
+
+A library that is preloaded (tests/refuse.c) refuses them. A run gives the same answer as with ample memory, where it can do
+without, or else it ends with status 3, prints nothing to standard output, and to standard error nothing but that memory is
+out. A case is one test. The last line is `N passed, M failed`."""
+import concurrent.futures
+import os
+import subprocess
+import sys
+import tempfile
+
+from run import CASES, prepare, read
+
+CLANG = "/opt/rattle/toolchain/bin/clang"
+SOURCE = os.path.join(os.path.dirname(os.path.abspath(__file__)), "refuse.c")
+NAMES = [
+    "cancelling-key-is-swallowed",
+    "check-bound-exceeded",
+    "check-fresh-dead-key",
+    "explain-all-of-two-kinds",
+    "explain-cancels",
+    "include-last-definition-counts",
+    "make-fresh-dead-key",
+    "make-unreachable",
+    "names-greek",
+    "overlap-longest-of-three",
+    "overlap-refused",
+    "repertoire-keys-after-characters",
+    "words-help-for-type",
+    "words-missing-files",
+]
+OUT_OF_MEMORY = [(3, b"", b"out of memory\n"), (3, b"", b"")]
+
+
+def compile_library(folder):
+    """Compiles the library, and gives its path."""
+    library = os.path.join(folder, "refuse.so")
+    subprocess.run([CLANG, "-shared", "-fPIC", "-nostdlib", "-fuse-ld=lld", "-o", library, SOURCE], check=True)
+    return library
+
+
+def answer(command, folder, library, **words):
+    """The status of a run with these words for the library, and what it prints."""
+    environment = {"LD_PRELOAD": library} | {word: str(number) for word, number in words.items()}
+    files = [words["COUNT_TO"]] if "COUNT_TO" in words else []
+    ran = subprocess.run(
+        ["composecheck"] + command[1:],
+        executable=command[0],
+        cwd=folder,
+        env=environment,
+        stdin=subprocess.DEVNULL,
+        capture_output=True,
+        timeout=60,
+        pass_fds=files,
+    )
+    return ran.returncode, ran.stdout, ran.stderr
+
+
+def refuse_each(program, library, name):
+    """How many allocations the case asks for, and what is answered wrongly where one is refused, with its number."""
+    case = os.path.join(CASES, name)
+    command = [program] + read(os.path.join(case, "args")).decode().splitlines()
+    with tempfile.TemporaryDirectory() as folder, tempfile.TemporaryFile() as count:
+        prepare(case, folder)
+        right = answer(command, folder, library, COUNT_TO=count.fileno())
+        count.seek(0)
+        allocations = int(count.read())
+        answers = [(number, answer(command, folder, library, REFUSE=number)) for number in range(1, allocations + 1)]
+    return allocations, [(number, got) for number, got in answers if got not in [right] + OUT_OF_MEMORY]
+
+
+def main():
+    program = os.path.abspath(sys.argv[1])
+    failed = 0
+    with tempfile.TemporaryDirectory() as folder, concurrent.futures.ThreadPoolExecutor(os.cpu_count()) as pool:
+        library = compile_library(folder)
+        for name, (allocations, wrong) in zip(NAMES, pool.map(lambda name: refuse_each(program, library, name), NAMES)):
+            if wrong or allocations == 0:
+                failed += 1
+                print(f"FAILED {os.path.basename(program)}: {name}, of whose {allocations} allocations one is refused")
+                for number, got in wrong[:5]:
+                    print(f"    {number}: got {got!r:.300}")
+    print(f"{len(NAMES) - failed} passed, {failed} failed")
+    return 1 if failed else 0
+
+
+if __name__ == "__main__":
+    sys.exit(main())
