@@ -46,6 +46,7 @@ pub fn make<T: ComposeTable, U: ComposeTable>(
     ensures answer { first_unmet (fresh_demands (T.definitions old.now) fresh.now) ≡ None → length fresh.now ≤ 1048576
         → MatchResult result (IsMade names.now fresh.now (T.definitions old.now) (U.definitions new.now) repertoire.now) (λ e. e ≡ MakeFault.NoMemory) }
 {
+    // A call's contract says that the table is settled.
     let _ = old.node_count();
     match walk(alloc, old, new, names, fresh)? {
         Walk::Differs(counterexample) => Ok(Made::Differs(counterexample)),
@@ -67,6 +68,7 @@ fn certify<U: ComposeTable>(
     ensures { (old : List Definition) → AreFresh fresh.now old → IsFollower names.now fresh.now old (U.definitions new.now) pairs
         → MatchResult result (IsMade names.now fresh.now old (U.definitions new.now) repertoire.now) (λ e. e ≡ MakeFault.NoMemory) }
 {
+    // The contracts of these calls say that the table is settled and the repertoire sound.
     let _ = new.node_count();
     let _ = repertoire.count();
     let typings = match find_typings(alloc, new, names, repertoire)? {

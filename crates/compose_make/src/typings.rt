@@ -39,6 +39,7 @@ pub fn find_typings<U: ComposeTable>(
     ensures found { IfOk result (IsTypings names.now (U.definitions new.now) repertoire.now) }
     ensures err { IfErr result (λ e. e ≡ MakeFault.NoMemory) }
 {
+    // The contracts of these calls say that the table is settled and the repertoire sound.
     let _ = new.node_count();
     let _ = repertoire.count();
     let mut rows = wanted_rows(alloc, new, names, repertoire)?;

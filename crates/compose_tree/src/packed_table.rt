@@ -248,6 +248,7 @@ fn from_arrays(
     requires { words.IsPacked nodes.items edges.items places.items (string_bytes texts) sequences.now }
     ensures { result ≡ sequences.now }
 {
+    // The contract alone speaks of them.
     let _ = sequences;
     PackedTable {
         nodes,
