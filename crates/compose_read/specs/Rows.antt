@@ -32,9 +32,11 @@ pub record Drafted : Type 0 where
   pub table : List Definition
   pub row : Definition
 
+-- a definition of which nothing is read yet
 abbrev pub no_row : Definition
 no_row = record { sequence = []; text = [] }
 
+-- the same whole ones, and this one behind them
 abbrev pub with_row : Drafted → Definition → Drafted
 with_row d row = record { table = d.table; row = row }
 
