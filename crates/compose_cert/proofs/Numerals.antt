@@ -12,7 +12,7 @@ use Rattle.std.proofs.lemmas.Bool.{and_parts, and_from, eqb-true, eqb-false, leb
 use Rattle.std.proofs.lemmas.Fmt.{digits_is_IsNumeral, decimal-digits_value, first_decimal, decimal_digit, hex_one_digit}
 use Rattle.std.proofs.lemmas.Str.{digit_value_digit}
 use Rattle.std.proofs.lemmas.Str.Parse.{numerals_by_value, tells_digits, digit_from_value}
-use Rattle.keysym_core.specs.Keysym.{is_between}
+use Rattle.compose_text.specs.Numbers.{is_between}
 use Rattle.compose_cert.specs.declared.numeral.Notation.{Notation}
 use Rattle.compose_cert.specs.declared.numeral.Notation.TheVariants.{Decimal, LowerHexadecimal, UpperHexadecimal, EitherHexadecimal}
 use Rattle.compose_cert.specs.Numerals.{radix, numeral, is_digit, is_one_case, IsSpelled}

@@ -3,7 +3,7 @@ use Rattle.std.proofs.Common.{◌≡◌, ◌⊎◌, inl, inr, ℕ, zero, suc, �
 use Rattle.std.specs.Prelude.{nat_lt, nat_le, Some, Err}
 use Rattle.std.specs.List.{list_all, list_any}
 use Rattle.std.proofs.lemmas.Bool.{and_parts, and_from, and_left, and_right, ltb-true, leb-true, le-leb, lt-leb, le-ltb, or_left, or_right, or_from, cases_lt}
-use Rattle.keysym_core.specs.Keysym.{is_between}
+use Rattle.compose_text.specs.Numbers.{is_between}
 use Rattle.compose_model.specs.Certificate.{Repertoire, keys_rise}
 use Rattle.compose_cert.specs.Repertoire.{IsRepertoire, ranges_rise, max_entries, with_entry}
 use Rattle.compose_cert.specs.declared.entry.Entry.TheVariants.{Keys, Character}

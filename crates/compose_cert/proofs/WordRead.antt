@@ -8,9 +8,10 @@ use Rattle.std.specs.Cmp.Lexicographic.{bytes_decides}
 use Rattle.std.specs.Fmt.{digits, decimal}
 use Rattle.std.specs.Str.Parse.{digits_value}
 use Rattle.std.proofs.lemmas.Bool.{and_parts, and_from, and_left, and_right, leb-true, le-leb, ltb-true, eqb-true, lt-leb, ne_eqb, false≢true}
-use Rattle.keysym_core.specs.Keysym.{is_between, is_keysym}
+use Rattle.compose_text.specs.Numbers.{is_between}
+use Rattle.keysym_core.specs.Keysym.{is_keysym}
 use Rattle.keysym_core.specs.Names.{is_surrogate}
-use Rattle.keysym_core.specs.Lines.{divide}
+use Rattle.compose_text.specs.Lines.{divide}
 use Rattle.compose_cert.specs.declared.numeral.Notation.TheVariants.{Decimal, LowerHexadecimal, UpperHexadecimal}
 use Rattle.compose_cert.specs.Numerals.{numeral, padded, is_digit, IsSpelled}
 use Rattle.compose_cert.specs.Spelling.{character_text, keysym_text, is_number, is_character}

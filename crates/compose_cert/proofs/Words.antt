@@ -10,7 +10,7 @@ use Rattle.std.proofs.lemmas.Fmt.{digits_is_IsNumeral}
 use Rattle.std.proofs.lemmas.Bool.{and_parts, and_from, eqb-false, ltb-true, ltb-false, leb-true}
 use Rattle.keysym_core.specs.Keysym.{is_keysym}
 use Rattle.keysym_core.specs.Names.{is_surrogate}
-use Rattle.keysym_core.specs.Lines.{divide, onto_first}
+use Rattle.compose_text.specs.Lines.{divide, onto_first}
 use Rattle.compose_cert.specs.Spelling.{character_text, keysym_text, is_number, is_character, ended}
 use Rattle.compose_cert.specs.Reading.{written, number_of, keysym_of, character_of}
 

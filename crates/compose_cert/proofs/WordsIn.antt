@@ -3,7 +3,7 @@ use Rattle.std.proofs.Common.{◌≡◌, ◌≢◌, ℕ, zero, suc, ◌+◌, ◌
 use Rattle.std.specs.Prelude.{◌==◌, ◌||◌, nat_lt, filter}
 use Rattle.std.specs.List.{before_first, position_or_len}
 use Rattle.std.proofs.lemmas.Bool.{ne_eqb, lt-ltb, false≢true}
-use Rattle.keysym_core.specs.Lines.{divide, onto_first}
+use Rattle.compose_text.specs.Lines.{divide, onto_first}
 use Rattle.compose_cert.specs.Repertoire.{plain_blank, is_blank, words_in, before_comment}
 
 -- ---- comments

@@ -1,8 +1,7 @@
 -- Numbers as a certificate writes them.
 use Rattle.std.specs.Prelude.{◌≡◌, ℕ, Bool, true, false, ◌||◌, ◌≤◌, ◌-◌, ◌++◌, length, replicate, List, Option, Some, None}
 use Rattle.std.specs.Fmt.{digits}
-use Rattle.keysym_core.specs.Keysym.{is_between}
-use Rattle.keysym_core.specs.Names.{is_hexadecimal_digit}
+use Rattle.compose_text.specs.Numbers.{is_between, is_hexadecimal_digit}
 use Rattle.compose_cert.specs.declared.numeral.Notation.{Notation}
 use Rattle.compose_cert.specs.declared.numeral.Notation.TheVariants.{Decimal, LowerHexadecimal, UpperHexadecimal, EitherHexadecimal}
 

@@ -5,7 +5,7 @@ use Rattle.std.specs.List.{starts_with}
 use Rattle.std.specs.Fmt.{decimal}
 use Rattle.std.specs.Str.Parse.{digits_value}
 use Rattle.keysym_core.specs.Keysym.{is_keysym}
-use Rattle.keysym_core.specs.Lines.{divide}
+use Rattle.compose_text.specs.Lines.{divide}
 use Rattle.compose_model.specs.Certificate.{Typing, Certificate}
 use Rattle.compose_cert.specs.Spelling.{character_text, keysym_text, is_number, is_character, max_count}
 use Rattle.compose_cert.specs.declared.CertFault.{CertFault}

@@ -4,8 +4,9 @@ use Rattle.std.specs.Option.{option_map}
 use Rattle.std.specs.Str.{is_utf8}
 use Rattle.std.specs.Str.Parse.{digits_value}
 use Rattle.std.specs.List.{list_all, starts_with, before_first}
-use Rattle.keysym_core.specs.Names.{number_form, is_hexadecimal}
-use Rattle.keysym_core.specs.Lines.{divide, lines_of}
+use Rattle.compose_text.specs.Numbers.{is_hexadecimal}
+use Rattle.keysym_core.specs.Names.{number_form}
+use Rattle.compose_text.specs.Lines.{divide, lines_of}
 use Rattle.compose_model.specs.Certificate.{Repertoire, keys_rise}
 use Rattle.compose_cert.specs.Spelling.{is_character}
 use Rattle.compose_cert.specs.declared.entry.Entry.{Entry}

@@ -13,8 +13,6 @@ mod line;
 mod numeral;
 mod read;
 mod repertoire;
-#[cfg(test)]
-mod tests;
 mod word;
 mod write;
 

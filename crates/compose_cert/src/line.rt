@@ -1,7 +1,7 @@
 //! The forms of a certificate's lines.
 ghost use Rattle.std.specs.Prelude.{◌≡◌, ◌++◌, ◌∷◌, [], ℕ, List, Ok, Err, IfOk, IfErr};
 ghost use Rattle.std.specs.Option.{option_map_or};
-ghost use Rattle.keysym_core.specs.Lines.{divide};
+ghost use Rattle.compose_text.specs.Lines.{divide};
 ghost use Rattle.compose_cert.specs.Said.{Says};
 ghost use Rattle.compose_cert.specs.Reading as reading;
 

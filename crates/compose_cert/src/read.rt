@@ -1,6 +1,6 @@
 //! A certificate read line by line, where the first faulty line decides.
 ghost use Rattle.std.specs.Prelude.{◌≡◌, ◌+◌, ◌<◌, ◌≤◌, ◌++◌, ◌∷◌, [], ℕ, List, Ok, Err, length, IfOk, ◌^◌};
-ghost use Rattle.keysym_core.specs.Lines.{divide};
+ghost use Rattle.compose_text.specs.Lines.{divide};
 ghost use Rattle.compose_cert.specs.Said.{Says};
 ghost use Rattle.compose_cert.specs.Reading as reading;
 

@@ -1,7 +1,7 @@
 //! The characters that people need, and the keys that they have.
 ghost use Rattle.std.specs.Prelude.{◌≡◌, ◌≢◌, ◌<◌, ◌≤◌, ◌++◌, ◌∷◌, [], length, nat_lt, Some, Ok, Err, OnOk, IfErr, slice_get, IsTrue};
 ghost use Rattle.std.specs.List.{list_any, list_all};
-ghost use Rattle.keysym_core.specs.Keysym.{is_between};
+ghost use Rattle.compose_text.specs.Numbers.{is_between};
 ghost use Rattle.compose_model.specs.Certificate as model;
 ghost use Rattle.compose_model.specs.Certificate.{keys_rise};
 ghost use Rattle.compose_cert.specs.Repertoire.{IsRepertoire, IsOrdered, ranges_rise, with_entry, repertoire_of};
@@ -9,7 +9,8 @@ ghost use Rattle.compose_cert.specs.Given.{RepertoireGives};
 
 use crate::RepertoireFault;
 use crate::entry::{Entry, line_entry};
-use keysym_core::{Keysym, first_line};
+use compose_text::first_line;
+use keysym_core::Keysym;
 use std::alloc::Global;
 use std::marker::Model;
 

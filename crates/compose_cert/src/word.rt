@@ -1,6 +1,6 @@
 //! The words of a certificate's lines.
 ghost use Rattle.std.specs.Prelude.{◌≡◌, ◌++◌, ◌∷◌, [], ◌<◌, length, Some, MatchOption};
-ghost use Rattle.keysym_core.specs.Lines.{divide};
+ghost use Rattle.compose_text.specs.Lines.{divide};
 ghost use Rattle.compose_cert.specs.Numerals.{padded, IsSpelled};
 ghost use Rattle.compose_cert.specs.Reading as reading;
 

@@ -5,7 +5,7 @@ use Rattle.std.specs.Str.Parse.{digits_value, AllDigits}
 use Rattle.std.proofs.Math.Nat.{pow-le-pow_left, pow-le-pow_right}
 use Rattle.std.proofs.lemmas.List.{append_assoc, take_more, drop_more, length-take}
 use Rattle.std.proofs.lemmas.Int.Digits.{digits_value-lt, digits_value_more, digits_more}
-use Rattle.compose_lex.specs.Fault.{front}
+use Rattle.compose_text.specs.Bytes.{front}
 
 -- the first bytes are digits and write the value
 pub record Code (radix value : ℕ) (bytes : List ℕ) (len : ℕ) : Type 0 where

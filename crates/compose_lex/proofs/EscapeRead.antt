@@ -6,11 +6,12 @@ use Rattle.std.specs.Str.Parse.{digits_value}
 use Rattle.std.proofs.Math.Numerals.{one-add}
 use Rattle.std.proofs.lemmas.Bool.{and_from, or_right, le-leb}
 use Rattle.std.proofs.lemmas.Bool.Decides.{nat_tests}
-use Rattle.compose_lex.specs.Fault.{front, begins}
+use Rattle.compose_text.specs.Bytes.{front, begins}
 use Rattle.compose_lex.specs.Steps.{escape_byte, IsByte}
 use Rattle.compose_lex.specs.declared.LexFault.{LexFault}
 use Rattle.compose_lex.specs.declared.LexFault.TheVariants.{BadCode}
-use Rattle.compose_lex.specs.Escape.{is_octal, is_hexadecimal, is_run, byte_of, escape, escape_len, escape_fault}
+use Rattle.compose_text.specs.Numbers.{is_hexadecimal_digit}
+use Rattle.compose_lex.specs.Escape.{is_octal, is_run, byte_of, escape, escape_len, escape_fault}
 use Rattle.compose_lex.proofs.Runs.{front_passes}
 
 -- the bytes taken are as many as may be
@@ -73,14 +74,14 @@ pub record EscapeIs (at : ℕ) (rest : List ℕ) (byte : Option ℕ) (len : ℕ)
   pub takes : escape_len rest ≡ len
   pub fails : escape_fault at rest ≡ fault
 
-pub hexadecimal_is : (at e : ℕ) (rest : List ℕ) → (e == 120 || e == 88) ≡ true → let ds = front is_hexadecimal (take 2 rest) in EscapeIs at (e ∷ rest) (byte_of (digits_value 16 ds)) (1 + length ds) (BadCode at)
+pub hexadecimal_is : (at e : ℕ) (rest : List ℕ) → (e == 120 || e == 88) ≡ true → let ds = front is_hexadecimal_digit (take 2 rest) in EscapeIs at (e ∷ rest) (byte_of (digits_value 16 ds)) (1 + length ds) (BadCode at)
 hexadecimal_is at e rest h =
-    let ds = front is_hexadecimal (take 2 rest) in
+    let ds = front is_hexadecimal_digit (take 2 rest) in
     let n = length ds in
     let takes : escape_len (e ∷ rest) ≡ 1 + n = rw h refl in
     let one : escape_len (e ∷ rest) ≡ suc n = takes ∙ one-add n in
     record {
-      stands = ap (λ l. escape (take l (e ∷ rest)) (drop l (e ∷ rest))) one ∙ ap (λ x. escape (e ∷ x) (drop n rest)) (front_taken is_hexadecimal 2 rest) ∙ rw h (run_code is_hexadecimal 2 16 rest);
+      stands = ap (λ l. escape (take l (e ∷ rest)) (drop l (e ∷ rest))) one ∙ ap (λ x. escape (e ∷ x) (drop n rest)) (front_taken is_hexadecimal_digit 2 rest) ∙ rw h (run_code is_hexadecimal_digit 2 16 rest);
       takes = takes;
       fails = rw h refl;
     }
@@ -118,7 +119,7 @@ escape_fits (e ∷ rest) = go (e == 120 || e == 88) (is_octal e)
     run_fits : (p : ℕ → Bool) (most : ℕ) (xs : List ℕ) → length (front p (take most xs)) ≤ length xs
     run_fits p most xs = let a = front_short p (take most xs) in let b = simp length-take at a in omega (arith, b)
 
-    go : (x y : Bool) → cond x (1 + length (front is_hexadecimal (take 2 rest))) (cond y (length (front is_octal (take 3 (e ∷ rest)))) 1) ≤ length (e ∷ rest)
-    go true y = let a = run_fits is_hexadecimal 2 rest in omega arith
+    go : (x y : Bool) → cond x (1 + length (front is_hexadecimal_digit (take 2 rest))) (cond y (length (front is_octal (take 3 (e ∷ rest)))) 1) ≤ length (e ∷ rest)
+    go true y = let a = run_fits is_hexadecimal_digit 2 rest in omega arith
     go false true = run_fits is_octal 3 (e ∷ rest)
     go false false = omega arith

@@ -3,8 +3,8 @@ use Rattle.std.proofs.Common.{◌≡◌, ◌≢◌, ℕ, List, [], ◌∷◌, �
 use Rattle.std.specs.Prelude.{nat_eq, codes}
 use Rattle.std.specs.List.{starts_with}
 use Rattle.std.proofs.lemmas.Bool.{and_parts, not-true}
-use Rattle.compose_lex.specs.Line.{is_name_byte}
-use Rattle.compose_lex.specs.Fault.{front, behind, begins, is_include}
+use Rattle.compose_text.specs.Bytes.{is_name_byte, front, behind, begins}
+use Rattle.compose_lex.specs.Fault.{is_include}
 use Rattle.compose_lex.proofs.Runs.{parts_of, front_all}
 use Rattle.compose_lex.proofs.LineSaid.{starts_is}
 

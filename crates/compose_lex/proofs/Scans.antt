@@ -6,8 +6,7 @@ use Rattle.std.proofs.lemmas.Str.{IsCharBoundary-start, IsCharBoundary-after_asc
 use Rattle.std.proofs.lemmas.List.Sums.{prefix_len-le-length, prefix_len_passes}
 use Rattle.std.proofs.lemmas.Bool.{cases_lt}
 use Rattle.std.proofs.lemmas.Bool.Decides.{nat_tests}
-use Rattle.compose_lex.specs.Line.{is_blank, is_name_byte}
-use Rattle.compose_lex.specs.Fault.{front, behind}
+use Rattle.compose_text.specs.Bytes.{is_blank, is_name_byte, front, behind}
 
 pub front_taken : (p : ℕ → Bool) (text : List ℕ) → front p text ≡ take (prefix_len p text) text
 front_taken p [] = refl

@@ -2,7 +2,7 @@
 ghost use Rattle.std.specs.Prelude.{◌≡◌, ◌≤◌, ◌<◌, ◌+◌, ◌==◌, ◌||◌, ◌++◌, ◌∷◌, [], ℕ, List, nat_lt, length, take, drop, Some, None, Ok, Err, MatchResult, IfOk};
 ghost use Rattle.std.specs.Char.{digit_value};
 ghost use Rattle.std.specs.Str.Parse.{digits_value};
-ghost use Rattle.compose_lex.specs.Fault.{front};
+ghost use Rattle.compose_text.specs.Bytes.{front};
 ghost use Rattle.compose_lex.specs.Escape as escapes;
 ghost use Rattle.compose_lex.specs.Steps.{IsByte, escape_byte, piece_byte, IsDecoded};
 

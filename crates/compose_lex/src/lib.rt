@@ -122,6 +122,3 @@ pub fn law_one_text()
 pub fn law_quote()
     ensures { (text : List ℕ) → IsText text → IsTrue (list_all (λ b. nat_lt 0 b) text) → Unescapes (quote_inside text) text × (text_of (quote_inside text) ≡ Ok text) }
 {}
-
-#[cfg(test)]
-mod tests;

@@ -1,52 +1,10 @@
-//! Blanks, names and plain text at the front of bytes.
+//! Plain text at the front of bytes.
 ghost use Rattle.std.specs.Prelude.{◌≡◌};
 ghost use Rattle.std.specs.List.{prefix_len};
-ghost use Rattle.compose_lex.specs.Line.{is_blank, is_name_byte};
 ghost use Rattle.compose_lex.specs.Steps.{is_plain};
 
-use keysym_core::{ByteClass, front_len};
+use compose_text::{ByteClass, leading_len};
 use std::simd::prelude::*;
-
-/// Space, tab and carriage return.
-struct Blank;
-
-impl ByteClass for Blank {
-    ghost has = { is_blank };
-
-    #[inline(always)]
-    fn has(byte: u8) -> bool {
-        byte == b' ' || byte == b'\t' || byte == b'\r'
-    }
-
-    #[inline(always)]
-    fn others(bytes: u8x16) -> u64 {
-        let no_space = bytes.simd_ne(u8x16::splat(b' '));
-        let no_tab = bytes.simd_ne(u8x16::splat(b'\t'));
-        let no_return = bytes.simd_ne(u8x16::splat(b'\r'));
-        (no_space & no_tab & no_return).to_bitmask()
-    }
-}
-
-/// ASCII letters, digits and the underscore.
-struct NameByte;
-
-impl ByteClass for NameByte {
-    ghost has = { is_name_byte };
-
-    #[inline(always)]
-    fn has(byte: u8) -> bool {
-        byte.is_ascii_alphanumeric() || byte == b'_'
-    }
-
-    #[inline(always)]
-    fn others(bytes: u8x16) -> u64 {
-        let lowercase = bytes | u8x16::splat(0x20);
-        let no_letter = (lowercase - u8x16::splat(b'a')).simd_ge(u8x16::splat(26));
-        let no_digit = (bytes - u8x16::splat(b'0')).simd_ge(u8x16::splat(10));
-        let no_underscore = bytes.simd_ne(u8x16::splat(b'_'));
-        (no_letter & no_digit & no_underscore).to_bitmask()
-    }
-}
 
 /// All bytes but the quote and the backslash.
 struct Plain;
@@ -67,32 +25,10 @@ impl ByteClass for Plain {
     }
 }
 
-/// How many blanks stand at the front. Mostly none or one, which are quicker to see than to find among sixteen. O(blanks).
-#[inline(always)]
-pub(crate) fn blank_len(bytes: &[u8]) -> usize
-    ensures { result ≡ prefix_len is_blank bytes.now }
-{
-    if bytes.is_empty() || !Blank::has(bytes[0]) {
-        return 0;
-    }
-    if bytes.len() == 1 || !Blank::has(bytes[1]) {
-        return 1;
-    }
-    front_len::<Blank>(bytes)
-}
-
-/// How many bytes of a name stand at the front. O(bytes of the name).
-#[inline(always)]
-pub(crate) fn name_len(bytes: &[u8]) -> usize
-    ensures { result ≡ prefix_len is_name_byte bytes.now }
-{
-    front_len::<NameByte>(bytes)
-}
-
 /// How many bytes stand before the first quote or backslash. O(these bytes).
 #[inline(always)]
 pub(crate) fn plain_len(bytes: &[u8]) -> usize
     ensures { result ≡ prefix_len is_plain bytes.now }
 {
-    front_len::<Plain>(bytes)
+    leading_len::<Plain>(bytes)
 }

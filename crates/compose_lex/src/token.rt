@@ -1,12 +1,13 @@
 //! The tokens of a line, each read from the front of what is left of the line. A function takes the length of the
 //! whole line, for the offset of a fault, and the part that is left.
 ghost use Rattle.std.specs.Prelude.{◌≡◌, ◌-◌, ◌<◌, ℕ, length};
-ghost use Rattle.compose_lex.specs.Line as line;
+ghost use Rattle.compose_text.specs.Bytes.{is_name_byte, front, behind};
 ghost use Rattle.compose_lex.specs.Fault as fault;
 ghost use Rattle.compose_lex.specs.Lexed.{Is};
 
 use crate::LexFault;
-use crate::scan::{blank_len, name_len, plain_len};
+use crate::scan::plain_len;
+use compose_text::{blank_len, name_len};
 
 /// Where in the line the rest begins.
 pub(crate) fn offset(line_len: usize, rest: &str) -> usize
@@ -24,8 +25,8 @@ pub(crate) fn skip_blanks(text: &str) -> &str
 
 /// The bytes of a name at the front, perhaps none, and what stands behind them. O(bytes of the name).
 pub(crate) fn split_name(text: &str) -> (&str, &str)
-    ensures name { result.0.now ≡ fault.front line.is_name_byte text.now }
-    ensures rest { result.1.now ≡ fault.behind line.is_name_byte text.now }
+    ensures name { result.0.now ≡ front is_name_byte text.now }
+    ensures rest { result.1.now ≡ behind is_name_byte text.now }
 {
     let len = name_len(text.as_bytes());
     (&text[..len], &text[len..])

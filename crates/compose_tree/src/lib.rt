@@ -19,8 +19,6 @@ mod packed_table;
 mod reading;
 mod rows;
 mod table;
-#[cfg(test)]
-mod tests;
 
 pub use list_table::ListTable;
 pub use packed_table::PackedTable;

@@ -4,7 +4,7 @@ use Rattle.std.specs.Prelude.{Option, Some, None, nat_lt}
 use Rattle.std.specs.Int.{from_be_bytes, w32}
 use Rattle.std.proofs.lemmas.Bool.{le-ltb, ltb-false, cases_Bool}
 use Rattle.std.proofs.lemmas.List.{take-append-le, drop-append-le}
-use Rattle.keysym_core.specs.Keysym.{is_between}
+use Rattle.compose_text.specs.Numbers.{is_between}
 use Rattle.compose_wire.specs.Frames.{Fault, fault_at, length_fault, unknown_kind}
 
 -- the fault of a kind and the bytes behind it, by the two tests

@@ -4,7 +4,7 @@ use Rattle.std.specs.Prelude.{Option, Some, None, Ok, option_map, nat_lt}
 use Rattle.std.specs.Int.{from_be_bytes, w32}
 use Rattle.std.proofs.Math.Facts.{Fits-lt-pow}
 use Rattle.std.proofs.lemmas.Bool.{le-ltb}
-use Rattle.keysym_core.specs.Keysym.{is_between}
+use Rattle.compose_text.specs.Numbers.{is_between}
 use Rattle.compose_wire.specs.Messages.{AreBytes}
 use Rattle.compose_wire.specs.Frames.{Fault, fault_at, length_fault, unknown_kind, size_said}
 use Rattle.compose_wire.specs.Feeding.{SizesSo, wire_fault}

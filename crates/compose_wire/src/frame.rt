@@ -1,6 +1,6 @@
 //! The frame that bytes begin with.
 ghost use Rattle.std.specs.Prelude.{◌≡◌, ◌≢◌, [], length, option_map, IfOk, OnErr};
-ghost use Rattle.keysym_core.specs.Keysym.{is_between};
+ghost use Rattle.compose_text.specs.Numbers.{is_between};
 ghost use Rattle.compose_wire.specs.Frames as frames;
 ghost use Rattle.compose_wire.specs.Feeding.{SizesSo, FirstSo, IsLoaded, body_at, wire_fault};
 ghost use Rattle.compose_wire.specs.Requests.{body_of};

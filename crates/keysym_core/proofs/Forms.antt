@@ -10,9 +10,11 @@ use Rattle.std.specs.Option.{option_or}
 use Rattle.std.specs.Fmt.{digits}
 use Rattle.std.specs.Str.Parse.{AllDigits}
 use Rattle.keysym_core.specs.Keysym.{max_keysym, is_keysym}
-use Rattle.keysym_core.specs.Names.{form_value, character_form, number_form, keysym_of_character, is_hexadecimal, hexadecimal, is_surrogate, is_unicode_keysym}
+use Rattle.compose_text.specs.Numbers.{is_hexadecimal, hexadecimal}
+use Rattle.keysym_core.specs.Names.{form_value, character_form, number_form, keysym_of_character, is_surrogate, is_unicode_keysym}
 use Rattle.keysym_core.specs.Printed.{form_of, at_least_four, has_character_form}
-use Rattle.keysym_core.proofs.Digits.{length-digits-le, digits_value-zeros, all_digits-zeros, length-at_least_four, list_all-from_all_digits}
+use Rattle.compose_text.proofs.Digits.{list_all-from_all_digits}
+use Rattle.keysym_core.proofs.Digits.{length-digits-le, digits_value-zeros, all_digits-zeros, length-at_least_four}
 
 -- a character above Latin-1 has the keysym of its number and 0x01000000
 pub keysym-unicode : (c : ℕ) → 0x100 ≤ c → c ≤ 0x10ffff → is_surrogate c ≡ false → keysym_of_character c ≡ Some (c + 0x01000000)

@@ -3,10 +3,10 @@ use Rattle.std.proofs.Common.{◌≡◌, ◌⊎◌, inl, inr, ℕ, List, [], ◌
 use Rattle.std.specs.Prelude.{◌==◌, IsTrue, codes}
 use Rattle.std.specs.List.{list_all}
 use Rattle.std.proofs.lemmas.Bool.{and_parts}
-use Rattle.keysym_core.specs.Keysym.{is_between}
-use Rattle.keysym_core.specs.Names.{is_hexadecimal_digit, is_hexadecimal, hexadecimal}
-use Rattle.keysym_core.specs.Header.{is_graphic, is_blank, run, behind_run, begins_with, graphic_character, numbered_character, unparenthesized, noted_character}
-use Rattle.keysym_core.specs.HeaderLine.{begins, NotesNumber, NotesCharacter}
+use Rattle.compose_text.specs.Numbers.{is_between, is_hexadecimal_digit, is_hexadecimal, hexadecimal}
+use Rattle.compose_text.specs.Bytes.{is_blank, begins}
+use Rattle.keysym_core.specs.Header.{is_graphic, run, behind_run, begins_with, graphic_character, numbered_character, unparenthesized, noted_character}
+use Rattle.keysym_core.specs.HeaderLine.{NotesNumber, NotesCharacter}
 use Rattle.keysym_core.proofs.Forms.{not-true}
 use Rattle.keysym_core.proofs.HeaderRuns.{run_all, behind_all, starts, start_said, parts_of, run_passes, behind_stops, some_if}
 

@@ -6,10 +6,10 @@ use Rattle.std.specs.Option.{option_map}
 use Rattle.std.proofs.Math.Seq.{drop-append_seam}
 use Rattle.std.proofs.lemmas.Bool.{and_parts, or_cases}
 use Rattle.std.proofs.lemmas.Bool.Decides.{nat_tests}
-use Rattle.keysym_core.specs.Keysym.{is_between}
-use Rattle.keysym_core.specs.Names.{is_hexadecimal_digit, is_hexadecimal, hexadecimal}
-use Rattle.keysym_core.specs.Header.{Entry, define, is_blank, is_name_byte, run, run_length, behind_run, begins_with, noted_character, comment_text, valued, entry_of, entry_said}
-use Rattle.keysym_core.specs.HeaderLine.{are_some, begins, comment_bytes, CommentNotes, DefinesEntry}
+use Rattle.compose_text.specs.Numbers.{is_between, is_hexadecimal_digit, is_hexadecimal, hexadecimal}
+use Rattle.compose_text.specs.Bytes.{is_blank, is_name_byte, begins}
+use Rattle.keysym_core.specs.Header.{Entry, define, run, run_length, behind_run, begins_with, noted_character, comment_text, valued, entry_of, entry_said}
+use Rattle.keysym_core.specs.HeaderLine.{are_some, comment_bytes, CommentNotes, DefinesEntry}
 use Rattle.keysym_core.proofs.HeaderRuns.{run_all, behind_all, run_length-all, starts}
 use Rattle.keysym_core.proofs.HeaderComments.{character_read}
 

@@ -5,7 +5,7 @@ use Rattle.std.specs.Cmp.Lexicographic.{bytes_decides}
 use Rattle.std.proofs.Math.Seq.{take-append_seam, drop-append_seam}
 use Rattle.std.proofs.lemmas.Bool.{and_parts, and_from}
 use Rattle.keysym_core.specs.Header.{run, run_length, behind_run, begins_with}
-use Rattle.keysym_core.specs.HeaderLine.{begins}
+use Rattle.compose_text.specs.Bytes.{begins}
 
 -- ---- bytes that pass, before one that doesn't
 

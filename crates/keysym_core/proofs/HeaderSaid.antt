@@ -5,8 +5,9 @@ use Rattle.std.specs.List.{list_all}
 use Rattle.std.specs.Option.{option_map}
 use Rattle.std.proofs.lemmas.Bool.{and_parts, and_from}
 use Rattle.std.proofs.lemmas.Bool.Decides.{nat_tests}
-use Rattle.keysym_core.specs.Names.{is_hexadecimal_digit, is_hexadecimal, hexadecimal}
-use Rattle.keysym_core.specs.Header.{Entry, define, is_blank, is_name_byte, run, run_length, behind_run, begins_with, noted_character, comment_text, valued, entry_of, entry_said}
+use Rattle.compose_text.specs.Numbers.{is_hexadecimal_digit, is_hexadecimal, hexadecimal}
+use Rattle.compose_text.specs.Bytes.{is_blank, is_name_byte}
+use Rattle.keysym_core.specs.Header.{Entry, define, run, run_length, behind_run, begins_with, noted_character, comment_text, valued, entry_of, entry_said}
 use Rattle.keysym_core.specs.HeaderLine.{are_some, comment_bytes, CommentNotes, DefinesEntry}
 use Rattle.keysym_core.proofs.HeaderRuns.{parts_of, run_passes, length-run, start_said, some_if}
 use Rattle.keysym_core.proofs.HeaderComments.{character_said}

@@ -5,11 +5,9 @@ pub mod Forms
 pub mod Headers
 pub mod Index
 pub mod Lines
-pub mod Lanes
 pub mod NextOf
 pub mod Rows
 pub mod Texts
-pub mod LineParts
 pub mod HeaderRuns
 pub mod HeaderComments
 pub mod HeaderRead

@@ -7,7 +7,8 @@ use Rattle.std.proofs.lemmas.Str.Ascii.{IsAscii-nil, IsAscii-cons}
 use Rattle.std.specs.List.{position_or_len, prefix_len}
 use Rattle.std.specs.Option.{unwrap_or}
 use Rattle.std.specs.Str.{IsAscii}
-use Rattle.keysym_core.specs.Header.{is_name_byte, run}
+use Rattle.compose_text.specs.Bytes.{is_name_byte}
+use Rattle.keysym_core.specs.Header.{run}
 
 -- the first place that passes, or else the end
 pub position-or_length : (p : ℕ → Bool) (xs : List ℕ) → unwrap_or (position p xs) (length xs) ≡ position_or_len p xs

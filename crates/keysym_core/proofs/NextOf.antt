@@ -3,7 +3,7 @@ use Rattle.std.proofs.Common.{◌≡◌, ◌≤◌, ◌+◌, ◌-◌, ℕ, Bool,
 use Rattle.std.proofs.lemmas.Bool.{true≢false, and_parts, leb-true, leb-false}
 use Rattle.std.proofs.lemmas.Bool.Decides.{nat_tests}
 use Rattle.std.specs.Option.{option_map_or}
-use Rattle.keysym_core.specs.Keysym.{is_between}
+use Rattle.compose_text.specs.Numbers.{is_between}
 use Rattle.keysym_core.specs.Names.{KeysymNames, character_of, first_character, keysym_of_character, is_latin1, is_unicode_keysym, is_surrogate, is_keypad_digit, is_control}
 use Rattle.keysym_core.specs.Given.{is_fixed, gives, keypad_keysym}
 use Rattle.keysym_core.specs.Next.{IsLeastFrom, lesser}

@@ -1,7 +1,7 @@
 -- The core names (keysymdef.h; which of its names are core is this project's profile).
 use Rattle.std.specs.Prelude.{ℕ, ◌+◌, List, [], ◌∷◌, ◌++◌, codes}
 use Prim.Native.String.{String}
-use Rattle.keysym_core.specs.Lines.{divide}
+use Rattle.compose_text.specs.Lines.{divide}
 use Rattle.keysym_core.specs.Names.{NameRow, KeysymNames}
 
 -- each name has the value behind that of the name before it

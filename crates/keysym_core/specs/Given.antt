@@ -2,7 +2,8 @@
 use Rattle.std.specs.Prelude.{◌≡◌, ℕ, ◌+◌, ◌-◌, ◌*◌, ◌≤◌, Bool, true, false, ◌&&◌, ◌||◌, not, ◌==◌, if◌then◌else◌, List, [], ◌∷◌, ◌++◌, Option, Some, None, is_some}
 use Rattle.std.specs.List.{list_any}
 use Rattle.std.specs.Option.{option_map_or}
-use Rattle.keysym_core.specs.Keysym.{max_keysym, is_between}
+use Rattle.compose_text.specs.Numbers.{is_between}
+use Rattle.keysym_core.specs.Keysym.{max_keysym}
 use Rattle.keysym_core.specs.Names.{CharacterRow, first_character, is_latin1, is_unicode_keysym, is_keypad_digit}
 
 -- a keysym whose text is fixed, whatever a header gives it

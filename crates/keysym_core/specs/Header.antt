@@ -3,23 +3,17 @@ use Rattle.std.specs.Prelude.{◌≡◌, ℕ, ◌+◌, Bool, false, ◌&&◌, �
 use Rattle.std.specs.List.{position_or_len}
 use Rattle.std.specs.Option.{option_map, option_map_or}
 use Rattle.std.specs.Str.{is_utf8}
-use Rattle.keysym_core.specs.Keysym.{is_between, is_keysym}
-use Rattle.keysym_core.specs.Lines.{lines_of}
-use Rattle.keysym_core.specs.Names.{KeysymNames, row_value, value, is_hexadecimal_digit, is_hexadecimal, hexadecimal, is_control, is_surrogate}
+use Rattle.compose_text.specs.Bytes.{is_blank, is_name_byte}
+use Rattle.compose_text.specs.Numbers.{is_hexadecimal_digit, is_hexadecimal, hexadecimal}
+use Rattle.keysym_core.specs.Keysym.{is_keysym}
+use Rattle.compose_text.specs.Lines.{lines_of}
+use Rattle.keysym_core.specs.Names.{KeysymNames, row_value, value, is_control, is_surrogate}
 use Rattle.keysym_core.specs.Given.{with_character}
 use Rattle.keysym_core.specs.Core.{core_names}
 use Rattle.keysym_core.specs.declared.fault.NameFault.{NameFault}
 use Rattle.keysym_core.specs.declared.fault.NameFault.TheVariants.{NotUtf8, BadLine, ValueTooLarge, NameConflict, TooManyNames, NoMemory}
 
 -- ---- a line, read from the left on (its grammar is the relation of HeaderLine, and law_header_line says that the two agree)
-
--- space, tab and carriage return
-abbrev pub is_blank : ℕ → Bool
-is_blank b = b == 32 || b == 9 || b == 13
-
--- ASCII letters, digits and the underscore
-abbrev pub is_name_byte : ℕ → Bool
-is_name_byte b = is_between 97 122 b || is_between 65 90 b || is_between 48 57 b || b == 95
 
 -- how many bytes pass, up to the first that doesn't
 abbrev pub run_length : (ℕ → Bool) → List ℕ → ℕ

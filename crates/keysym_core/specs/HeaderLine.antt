@@ -1,17 +1,13 @@
 -- The grammar of a line of a header that defines a name (the form of keysymdef.h; which comments give a character is this project's profile). A line is its bytes, without the newline.
-use Rattle.std.specs.Prelude.{◌≡◌, ◌⊎◌, ℕ, Bool, false, not, ◌&&◌, nat_lt, List, [], ◌∷◌, ◌++◌, length, Option, Some, None, IsTrue, codes}
+use Rattle.std.specs.Prelude.{◌≡◌, ◌⊎◌, ℕ, Bool, not, ◌&&◌, nat_lt, List, [], ◌++◌, length, Option, Some, None, IsTrue, codes}
 use Rattle.std.specs.List.{list_all}
-use Rattle.keysym_core.specs.Names.{is_hexadecimal_digit, is_hexadecimal, hexadecimal}
-use Rattle.keysym_core.specs.Header.{Entry, define, is_blank, is_name_byte, is_graphic}
+use Rattle.compose_text.specs.Numbers.{is_hexadecimal_digit, is_hexadecimal, hexadecimal}
+use Rattle.compose_text.specs.Bytes.{begins, is_blank, is_name_byte}
+use Rattle.keysym_core.specs.Header.{Entry, define, is_graphic}
 
 -- one byte or more, and all of them pass
 abbrev pub are_some : (ℕ → Bool) → List ℕ → Bool
 are_some p bytes = nat_lt 0 (length bytes) && list_all p bytes
-
--- the first byte passes
-abbrev pub begins : (ℕ → Bool) → List ℕ → Bool
-begins p [] = false
-begins p (b ∷ bytes) = p b
 
 -- ---- comments
 

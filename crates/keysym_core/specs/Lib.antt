@@ -1,5 +1,4 @@
 pub mod Keysym
-pub mod Lines
 pub mod Names
 pub mod Core
 pub mod Printed

@@ -1,10 +1,8 @@
 -- The names of keysyms, as rows in the order in which they were given, and the text of a keysym.
-use Rattle.std.specs.Prelude.{ℕ, Bool, ◌+◌, ◌-◌, ◌&&◌, ◌||◌, ◌==◌, nat_lt, nat_le, if◌then◌else◌, List, [], ◌∷◌, length, Option, Some, None, bytes_eq, encode_utf8}
-use Rattle.std.specs.Char.{digit_value}
+use Rattle.std.specs.Prelude.{ℕ, Bool, ◌+◌, ◌-◌, ◌&&◌, ◌||◌, ◌==◌, nat_lt, nat_le, if◌then◌else◌, List, [], ◌∷◌, Option, Some, None, bytes_eq, encode_utf8}
 use Rattle.std.specs.Option.{option_map_or, option_or}
-use Rattle.std.specs.List.{list_all}
-use Rattle.std.specs.Str.Parse.{digits_value}
-use Rattle.keysym_core.specs.Keysym.{is_between, is_keysym}
+use Rattle.compose_text.specs.Numbers.{is_between, is_hexadecimal, hexadecimal}
+use Rattle.keysym_core.specs.Keysym.{is_keysym}
 
 -- a name and its keysym, as in `#define XK_eacute 0x00e9`
 pub record NameRow : Type 0 where
@@ -61,17 +59,6 @@ text names k = option_map_or encode_utf8 (character_of names k) []
 abbrev pub row_value : List NameRow → List ℕ → Option ℕ
 row_value [] n = None
 row_value (row ∷ rows) n = if bytes_eq n row.name then Some row.value else row_value rows n
-
--- the number that these digits write, each of either case
-abbrev pub hexadecimal : List ℕ → ℕ
-hexadecimal ds = digits_value 16 ds
-
-abbrev pub is_hexadecimal_digit : ℕ → Bool
-is_hexadecimal_digit d = nat_lt (digit_value d) 16
-
--- between low and high hexadecimal digits, and nothing else
-abbrev pub is_hexadecimal : ℕ → ℕ → List ℕ → Bool
-is_hexadecimal low high ds = is_between low high (length ds) && list_all is_hexadecimal_digit ds
 
 abbrev pub is_control : ℕ → Bool
 is_control c = nat_le c 0x1f || is_between 0x7f 0x9f c

@@ -1,10 +1,11 @@
 //! The lines of a header: what each of them defines.
 ghost use Rattle.std.specs.Prelude.{◌≡◌, ◌<◌, ◌≤◌, length, option_copied, position, not, ◌==◌, IfSome};
-ghost use Rattle.keysym_core.specs.Names.{is_hexadecimal_digit};
+ghost use Rattle.compose_text.specs.Numbers.{is_hexadecimal_digit};
 ghost use Rattle.keysym_core.specs.Header as words;
-ghost use Rattle.keysym_core.specs.Header.{is_blank, is_name_byte, run_length};
+ghost use Rattle.compose_text.specs.Bytes.{is_blank, is_name_byte};
+ghost use Rattle.keysym_core.specs.Header.{run_length};
 
-use crate::form::number_between;
+use compose_text::hexadecimal_number;
 use std::marker::Model;
 use std::str;
 
@@ -43,7 +44,7 @@ fn valued<'a>(name: &'a str, number: &[u8]) -> Option<Entry<'a>>
 {
     let digits_on = number.strip_prefix(b"0x")?;
     let (digits, rest) = digits_on.split_at(digit_length(digits_on));
-    let value = number_between(1, 8, digits)?;
+    let value = hexadecimal_number(1, 8, digits)?;
     let text = comment_text(&rest[blank_length(rest)..])?;
     Some(Entry {
         name,
@@ -76,7 +77,7 @@ fn numbered_character(bytes: &[u8]) -> Option<char>
 {
     let digits_on = bytes.strip_prefix(b"U+")?;
     let digits = &digits_on[..digit_length(digits_on)];
-    graphic_character(number_between(4, 6, digits)?)
+    graphic_character(hexadecimal_number(4, 6, digits)?)
 }
 
 /// The character of a number; none for controls, surrogates and numbers above 10FFFF.

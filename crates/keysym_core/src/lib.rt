@@ -25,18 +25,14 @@ mod guesses;
 mod header;
 mod keysym;
 mod names;
-mod newlines;
 mod next;
 mod read;
-mod scan;
 mod shown;
 mod table;
 
 pub use fault::NameFault;
 pub use keysym::Keysym;
 pub use names::Names;
-pub use newlines::first_line;
-pub use scan::{ByteClass, front_len};
 pub use shown::{KeyList, ShownChar, ShownKeysym};
 
 /// A line of a header defines one entry at most, and what is read of the line is what it defines.
@@ -45,6 +41,3 @@ pub fn law_header_line()
     ensures said { (line : List ℕ) (entry : Entry) → entry_said line ≡ Some entry → DefinesEntry line entry }
     ensures one { (line : List ℕ) (a b : Entry) → DefinesEntry line a → DefinesEntry line b → a ≡ b }
 {}
-
-#[cfg(test)]
-mod tests;

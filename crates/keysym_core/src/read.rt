@@ -1,14 +1,14 @@
 //! Reading a header of names, line by line.
 ghost use Rattle.std.specs.Prelude.{◌≡◌, ◌+◌, ◌≤◌, length, Some, Ok};
-ghost use Rattle.keysym_core.specs.Lines.{lines_of};
+ghost use Rattle.compose_text.specs.Lines.{lines_of};
 ghost use Rattle.keysym_core.specs.Header.{with_name, with_noted, with_entry, with_text, with_line, with_lines, NamesGives, ChangeGives};
 
 use crate::fault::NameFault;
 use crate::form::form_value;
 use crate::header::{Entry, entry_of};
 use crate::keysym::Keysym;
-use crate::newlines::first_line;
 use crate::table::NameTable;
+use compose_text::first_line;
 use std::str;
 
 /// The table with what the lines of a header give, up to the first fault. O(n) in the bytes.

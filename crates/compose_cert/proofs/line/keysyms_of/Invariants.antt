@@ -1,6 +1,6 @@
 use Rattle.std.proofs.Common.{◌≡◌, ◌++◌, length}
 use Rattle.std.specs.Option.{option_map}
-use Rattle.keysym_core.specs.Lines.{divide}
+use Rattle.compose_text.specs.Lines.{divide}
 use Rattle.compose_cert.specs.Reading.{keysyms_of}
 use Rattle.compose_cert.proofs.line.keysyms_of.Given as goal
 

@@ -1,5 +1,5 @@
 use Rattle.std.proofs.Common.{◌≡◌, ◌++◌, ◌∷◌, [], ap, arith}
-use Rattle.keysym_core.specs.Lines.{divide}
+use Rattle.compose_text.specs.Lines.{divide}
 use Rattle.compose_cert.specs.Reading.{line_at, pair_of}
 use Rattle.std.proofs.lemmas.Result.{err_from_is_err_and}
 use Rattle.compose_cert.proofs.Times.{times_more, times_stop}

@@ -1,5 +1,5 @@
 use Rattle.std.proofs.Common.{◌≡◌, ◌+◌, ◌-◌}
-use Rattle.keysym_core.specs.Lines.{divide}
+use Rattle.compose_text.specs.Lines.{divide}
 use Rattle.compose_cert.specs.Reading.{times, typing_at}
 use Rattle.compose_cert.specs.Said.{behind}
 use Rattle.compose_cert.proofs.read.typings_at.Given as goal

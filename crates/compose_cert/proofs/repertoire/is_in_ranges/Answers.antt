@@ -1,6 +1,6 @@
 use Rattle.std.proofs.Common.{◌≡◌, ◌∙◌, ℕ, ◌+◌, ◌-◌, ◌/◌, ◌<◌, ap, sym, length, get_or, arith}
 use Rattle.std.specs.List.{list_any}
-use Rattle.keysym_core.specs.Keysym.{is_between}
+use Rattle.compose_text.specs.Numbers.{is_between}
 use Rattle.std.proofs.lemmas.List.{get_or_default}
 use Rattle.compose_cert.proofs.Rising.{ends_below, begins_above, in_none_of_all, in_one}
 use Rattle.compose_cert.proofs.repertoire.is_in_ranges.Goals as goal

@@ -1,6 +1,6 @@
 use Rattle.std.proofs.Common.{◌+◌, ap, sym, ◌∙◌, length, take, arith}
 use Rattle.std.specs.Str.Parse.{digits_value}
-use Rattle.compose_lex.specs.Fault.{front}
+use Rattle.compose_text.specs.Bytes.{front}
 use Rattle.compose_lex.specs.Escape.{is_octal, byte_of}
 use Rattle.compose_lex.specs.declared.LexFault.TheVariants.{BadCode}
 use Rattle.compose_lex.proofs.EscapeRead.{EscapeIs, hexadecimal_is, octal_is, escape_found}

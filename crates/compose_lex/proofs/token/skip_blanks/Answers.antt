@@ -1,7 +1,7 @@
 use Rattle.std.proofs.Common.{drop, sym, ap, ◌∙◌, subst}
 use Rattle.std.specs.List.{prefix_len}
 use Rattle.std.specs.Str.{IsCharBoundary}
-use Rattle.compose_lex.specs.Line.{is_blank}
+use Rattle.compose_text.specs.Bytes.{is_blank}
 use Rattle.compose_lex.proofs.Scans.{behind_left, cut_behind_blanks}
 use Rattle.compose_lex.proofs.token.skip_blanks.Goals as goal
 

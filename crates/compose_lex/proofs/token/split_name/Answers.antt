@@ -1,7 +1,7 @@
 use Rattle.std.proofs.Common.{◌≡◌, ◌-◌, take, drop, sym, ap, ◌∙◌, subst, arith}
 use Rattle.std.specs.List.{prefix_len}
 use Rattle.std.specs.Str.{IsCharBoundary}
-use Rattle.compose_lex.specs.Line.{is_name_byte}
+use Rattle.compose_text.specs.Bytes.{is_name_byte}
 use Rattle.compose_lex.proofs.Scans.{front_taken, behind_left, cut_behind_name}
 use Rattle.compose_lex.proofs.token.split_name.Goals as goal
 

@@ -1,6 +1,6 @@
 use Rattle.std.proofs.Common.{◌≡◌, sym, ◌∙◌, true, get_or, ap, arith, rules}
 use Rattle.std.specs.Prelude.{option_map, None}
-use Rattle.keysym_core.specs.Keysym.{is_between}
+use Rattle.compose_text.specs.Numbers.{is_between}
 use Rattle.compose_wire.specs.Frames.{length_fault}
 use Rattle.compose_wire.specs.Feeding.{wire_fault}
 use Rattle.compose_wire.proofs.Sizes.{are_bytes, whole_stands}

@@ -1,6 +1,6 @@
 use Rattle.std.proofs.Common.{◌∙◌, ap, not, length}
 use Rattle.std.specs.Option.{unwrap_or}
-use Rattle.keysym_core.specs.Header.{is_blank}
+use Rattle.compose_text.specs.Bytes.{is_blank}
 use Rattle.keysym_core.proofs.Lines.{position-or_length}
 use Rattle.keysym_core.proofs.header.blank_length.Goals as goal
 

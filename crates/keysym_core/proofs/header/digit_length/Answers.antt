@@ -1,6 +1,6 @@
 use Rattle.std.proofs.Common.{◌∙◌, ap, not, length}
 use Rattle.std.specs.Option.{unwrap_or}
-use Rattle.keysym_core.specs.Names.{is_hexadecimal_digit}
+use Rattle.compose_text.specs.Numbers.{is_hexadecimal_digit}
 use Rattle.keysym_core.proofs.Lines.{position-or_length}
 use Rattle.keysym_core.proofs.header.digit_length.Goals as goal
 

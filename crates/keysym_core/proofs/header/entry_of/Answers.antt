@@ -4,7 +4,8 @@ use Rattle.std.proofs.lemmas.Bool.Decides.{nat_tests}
 use Rattle.std.proofs.lemmas.List.{take_rest}
 use Rattle.std.proofs.lemmas.Str.{IsUtf8-from_ascii}
 use Rattle.std.specs.Str.{IsUtf8}
-use Rattle.keysym_core.specs.Header.{is_name_byte, is_blank, run, run_length, behind_run, valued}
+use Rattle.compose_text.specs.Bytes.{is_name_byte, is_blank}
+use Rattle.keysym_core.specs.Header.{run, run_length, behind_run, valued}
 use Rattle.keysym_core.proofs.Lines.{name-ascii}
 use Rattle.keysym_core.proofs.header.entry_of.Goals as goal
 

@@ -1,5 +1,5 @@
 use Rattle.std.proofs.Common.{◌≡◌, ◌+◌, ◌≤◌, length, Ok}
-use Rattle.keysym_core.specs.Lines.{lines_of}
+use Rattle.compose_text.specs.Lines.{lines_of}
 use Rattle.keysym_core.specs.Header.{with_lines}
 use Rattle.keysym_core.proofs.read.with_lines.Given as goal
 

@@ -1,5 +1,5 @@
 use Rattle.std.proofs.Common.{◌≡◌, ◌+◌, ◌≤◌, length, Ok}
-use Rattle.keysym_core.specs.Lines.{lines_of}
+use Rattle.compose_text.specs.Lines.{lines_of}
 use Rattle.compose_cert.specs.Repertoire.{IsRepertoire, lines_on, repertoire_of}
 use Rattle.compose_cert.proofs.repertoire.Repertoire.read.Given as goal
 

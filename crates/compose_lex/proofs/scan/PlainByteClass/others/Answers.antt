@@ -1,5 +1,5 @@
 use Rattle.std.proofs.Common.{refl, arith}
-use Rattle.keysym_core.proofs.Lanes.{joined, with_constant, masked}
+use Rattle.compose_text.proofs.Lanes.{joined, with_constant, masked}
 use Rattle.compose_lex.proofs.scan.PlainByteClass.others.Goals as goal
 
 pub returns : goal.returns

@@ -1,7 +1,7 @@
 use Rattle.std.proofs.Common.{◌≡◌, ◌∙◌, ap, sym, subst, refl}
 use Rattle.std.specs.Prelude.{Ok, Err}
 use Rattle.keysym_core.specs.Core.{core_names}
-use Rattle.keysym_core.specs.Lines.{lines_of}
+use Rattle.compose_text.specs.Lines.{lines_of}
 use Rattle.keysym_core.specs.Header.{with_lines, NamesGives}
 use Rattle.keysym_core.proofs.Rows.{same_names}
 use Rattle.keysym_core.proofs.names.Names.read.Goals as goal
