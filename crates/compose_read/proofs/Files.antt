@@ -1,16 +1,18 @@
 -- The place of a name among the sources is its place in the map that keeps them.
-use Rattle.std.proofs.Common.{◌≡◌, ℕ, ◌+◌, List, [], ◌∷◌, cond, not, false, suc, length, refl, sym, ◌∙◌, ap, ap₂, nat_lt}
-use Rattle.std.specs.Prelude.{Option, Some, None, is_some, position, string_bytes, option_map, slice_get}
+use Rattle.std.proofs.Common.{◌≡◌, ℕ, ◌+◌, ◌≤◌, List, [], ◌∷◌, cond, not, false, suc, length, refl, sym, ◌∙◌, ap, ap₂, nat_lt, map, subst}
+use Rattle.std.specs.Prelude.{Option, Some, None, is_some, position, string_bytes, option_map, slice_get, IsUtf8}
 use Rattle.std.specs.declared.alloc.Global.{Global}
 use Rattle.std.specs.declared.string.String.{String}
 use Rattle.std.specs.declared.vec.Vec.{Vec}
-use Rattle.std.specs.List.{prefix_len}
+use Rattle.std.specs.List.{prefix_len, AllByRecursion, IsDistinct}
+use Rattle.std.specs.String.{string_eq}
+use Rattle.std.proofs.lemmas.Str.{IsUtf8-string_bytes}
 use Rattle.std.specs.Map.{keys_of, values_of, lookup}
 use Rattle.std.specs.Str.{bytes_eq}
 use Rattle.indexmap.proofs.MapLemmas.{some_index}
 use Rattle.std.proofs.lemmas.Option.{slice_get-map, same_Some}
 use Rattle.compose_read.specs.Lines.{Source}
-use Rattle.compose_read.specs.Sources.{sources_of}
+use Rattle.compose_read.specs.Sources.{sources_of, AreSources}
 
 abbrev Files : Type 0
 Files = List (String Global × Vec ℕ Global)
@@ -48,3 +50,25 @@ bytes_at files i v h =
         → option_map (λ (s : Source). s.bytes) (option_map (λ f. let s : Source = record { name = string_bytes f.0; bytes = f.1.items } in s) o) ≡ Some v.items
     through None e = cc
     through (Some f) e = ap (λ (w : Vec ℕ Global). Some w.items) (same_Some f.1 v e)
+
+-- ---- what the map's keys say of the sources
+
+all_text : (files : Files) → AllByRecursion (λ (s : Source). IsUtf8 s.name) (sources_of files)
+all_text [] = tt
+all_text (f ∷ files) = (IsUtf8-string_bytes f.0, all_text files)
+
+other_names : (k : String Global) (files : Files) → AllByRecursion (λ y. string_eq k y ≡ false) (keys_of files) → AllByRecursion (λ n. bytes_eq (string_bytes k) n ≡ false) (map (λ (s : Source). s.name) (sources_of files))
+other_names k [] h = tt
+other_names k (f ∷ files) h = (h.0, other_names k files h.1)
+
+distinct_names : (files : Files) → IsDistinct string_eq (keys_of files) → IsDistinct bytes_eq (map (λ (s : Source). s.name) (sources_of files))
+unfolding IsDistinct
+distinct_names [] d = tt
+distinct_names (f ∷ files) d = (other_names f.0 files d.0, distinct_names files d.1)
+
+pub many : (files : Files) → length (sources_of files) ≡ length files
+many [] = refl
+many (f ∷ files) = ap suc (many files)
+
+pub sound : (files : Files) → length files ≤ 64 → IsDistinct string_eq (keys_of files) → AreSources (sources_of files)
+sound files few d = record { few = subst (λ n. n ≤ 64) (sym (many files)) few; text = all_text files; distinct = distinct_names files d }

@@ -7,8 +7,8 @@ use Rattle.std.proofs.lemmas.Bool.{ltb-true, ltb-false, eqb-true, eq-eqb}
 use Rattle.std.proofs.lemmas.List.Elements.{All-nil, All-cons}
 use Rattle.std.proofs.lemmas.List.Sums.{fails_before_first, passes_at_first}
 use Rattle.std.proofs.lemmas.Str.{IsUtf8-take, IsUtf8-drop, IsCharBoundary-before_ascii, IsCharBoundary-after_ascii}
-use Rattle.keysym_core.specs.Lines.{lines_of}
-use Rattle.keysym_core.proofs.LineParts.{lines-some, lines-whole}
+use Rattle.compose_text.specs.Lines.{lines_of}
+use Rattle.compose_text.proofs.LineParts.{lines-some, lines-whole}
 
 abbrev is_newline : ℕ → Bool
 is_newline b = b == 10

@@ -3,7 +3,7 @@ use Rattle.std.proofs.Common.{◌≡◌, ◌<◌, ◌+◌, ◌-◌, ℕ, zero, s
 use Rattle.std.specs.Prelude.{Option, Some, None, Result, Ok, Err, flat_map, option_map, position, slice_get, get_or}
 use Rattle.std.specs.Option.{option_map_or}
 use Rattle.std.proofs.lemmas.Option.{slice_get-get_or, same_Some}
-use Rattle.keysym_core.specs.Lines.{lines_of}
+use Rattle.compose_text.specs.Lines.{lines_of}
 use Rattle.keysym_core.specs.Names.{KeysymNames}
 use Rattle.compose_read.specs.Lines.{Source, Visit, included, source_named, visits, max_depth, numbered, own_lines, source_lines, visits_below}
 use Rattle.compose_read.specs.Rows.{Drafted, no_row}

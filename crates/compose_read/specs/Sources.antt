@@ -1,5 +1,7 @@
 -- Sources as they are kept, and why one more is refused.
-use Rattle.std.specs.Prelude.{ℕ, nat_le, nat_lt, if◌then◌else◌, List, length, map, Option, Some, None, string_bytes}
+use Rattle.std.specs.Prelude.{ℕ, nat_le, nat_lt, ◌≤◌, if◌then◌else◌, List, length, map, Option, Some, None, string_bytes, IsUtf8}
+use Rattle.std.specs.List.{AllByRecursion, IsDistinct}
+use Rattle.std.specs.Str.{bytes_eq}
 use Rattle.std.specs.declared.alloc.Global.{Global}
 use Rattle.std.specs.declared.string.String.{String}
 use Rattle.std.specs.declared.vec.Vec.{Vec}
@@ -18,3 +20,9 @@ abbrev pub add_fault : List Source → List ℕ → Option SourceFault
 add_fault sources name =
     if nat_lt (source_named sources name) (length sources) then Some NameTaken else
     if nat_le max_sources (length sources) then Some TooManySources else None
+
+-- what any sources are: no more than may be, by distinct names, which are text
+pub record AreSources (sources : List Source) : Type 0 where
+  pub few : length sources ≤ max_sources
+  pub text : AllByRecursion (λ s. IsUtf8 s.name) sources
+  pub distinct : IsDistinct bytes_eq (map (λ s. s.name) sources)

@@ -26,8 +26,6 @@ mod rows;
 mod sequences;
 mod settling;
 mod sources;
-#[cfg(test)]
-mod tests;
 
 use compose_lex::LexFault;
 pub use definitions::Definitions;

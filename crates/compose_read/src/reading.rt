@@ -12,7 +12,8 @@ use crate::draft::Draft;
 use crate::line::{Events, Found, MAX_DEPTH, Place, read_line};
 use crate::sources::Sources;
 use arrayvec::ArrayVec;
-use keysym_core::{Names, first_line};
+use compose_text::first_line;
+use keysym_core::Names;
 use std::alloc::Global;
 
 /// The most lines that are read, included ones each time.

@@ -1,7 +1,7 @@
 //! The sources that a table may be read from, by name.
 ghost use Rattle.std.specs.Prelude.{◌≡◌, ◌≢◌, ◌<◌, ◌≤◌, ◌++◌, [], ◌∷◌, length, Some, None, IsSome, IfErr, OnOk, OnErr, false, nat_lt, position, bytes_eq, IfSome, slice_get, option_map, option_copied};
 ghost use Rattle.compose_read.specs.Lines.{source_named};
-ghost use Rattle.compose_read.specs.Sources.{add_fault};
+ghost use Rattle.compose_read.specs.Sources.{add_fault, AreSources};
 ghost use Rattle.compose_read.specs.declared.sources.SourceFault.TheVariants.{NoMemory};
 
 use indexmap::IndexMap;
@@ -43,13 +43,15 @@ pub struct Sources {
 }
 
 impl Model for Sources {
-    ghost use Rattle.std.specs.Prelude.{List};
+    ghost use Rattle.std.specs.Prelude.{List, length, ◌≤◌};
     ghost use Rattle.compose_read.specs.Lines.{Source};
     ghost use Rattle.compose_read.specs.Sources.{sources_of};
 
     ghost Value = { List Source };
 
     ghost view = { λ s. sources_of s.files.entries };
+
+    ghost invariant = { λ s. length s.files.entries ≤ 64 };
 }
 
 impl Sources {
@@ -65,9 +67,10 @@ impl Sources {
         }
     }
 
-    /// How many sources there are. O(1).
+    /// How many sources there are: at most 64, whose names are distinct. O(1).
     pub fn count(&self) -> usize
-        ensures { result ≡ length self.now }
+        ensures count { result ≡ length self.now }
+        ensures sound { AreSources self.now }
     {
         self.files.len()
     }
@@ -106,7 +109,7 @@ impl Sources {
     }
 
     /// The bytes of the source at this place. O(1).
-    pub(crate) fn bytes(&self, place: usize) -> &[u8]
+    pub fn bytes(&self, place: usize) -> &[u8]
         requires { place < length self.now }
         ensures { option_map (λ s. s.bytes) (slice_get self.now place) ≡ Some result.now }
     {
@@ -115,7 +118,8 @@ impl Sources {
 
     /// Puts a source with a new name behind the others, if there is memory.
     fn append(&mut self, name: &str, bytes: Vec<u8>) -> Result<(), AllocError>
-        requires { position (λ s. bytes_eq name.now s.name) self.old ≡ None }
+        requires new { position (λ s. bytes_eq name.now s.name) self.old ≡ None }
+        requires room { length self.old < 64 }
         ensures ok { OnOk result (self.new ≡ self.old ++ record { name = name.now; bytes = bytes.items } ∷ []) }
         ensures err { OnErr result (self.new ≡ self.old) }
     {

@@ -16,7 +16,7 @@ returns-clause-ok c =
     let same : string_bytes kept ≡ c.args.name.now = search rules in
     let absent : lookup (string_eq kept) files.entries ≡ None =
     absent_key (string_bytes kept) files.entries
-    (ap (λ n. position (λ (s : Source). bytes_eq n s.name) (sources_of files.entries)) same ∙ ap (position (λ (s : Source). bytes_eq c.args.name.now s.name)) c.self.view_is ∙ c.requires) in
+    (ap (λ n. position (λ (s : Source). bytes_eq n s.name) (sources_of files.entries)) same ∙ ap (position (λ (s : Source). bytes_eq c.args.name.now s.name)) c.self.view_is ∙ c.requires.new) in
     let added : Source = record { name = c.args.name.now; bytes = c.args.bytes.items } in
     ap sources_of (c.in_ok-insert.ensures.entries ∙ insert_entry-new string_eq files kept c.args.bytes absent)
     ∙ map-append (λ f. let s : Source = record { name = string_bytes f.0; bytes = f.1.items } in s) files.entries ((kept, c.args.bytes) ∷ [])
