@@ -1,0 +1,4 @@
+mod Examples
+pub mod WordKeys
+pub mod Tables
+pub mod Steps

@@ -1,0 +1,75 @@
+-- The parts of a migration, read one after another.
+use Rattle.std.proofs.Common.{◌≡◌, ℕ, List, sym, ◌∙◌, ap, subst}
+use Rattle.std.specs.Prelude.{Result, Ok, Err}
+use Rattle.std.specs.Result.{IsErrAnd}
+use Rattle.keysym_core.specs.Names.{KeysymNames}
+use Rattle.keysym_core.specs.Header.{names_of}
+use Rattle.keysym_core.specs.declared.fault.NameFault.TheVariants as name_faults
+use Rattle.compose_model.specs.Table.{Definition}
+use Rattle.compose_migration.specs.Keys.{keys_of}
+use Rattle.compose_migration.specs.Migration.{GivenMigration, NamedParts, Parts, NoMigration, no_names, no_key, ◌>>=◌, or_because, named, migration_of, table_of_side}
+use Rattle.compose_migration.specs.Given.{MigrationRefused, MigrationGives}
+use Rattle.compose_migration.specs.declared.fault.Side.TheVariants as sides
+use Rattle.compose_migration.specs.declared.fault.MigrationFault.{MigrationFault}
+use Rattle.compose_migration.specs.declared.fault.MigrationFault.TheVariants as faults
+
+-- this is read
+abbrev pub IsRead : {A : Type 0} → Result A NoMigration → A → Type 0
+IsRead {A} said x = (a : A) × (said ≡ Ok a) × (a ≡ x)
+
+is_read : {A : Type 0} (said : Result A NoMigration) (x : A) → IsRead said x → said ≡ Ok x
+is_read said x h = h.1 ∙ ap (λ a. Ok a) h.2
+
+-- a fault of one step is the fault of the whole
+step_refused : {A B : Type 0} (fault : MigrationFault) (r : Result A NoMigration) (f : A → Result B NoMigration) → MigrationRefused fault r → MigrationRefused fault (r >>= f)
+step_refused (faults.Names name_faults.NoMemory) r f h = absurd h
+step_refused (faults.Names (name_faults.NotUtf8 n)) r f h = ap (λ r. r >>= f) h
+step_refused (faults.Names (name_faults.BadLine n)) r f h = ap (λ r. r >>= f) h
+step_refused (faults.Names (name_faults.ValueTooLarge n)) r f h = ap (λ r. r >>= f) h
+step_refused (faults.Names (name_faults.NameConflict n)) r f h = ap (λ r. r >>= f) h
+step_refused (faults.Names name_faults.TooManyNames) r f h = ap (λ r. r >>= f) h
+step_refused (faults.Key index) r f h = ap (λ r. r >>= f) h
+step_refused (faults.Table side fault) r f h = (h.0, ap (λ r. r >>= f) h.1, h.2)
+step_refused faults.NoMemory r f h = tt
+
+-- an answer that is this fault gives what the fault gives
+pub fault_gives : {P A : Type 0} (reads : P → A → Type 0) (r : Result A MigrationFault) (fault : MigrationFault) (said : Result P NoMigration) → IsErrAnd r (λ e. e ≡ fault) → MigrationRefused fault said → MigrationGives reads r said
+fault_gives reads (Ok x) fault said h g = absurd h
+fault_gives reads (Err e) fault said h g = subst (λ (x : MigrationFault). MigrationRefused x said) (sym h) g
+
+-- ---- names and keysyms
+
+module _ (header : List ℕ) (words : List (List ℕ)) (names : KeysymNames) (names_read : IsRead (or_because no_names (names_of header)) names) where
+  abbrev with_keys : List ℕ → Result NamedParts NoMigration
+  with_keys keys = Ok (record { names = names; keys = keys })
+
+  after_names : named header words ≡ (or_because no_key (keys_of names words) >>= with_keys)
+  after_names = ap (λ r. r >>= (λ n. or_because no_key (keys_of n words) >>= (λ keys. (let p : NamedParts = record { names = n; keys = keys } in Ok p)))) (is_read (or_because no_names (names_of header)) names names_read)
+
+  pub keys_refused : (fault : MigrationFault) → MigrationRefused fault (or_because no_key (keys_of names words)) → MigrationRefused fault (named header words)
+  keys_refused fault h = subst (λ (s : Result NamedParts NoMigration). MigrationRefused fault s) (sym after_names) (step_refused fault (or_because no_key (keys_of names words)) with_keys h)
+
+-- ---- both tables
+
+module _ (given : GivenMigration) (n : NamedParts) (n_read : IsRead (named given.header given.words) n) where
+  abbrev with_new : List Definition → List Definition → Result Parts NoMigration
+  with_new old new = Ok (record { names = n.names; keys = n.keys; old = old; new = new })
+
+  abbrev with_old : List Definition → Result Parts NoMigration
+  with_old old = table_of_side n.names sides.New given.new >>= with_new old
+
+  after_named : migration_of given ≡ (table_of_side n.names sides.Old given.old >>= with_old)
+  after_named = ap (λ r. r >>= (λ m. table_of_side m.names sides.Old given.old >>= (λ old. table_of_side m.names sides.New given.new >>= (λ new. (let p : Parts = record { names = m.names; keys = m.keys; old = old; new = new } in Ok p))))) (is_read (named given.header given.words) n n_read)
+
+  pub old_refused : (fault : MigrationFault) → MigrationRefused fault (table_of_side n.names sides.Old given.old) → MigrationRefused fault (migration_of given)
+  old_refused fault h = subst (λ (s : Result Parts NoMigration). MigrationRefused fault s) (sym after_named) (step_refused fault (table_of_side n.names sides.Old given.old) with_old h)
+
+  module _ (old : List Definition) (old_read : IsRead (table_of_side n.names sides.Old given.old) old) where
+    after_old : migration_of given ≡ (table_of_side n.names sides.New given.new >>= with_new old)
+    after_old = after_named ∙ ap (λ r. r >>= with_old) (is_read (table_of_side n.names sides.Old given.old) old old_read)
+
+    pub new_refused : (fault : MigrationFault) → MigrationRefused fault (table_of_side n.names sides.New given.new) → MigrationRefused fault (migration_of given)
+    new_refused fault h = subst (λ (s : Result Parts NoMigration). MigrationRefused fault s) (sym after_old) (step_refused fault (table_of_side n.names sides.New given.new) (with_new old) h)
+
+    pub all_read : (new : List Definition) → IsRead (table_of_side n.names sides.New given.new) new → migration_of given ≡ Ok (record { names = n.names; keys = n.keys; old = old; new = new })
+    all_read new new_read = after_old ∙ ap (λ r. r >>= with_new old) (is_read (table_of_side n.names sides.New given.new) new new_read)

@@ -1,0 +1,23 @@
+-- Words that name keysyms (this project's profile: docs/FORMATS.md, "Names of keysyms").
+use Rattle.std.specs.Prelude.{◌≡◌, ℕ, List, map, position, Option, is_none, Result, Ok, Err}
+use Rattle.std.specs.Option.{option_map_or, option_to_list}
+use Rattle.std.specs.List.{flat_map}
+use Rattle.std.specs.declared.vec.Vec.{Vec}
+use Rattle.std.specs.declared.alloc.Global.{Global}
+use Rattle.keysym_core.specs.Names.{KeysymNames, value}
+use Rattle.compose_migration.specs.declared.keys.KeyFault.{KeyFault}
+use Rattle.compose_migration.specs.declared.keys.KeyFault.TheVariants.{Unknown, NoMemory}
+
+-- all values, if each is there; or the index of the first that is not
+abbrev pub all_there : List (Option ℕ) → Result (List ℕ) ℕ
+all_there values = option_map_or (λ i. Err i) (position is_none values) (Ok (flat_map option_to_list values))
+
+-- the keysyms of the words, or the index of the first word that has none
+abbrev pub keys_of : KeysymNames → List (List ℕ) → Result (List ℕ) ℕ
+keys_of names words = all_there (map (value names) words)
+
+-- what is said, unless memory was refused
+abbrev pub KeysGive : Result (Vec ℕ Global) KeyFault → Result (List ℕ) ℕ → Type 0
+KeysGive (Ok keys) said = said ≡ Ok keys.items
+KeysGive (Err (Unknown index)) said = said ≡ Err index
+KeysGive (Err NoMemory) said = Unit {0}

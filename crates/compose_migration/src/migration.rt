@@ -1,0 +1,123 @@
+//! A migration: names, keysyms, and an old and a new table.
+ghost use Rattle.std.specs.Prelude.{◌≡◌, map};
+ghost use Rattle.keysym_core.specs.Header.{names_of};
+ghost use Rattle.compose_tree.specs.Given.{first_table};
+ghost use Rattle.compose_migration.specs.Keys.{keys_of};
+ghost use Rattle.compose_migration.specs.Migration.{no_names, no_key, no_table, or_because, named, migration_of};
+ghost use Rattle.compose_migration.specs.Given.{MigrationGives, given_of, named_parts, parts};
+
+use crate::fault::{MigrationFault, Side};
+use crate::keys::{KeyFault, look_up_keys};
+use compose_model::Rule;
+use compose_read::Sources;
+use compose_tree::{ComposeTable, TableFault, read_first_table};
+use keysym_core::{Keysym, NameFault, Names};
+use std::alloc::Global;
+
+/// The sources of a table, of which the first is the root, and what is done with its overlaps.
+#[derive(Clone, Copy)]
+pub struct TableInput<'a> {
+    pub sources: &'a Sources,
+    pub rule: Rule,
+}
+
+/// What a migration is read from.
+#[derive(Clone, Copy)]
+pub struct MigrationInput<'a, 'w> {
+    /// A header of names, which is added to the core names.
+    pub header: &'a [u8],
+    /// Words that are to name keysyms.
+    pub words: &'a [&'w str],
+    /// The old table.
+    pub old: TableInput<'a>,
+    /// The new table.
+    pub new: TableInput<'a>,
+}
+
+/// Names, and the keysyms of words in their order.
+#[derive(Drop)]
+pub struct Named {
+    pub names: Names,
+    pub keys: Vec<Keysym>,
+}
+
+impl Named {
+    /// Reads the names of a header, which is added to the core names, and the keysyms of the words by them; the first that is refused
+    /// decides. O(bytes).
+    pub fn read(alloc: Global, header: &[u8], words: &[&str]) -> Result<Named, MigrationFault>
+        ensures { MigrationGives (λ said read. said ≡ named_parts read) result (named header.now (map (λ word. word.now) words.now)) }
+    {
+        let names = read_names(alloc, header)?;
+        let keys = read_keys(alloc, &names, words)?;
+        Ok(Named { names, keys })
+    }
+}
+
+/// A move from an old table to a new one, both read with the same names.
+#[derive(Drop)]
+pub struct Migration<T: ComposeTable> {
+    pub names: Names,
+    /// The keysyms of the words, in their order.
+    pub keys: Vec<Keysym>,
+    pub old: T,
+    pub new: T,
+}
+
+impl<T: ComposeTable> Migration<T> {
+    /// Reads the names, the keysyms of the words, the old table and the new one, in this order; the first that is refused decides.
+    /// O(b + n log n) in the bytes of everything and the definitions of a table.
+    pub fn read(
+        alloc: Global,
+        input: &MigrationInput<'_, '_>,
+    ) -> Result<Migration<T>, MigrationFault>
+        ensures { MigrationGives (λ said read. said ≡ parts T.definitions read) result (migration_of (given_of input.entry.now)) }
+    {
+        let named = Named::read(alloc, input.header, input.words)?;
+        let old = read_side(alloc, &named.names, Side::Old, &input.old)?;
+        let new = read_side(alloc, &named.names, Side::New, &input.new)?;
+        Ok(Migration {
+            names: named.names,
+            keys: named.keys,
+            old,
+            new,
+        })
+    }
+}
+
+/// The names of a header.
+fn read_names(alloc: Global, header: &[u8]) -> Result<Names, MigrationFault>
+    ensures { MigrationGives (λ said names. said ≡ names) result (or_because no_names (names_of header.now)) }
+{
+    match Names::read(alloc, header) {
+        Ok(names) => Ok(names),
+        Err(NameFault::NoMemory) => Err(MigrationFault::NoMemory),
+        Err(fault) => Err(MigrationFault::Names(fault)),
+    }
+}
+
+/// The keysyms of words.
+fn read_keys(alloc: Global, names: &Names, words: &[&str]) -> Result<Vec<Keysym>, MigrationFault>
+    ensures { MigrationGives (λ said keys. said ≡ keys.items) result (or_because no_key (keys_of names.now (map (λ word. word.now) words.now))) }
+{
+    match look_up_keys(alloc, names, words) {
+        Ok(keys) => Ok(keys),
+        Err(KeyFault::Unknown { index }) => Err(MigrationFault::Key { index }),
+        Err(KeyFault::NoMemory) => Err(MigrationFault::NoMemory),
+    }
+}
+
+/// The table of a side.
+fn read_side<T: ComposeTable>(
+    alloc: Global,
+    names: &Names,
+    side: Side,
+    input: &TableInput<'_>,
+) -> Result<T, MigrationFault>
+    ensures { MigrationGives (λ said table. said ≡ T.definitions table) result (or_because (no_table side) (first_table names.now input.entry.now.sources.now input.entry.now.rule)) }
+{
+    match read_first_table(alloc, names, input.sources, input.rule) {
+        Ok(table) => Ok(table),
+        Err(TableFault::NoMemory) => Err(MigrationFault::NoMemory),
+        Err(fault) => Err(MigrationFault::Table { side, fault }),
+    }
+}
