@@ -12,12 +12,12 @@ use Rattle.compose_tree.specs.declared.table.Target.{Target}
 use Rattle.compose_tree.specs.declared.table.Target.TheVariants.{Node, Leaf}
 use Rattle.compose_tree.specs.Targets.{target_of}
 use Rattle.compose_tree.proofs.Steps.{effect_at, effect_by_target, target_fed}
-use Rattle.compose_check.specs.declared.fault.CheckFault.{CheckFault}
-use Rattle.compose_check.specs.declared.fault.CheckFault.TheVariants.{Cancels, TextDiffers, PairMissing}
-use Rattle.compose_check.specs.Demands.{Demand, demand, first_unmet, one_edge_demands, edge_demands_from}
+use Rattle.compose_fresh.specs.declared.fault.CheckFault.{CheckFault}
+use Rattle.compose_fresh.specs.declared.fault.CheckFault.TheVariants.{Cancels, TextDiffers, PairMissing}
+use Rattle.compose_fresh.specs.Demands.{Demand, demand, first_unmet}
+use Rattle.compose_check.specs.Demands.{one_edge_demands, edge_demands_from}
 use Rattle.compose_check.specs.Landing.{target_text, landing_text, landing_cancels, landing_number}
-use Rattle.compose_check.proofs.Unmet.{first_unmet-met, first_unmet-fault, unmet_before, met_before}
-use Rattle.compose_check.proofs.Lists.{drop_at}
+use Rattle.compose_fresh.proofs.Unmet.{drop_at, first_unmet-met, first_unmet-fault, unmet_before, met_before}
 use Rattle.compose_check.proofs.Landed.{root_alone, lands_cancelled, lands_text, lands_number}
 
 -- the key leads from the old node u to the target, and from the new node with the number n it lands there
@@ -96,6 +96,6 @@ module _ (names : KeysymNames) (old new : List Definition) (pairs : List (ℕ ×
   pub pair_unmet : (fault : CheckFault) → first_unmet here ≡ Some fault → first_unmet (edge_demands_from names old new pairs i (drop i ps)) ≡ Some fault
   pair_unmet fault h = from_here ∙ unmet_before here (edge_demands_from names old new pairs (i + 1) (drop (i + 1) ps)) fault h
 
-  -- or one of those behind it
+  -- or one of those that follow
   pub pair_met : first_unmet here ≡ None → first_unmet (edge_demands_from names old new pairs (i + 1) (drop (i + 1) ps)) ≡ first_unmet (edge_demands_from names old new pairs i (drop i ps))
   pair_met h = sym (from_here ∙ met_before here (edge_demands_from names old new pairs (i + 1) (drop (i + 1) ps)) h)

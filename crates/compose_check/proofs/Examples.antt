@@ -5,8 +5,8 @@ use Rattle.std.specs.Char.{encode_utf8}
 use Rattle.keysym_core.specs.Names.{KeysymNames}
 use Rattle.compose_model.specs.Table.{Definition}
 use Rattle.compose_model.specs.Certificate.{Certificate, Repertoire, Typing}
-use Rattle.compose_check.specs.declared.fault.CheckFault.{CheckFault}
-use Rattle.compose_check.specs.declared.fault.CheckFault.TheVariants.{PairsNotRising, NodeOutOfRange, RootPairMissing, RestBroken, NewStart, Cancels, TextDiffers, PairMissing, BoundExceeded, TypingMissing, TypingWrong, TypingUnasked, FreshNotRising, FreshIgnored, FreshUsed}
+use Rattle.compose_fresh.specs.declared.fault.CheckFault.{CheckFault}
+use Rattle.compose_fresh.specs.declared.fault.CheckFault.TheVariants.{PairsNotRising, NodeOutOfRange, RootPairMissing, RestBroken, NewStart, Cancels, TextDiffers, PairMissing, BoundExceeded, TypingMissing, TypingWrong, TypingUnasked, FreshNotRising, FreshIgnored, FreshUsed}
 use Rattle.compose_check.specs.Demands.{fault_of}
 
 abbrev core : KeysymNames
@@ -137,7 +137,7 @@ fresh_ignored = refl
 fresh_used : with_fresh (0xff20 ∷ []) ≡ Some (FreshUsed 0xff20)
 fresh_used = refl
 
--- also where it stands behind the first place of a sequence alone
+-- also where it stands in a sequence after its first keysym alone
 fresh_used_later : with_fresh (0x27 ∷ []) ≡ Some (FreshUsed 0x27)
 fresh_used_later = refl
 

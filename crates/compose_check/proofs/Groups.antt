@@ -5,9 +5,11 @@ use Rattle.std.proofs.lemmas.Bool.{and_parts}
 use Rattle.keysym_core.specs.Names.{KeysymNames}
 use Rattle.compose_model.specs.Table.{Definition}
 use Rattle.compose_model.specs.Certificate.{Certificate, Repertoire, pairs_rise, pairs_in_range, has_pair, rest_is_kept}
-use Rattle.compose_check.specs.declared.fault.CheckFault.{CheckFault}
-use Rattle.compose_check.specs.Demands.{Demand, first_unmet, pair_demands, fresh_demands, start_demands, edge_demands, bound_demands, typing_demands, fault_of}
-use Rattle.compose_check.proofs.Unmet.{unmet_before, met_before, met_from_none}
+use Rattle.compose_fresh.specs.declared.fault.CheckFault.{CheckFault}
+use Rattle.compose_fresh.specs.Demands.{Demand, first_unmet}
+use Rattle.compose_fresh.specs.Fresh.{fresh_demands}
+use Rattle.compose_check.specs.Demands.{pair_demands, start_demands, edge_demands, bound_demands, typing_demands, fault_of}
+use Rattle.compose_fresh.proofs.Unmet.{unmet_before, met_before, met_from_none}
 
 module _ (names : KeysymNames) (old new : List Definition) (repertoire : Repertoire) (c : Certificate) where
   abbrev pairs : List Demand

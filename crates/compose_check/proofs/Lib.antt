@@ -1,8 +1,4 @@
 mod Examples
-pub mod Places
-pub mod Used
-pub mod Unmet
-pub mod FreshKeysyms
 pub mod Lists
 pub mod PairOrder
 pub mod Landed

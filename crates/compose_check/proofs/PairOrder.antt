@@ -4,7 +4,8 @@ use Rattle.std.specs.Prelude.{◌==◌, nat_lt, slice_get, Some}
 use Rattle.std.proofs.lemmas.Bool.{and_parts, and_from, or_cases, or_left, or_right, cases_lt, and_left, and_right, ne_eqb}
 use Rattle.compose_model.specs.Certificate.{is_pair_before, pairs_rise, has_pair}
 use Rattle.std.proofs.lemmas.Option.{slice_get_within, get_or_from_slice_get}
-use Rattle.compose_check.proofs.Lists.{drop_at, none_passes, one_passes}
+use Rattle.compose_fresh.proofs.Unmet.{drop_at}
+use Rattle.compose_check.proofs.Lists.{none_passes, one_passes}
 
 -- ---- the order
 
@@ -58,7 +59,7 @@ neither_is p i j g h = and_from (p.0 == i) (p.1 == j) (eq-eqb p.0 i first) (eq-e
 
 -- ---- rising pairs
 
--- a pair, the next one, and those behind it
+-- a pair, the next one, and those that follow
 pub next_rises : (xs : List (ℕ × ℕ)) (i : ℕ) (p q : ℕ × ℕ) → 1 ≤ i → slice_get xs (i - 1) ≡ Some p → slice_get xs i ≡ Some q
     → pairs_rise (drop (i - 1) xs) ≡ is_pair_before p q && pairs_rise (drop (i + 1 - 1) xs)
 next_rises xs i p q low e f =
@@ -98,7 +99,7 @@ before_up_to xs q i p r e h k b = elim (cases_lt k i) [
   | inr high ↦ (let same : k ≡ i = omega arith in ap (λ n. is_pair_before (get_or xs n (0, 0)) q) same ∙ ap (λ x. is_pair_before x q) (get_or_from_slice_get xs i p (0, 0) e) ∙ h)
 ]
 
--- where it comes behind it, so do those from there on
+-- where it comes after it, so do those from there on
 pub behind_from : (xs : List (ℕ × ℕ)) (q : ℕ × ℕ) (i : ℕ) (p : ℕ × ℕ) → pairs_rise xs ≡ true → slice_get xs i ≡ Some p → is_pair_before q p ≡ true → (k : ℕ) → i ≤ k → k < length xs → is_pair_before q (get_or xs k (0, 0)) ≡ true
 behind_from xs q i p r e h k a b = elim (cases_lt i k) [
   | inl low ↦ before_trans q (get_or xs i (0, 0)) (get_or xs k (0, 0)) (ap (is_pair_before q) (get_or_from_slice_get xs i p (0, 0) e) ∙ h) (earlier_before xs r i k low b)
@@ -112,6 +113,6 @@ not_found xs i j low below above = none_passes (λ p. p.0 == i && p.1 == j) (0, 
   | inr a ↦ other_behind (get_or xs k (0, 0)) i j (above k a h)
 ])
 
--- what comes neither before nor behind is found
+-- what comes neither before nor after is found
 pub found : (xs : List (ℕ × ℕ)) (i j k : ℕ) (p : ℕ × ℕ) → slice_get xs k ≡ Some p → is_pair_before p (i, j) ≡ false → is_pair_before (i, j) p ≡ false → has_pair xs i j ≡ true
 found xs i j k p e g h = one_passes (λ p. p.0 == i && p.1 == j) (0, 0) xs k (slice_get_within xs k p e) (ap (λ (x : ℕ × ℕ). x.0 == i && x.1 == j) (get_or_from_slice_get xs k p (0, 0) e) ∙ neither_is p i j g h)

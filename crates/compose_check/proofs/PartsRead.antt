@@ -1,92 +1,27 @@
 -- The parts of a check, read one after another.
-use Rattle.std.proofs.Common.{◌≡◌, List, sym, ◌∙◌, ap, subst, rules}
+use Rattle.std.proofs.Common.{◌≡◌, ℕ, List, [], sym, ◌∙◌, ap, subst}
 use Rattle.std.specs.Prelude.{Result, Ok, Err}
 use Rattle.std.specs.Result.{IsErrAnd}
 use Rattle.keysym_core.specs.Names.{KeysymNames}
 use Rattle.keysym_core.specs.Header.{names_of}
+use Rattle.keysym_core.specs.declared.fault.NameFault.{NameFault}
 use Rattle.compose_model.specs.Table.{Definition}
-use Rattle.compose_model.specs.Certificate.{Certificate, Repertoire}
 use Rattle.compose_tree.specs.Given.{NoTable, first_table}
-use Rattle.compose_tree.specs.declared.reading.TableFault.{TableFault}
-use Rattle.compose_tree.specs.declared.reading.TableFault.TheVariants as table_faults
+use Rattle.compose_migration.specs.Keys.{keys_of}
+use Rattle.compose_migration.specs.declared.fault.Side.TheVariants as sides
+use Rattle.compose_migration.specs.Migration as migrations
+use Rattle.compose_migration.specs.Migration.{GivenMigration, NoMigration, no_names, no_key, no_table, or_because, ◌>>=◌, migration_of, table_of_side}
+use Rattle.keysym_core.specs.declared.fault.NameFault.TheVariants as name_faults
+use Rattle.compose_model.specs.Certificate.{Certificate, Repertoire}
 use Rattle.compose_cert.specs.Reading.{certificate_of}
 use Rattle.compose_cert.specs.Repertoire.{repertoire_of}
-use Rattle.compose_cert.specs.declared.CertFault.{CertFault}
-use Rattle.compose_cert.specs.declared.RepertoireFault.{RepertoireFault}
-use Rattle.compose_cert.specs.Given.{RepertoireGives, CertificateGives}
 use Rattle.compose_cert.specs.declared.CertFault.TheVariants as cert_faults
 use Rattle.compose_cert.specs.declared.RepertoireFault.TheVariants as repertoire_faults
-use Rattle.compose_check.specs.Gives.{CheckGives, NewGives, TableFails, repertoire_raised, certificate_raised}
+use Rattle.compose_check.specs.Input.{Input, Parts, Unread, no_migration, no_repertoire, no_certificate, parts_of}
+use Rattle.compose_check.specs.Gives.{InputRefused, CheckGives}
 use Rattle.compose_check.specs.declared.verdict.Verdict.{Verdict}
 use Rattle.compose_check.specs.declared.input.InputFault.{InputFault}
 use Rattle.compose_check.specs.declared.input.InputFault.TheVariants as faults
-use Rattle.compose_check.specs.Input.{Input, Parts, Unread, no_names, no_old, no_new, no_repertoire, no_certificate, or_unread, ◌>>=◌, parts_of}
-
--- no fault says that there is a table
-no_table : (fault : TableFault) (table : List Definition) → TableFails fault (Ok table) → ⊥
-no_table (table_faults.Read fault) table h = search rules
-no_table (table_faults.Settle fault) table h = search rules
-no_table (table_faults.Build fault) table h = search rules
-no_table table_faults.NoMemory table h = h
-
-module _ (input : Input) where
-  abbrev from_certificate : KeysymNames → List Definition → List Definition → Repertoire → Result Parts Unread
-  from_certificate names old new repertoire = or_unread no_certificate (certificate_of input.certificate) >>= (λ c. Ok (record { names = names; old = old; new = new; repertoire = repertoire; certificate = c }))
-
-  abbrev from_repertoire : KeysymNames → List Definition → List Definition → Result Parts Unread
-  from_repertoire names old new = or_unread no_repertoire (repertoire_of input.repertoire) >>= from_certificate names old new
-
-  abbrev from_new : KeysymNames → List Definition → Result Parts Unread
-  from_new names old = or_unread no_new (first_table names input.new input.new_rule) >>= from_repertoire names old
-
-  abbrev from_old : KeysymNames → Result Parts Unread
-  from_old names = or_unread no_old (first_table names input.old input.old_rule) >>= from_new names
-
-  module _ (names : KeysymNames) (named : names_of input.header ≡ Ok names) where
-    after_names : parts_of input ≡ from_old names
-    after_names = ap (λ r. or_unread no_names r >>= from_old) named
-
-    module _ (old : List Definition) (old_read : first_table names input.old input.old_rule ≡ Ok old) where
-      after_old : parts_of input ≡ from_new names old
-      after_old = after_names ∙ ap (λ r. or_unread no_old r >>= from_new names) old_read
-
-      -- the fault of the new table is that of the parts
-      pub new_answer : {T : Type 0} (view : T → List Definition) (e : InputFault) (said : Result (List Definition) NoTable) → first_table names input.new input.new_rule ≡ said → NewGives view (Err e) said → CheckGives (Err e) (parts_of input)
-      new_answer view (faults.New fault) (Err why) is h = (why, after_old ∙ ap (λ r. or_unread no_new r >>= from_repertoire names old) is, h)
-      new_answer view (faults.New fault) (Ok table) is h = absurd (no_table fault table h)
-      new_answer view faults.NoMemory said is h = tt
-      new_answer view (faults.Names fault) said is h = absurd h
-      new_answer view (faults.Old fault) said is h = absurd h
-      new_answer view (faults.Repertoire fault) said is h = absurd h
-      new_answer view (faults.Certificate fault) said is h = absurd h
-
-      module _ (new : List Definition) (new_read : first_table names input.new input.new_rule ≡ Ok new) where
-        after_new : parts_of input ≡ from_repertoire names old new
-        after_new = after_old ∙ ap (λ r. or_unread no_new r >>= from_repertoire names old) new_read
-
-        pub repertoire_unread : (fault : RepertoireFault) → repertoire_of input.repertoire ≡ Err fault → parts_of input ≡ Err (no_repertoire fault)
-        repertoire_unread fault e = after_new ∙ ap (λ r. or_unread no_repertoire r >>= from_certificate names old new) e
-
-        pub repertoire_answer : (fault : RepertoireFault) → RepertoireGives (Err fault) (repertoire_of input.repertoire) → CheckGives (Err (repertoire_raised fault)) (parts_of input)
-        repertoire_answer (repertoire_faults.BadLine n) e = repertoire_unread (repertoire_faults.BadLine n) e
-        repertoire_answer (repertoire_faults.NotRising n) e = repertoire_unread (repertoire_faults.NotRising n) e
-        repertoire_answer repertoire_faults.TooMany e = repertoire_unread repertoire_faults.TooMany e
-        repertoire_answer repertoire_faults.NoMemory e = tt
-
-        module _ (repertoire : Repertoire) (repertoire_read : repertoire_of input.repertoire ≡ Ok repertoire) where
-          after_repertoire : parts_of input ≡ from_certificate names old new repertoire
-          after_repertoire = after_new ∙ ap (λ r. or_unread no_repertoire r >>= from_certificate names old new) repertoire_read
-
-          pub certificate_unread : (fault : CertFault) → certificate_of input.certificate ≡ Err fault → parts_of input ≡ Err (no_certificate fault)
-          certificate_unread fault e = after_repertoire ∙ ap (λ r. or_unread no_certificate r >>= (λ c. Ok (record { names = names; old = old; new = new; repertoire = repertoire; certificate = c }))) e
-
-          pub certificate_answer : (fault : CertFault) → CertificateGives (Err fault) (certificate_of input.certificate) → CheckGives (Err (certificate_raised fault)) (parts_of input)
-          certificate_answer (cert_faults.NotText n) e = certificate_unread (cert_faults.NotText n) e
-          certificate_answer cert_faults.TooLarge e = certificate_unread cert_faults.TooLarge e
-          certificate_answer cert_faults.NoMemory e = tt
-
-          pub all_read : (c : Certificate) → certificate_of input.certificate ≡ Ok c → parts_of input ≡ Ok (record { names = names; old = old; new = new; repertoire = repertoire; certificate = c })
-          all_read c e = after_repertoire ∙ ap (λ r. or_unread no_certificate r >>= (λ c. Ok (record { names = names; old = old; new = new; repertoire = repertoire; certificate = c }))) e
 
 -- what is read is one thing
 pub same_parts : (input : Input) (p q : Parts) → parts_of input ≡ Ok p → parts_of input ≡ Ok q → p ≡ q
@@ -95,7 +30,91 @@ same_parts input p q e f = injected p q (sym e ∙ f)
     injected : (p q : Parts) → ◌≡◌ {A = Result Parts Unread} (Ok p) (Ok q) → p ≡ q
     injected p q g = cc
 
+-- a migration without words is not refused for a word
+module _ (old new : migrations.TableSources) (index : ℕ) where
+  abbrev read_names : KeysymNames → Result migrations.NamedParts NoMigration
+  read_names names = or_because no_key (keys_of names []) >>= (λ keys. Ok (record { names = names; keys = keys }))
+
+  abbrev read_new : migrations.NamedParts → List Definition → Result migrations.Parts NoMigration
+  read_new n a = table_of_side n.names sides.New new >>= (λ b. Ok (record { names = n.names; keys = n.keys; old = a; new = b }))
+
+  abbrev read_tables : migrations.NamedParts → Result migrations.Parts NoMigration
+  read_tables n = table_of_side n.names sides.Old old >>= read_new n
+
+  new_is : (n : migrations.NamedParts) (a : List Definition) (r : Result (List Definition) NoTable) → (or_because (no_table sides.New) r >>= (λ b. (let p : migrations.Parts = record { names = n.names; keys = n.keys; old = a; new = b } in Ok p))) ≡ Err (no_key index) → ⊥
+  new_is n a (Ok b) e = cc
+  new_is n a (Err why) e = cc
+
+  old_is : (n : migrations.NamedParts) (r : Result (List Definition) NoTable) → (or_because (no_table sides.Old) r >>= read_new n) ≡ Err (no_key index) → ⊥
+  old_is n (Ok a) e = new_is n a (first_table n.names new.sources new.rule) e
+  old_is n (Err why) e = cc
+
+  names_is : (r : Result KeysymNames NameFault) → ((or_because no_names r >>= read_names) >>= read_tables) ≡ Err (no_key index) → ⊥
+  names_is (Ok names) e = old_is (record { names = names; keys = [] }) (first_table names old.sources old.rule) e
+  names_is (Err fault) e = cc
+
+pub no_word : (header : List ℕ) (old new : migrations.TableSources) (index : ℕ) → migration_of (record { header = header; words = []; old = old; new = new }) ≡ Err (no_key index) → ⊥
+no_word header old new index e = names_is old new index (names_of header) e
+
+-- ---- the parts in their order
+
+-- this is read
+abbrev pub IsRead : {A : Type 0} → Result A Unread → A → Type 0
+IsRead {A} said x = (a : A) × (said ≡ Ok a) × (a ≡ x)
+
+is_read : {A : Type 0} (said : Result A Unread) (x : A) → IsRead said x → said ≡ Ok x
+is_read said x h = h.1 ∙ ap (λ a. Ok a) h.2
+
+-- a fault of one step is the fault of the whole
+step_refused : {A B : Type 0} (fault : InputFault) (r : Result A Unread) (f : A → Result B Unread) → InputRefused fault r → InputRefused fault (r >>= f)
+step_refused (faults.Names name_faults.NoMemory) r f h = absurd h
+step_refused (faults.Names (name_faults.NotUtf8 n)) r f h = ap (λ r. r >>= f) h
+step_refused (faults.Names (name_faults.BadLine n)) r f h = ap (λ r. r >>= f) h
+step_refused (faults.Names (name_faults.ValueTooLarge n)) r f h = ap (λ r. r >>= f) h
+step_refused (faults.Names (name_faults.NameConflict n)) r f h = ap (λ r. r >>= f) h
+step_refused (faults.Names name_faults.TooManyNames) r f h = ap (λ r. r >>= f) h
+step_refused (faults.Old fault) r f h = (h.0, ap (λ r. r >>= f) h.1, h.2)
+step_refused (faults.New fault) r f h = (h.0, ap (λ r. r >>= f) h.1, h.2)
+step_refused (faults.Repertoire (repertoire_faults.BadLine n)) r f h = ap (λ r. r >>= f) h
+step_refused (faults.Repertoire (repertoire_faults.NotRising n)) r f h = ap (λ r. r >>= f) h
+step_refused (faults.Repertoire repertoire_faults.TooMany) r f h = ap (λ r. r >>= f) h
+step_refused (faults.Repertoire repertoire_faults.NoMemory) r f h = absurd h
+step_refused (faults.Certificate (cert_faults.NotText n)) r f h = ap (λ r. r >>= f) h
+step_refused (faults.Certificate cert_faults.TooLarge) r f h = ap (λ r. r >>= f) h
+step_refused (faults.Certificate cert_faults.NoMemory) r f h = absurd h
+step_refused faults.NoMemory r f h = tt
+
 -- an answer that is this fault gives what the fault gives
-pub fault_gives : (r : Result Verdict InputFault) (fault : InputFault) (said : Result Parts Unread) → IsErrAnd r (λ e. e ≡ fault) → CheckGives (Err fault) said → CheckGives r said
+pub fault_gives : (r : Result Verdict InputFault) (fault : InputFault) (said : Result Parts Unread) → IsErrAnd r (λ e. e ≡ fault) → InputRefused fault said → CheckGives r said
 fault_gives (Ok v) fault said h g = absurd h
-fault_gives (Err e) fault said h g = subst (λ (x : InputFault). CheckGives (Err x) said) (sym h) g
+fault_gives (Err e) fault said h g = subst (λ (x : InputFault). InputRefused x said) (sym h) g
+
+module _ (input : Input) where
+  abbrev with_certificate : migrations.Parts → Repertoire → Certificate → Result Parts Unread
+  with_certificate m r c = Ok (record { names = m.names; old = m.old; new = m.new; repertoire = r; certificate = c })
+
+  abbrev with_repertoire : migrations.Parts → Repertoire → Result Parts Unread
+  with_repertoire m r = or_because no_certificate (certificate_of input.certificate) >>= with_certificate m r
+
+  abbrev with_migration : migrations.Parts → Result Parts Unread
+  with_migration m = or_because no_repertoire (repertoire_of input.repertoire) >>= with_repertoire m
+
+  pub migration_refused : (fault : InputFault) → InputRefused fault (or_because no_migration (migration_of input.migration)) → InputRefused fault (parts_of input)
+  migration_refused fault h = step_refused fault (or_because no_migration (migration_of input.migration)) with_migration h
+
+  module _ (m : migrations.Parts) (m_read : IsRead (or_because no_migration (migration_of input.migration)) m) where
+    after_migration : parts_of input ≡ (or_because no_repertoire (repertoire_of input.repertoire) >>= with_repertoire m)
+    after_migration = ap (λ r. r >>= with_migration) (is_read (or_because no_migration (migration_of input.migration)) m m_read)
+
+    pub repertoire_refused : (fault : InputFault) → InputRefused fault (or_because no_repertoire (repertoire_of input.repertoire)) → InputRefused fault (parts_of input)
+    repertoire_refused fault h = subst (λ (s : Result Parts Unread). InputRefused fault s) (sym after_migration) (step_refused fault (or_because no_repertoire (repertoire_of input.repertoire)) (with_repertoire m) h)
+
+    module _ (r : Repertoire) (r_read : IsRead (or_because no_repertoire (repertoire_of input.repertoire)) r) where
+      after_repertoire : parts_of input ≡ (or_because no_certificate (certificate_of input.certificate) >>= with_certificate m r)
+      after_repertoire = after_migration ∙ ap (λ x. x >>= with_repertoire m) (is_read (or_because no_repertoire (repertoire_of input.repertoire)) r r_read)
+
+      pub certificate_refused : (fault : InputFault) → InputRefused fault (or_because no_certificate (certificate_of input.certificate)) → InputRefused fault (parts_of input)
+      certificate_refused fault h = subst (λ (s : Result Parts Unread). InputRefused fault s) (sym after_repertoire) (step_refused fault (or_because no_certificate (certificate_of input.certificate)) (with_certificate m r) h)
+
+      pub all_read : (c : Certificate) → IsRead (or_because no_certificate (certificate_of input.certificate)) c → parts_of input ≡ Ok (record { names = m.names; old = m.old; new = m.new; repertoire = r; certificate = c })
+      all_read c c_read = after_repertoire ∙ ap (λ x. x >>= with_certificate m r) (is_read (or_because no_certificate (certificate_of input.certificate)) c c_read)

@@ -10,14 +10,15 @@ use Rattle.keysym_core.specs.Names.{KeysymNames}
 use Rattle.compose_model.specs.Table.{Definition, same}
 use Rattle.compose_model.specs.Step.{is_empty, step, steps_from, pending_after, pending_from}
 use Rattle.compose_model.specs.Certificate.{Repertoire, Typing}
-use Rattle.compose_check.specs.declared.fault.CheckFault.{CheckFault}
-use Rattle.compose_check.specs.declared.fault.CheckFault.TheVariants.{TypingMissing, TypingWrong, TypingUnasked}
-use Rattle.compose_check.specs.Demands.{first_unmet, typing_demands, is_right}
-use Rattle.compose_check.specs.Typings.{typing_fault, types_from}
-use Rattle.compose_check.proofs.Lists.{drop_at}
+use Rattle.compose_fresh.specs.declared.fault.CheckFault.{CheckFault}
+use Rattle.compose_fresh.specs.declared.fault.CheckFault.TheVariants.{TypingMissing, TypingWrong, TypingUnasked}
+use Rattle.compose_fresh.specs.Demands.{first_unmet}
+use Rattle.compose_fresh.proofs.Unmet.{drop_at}
+use Rattle.compose_check.specs.Demands.{typing_demands, is_right}
+use Rattle.compose_check.specs.Typings.{typing_fault}
 
 module _ (names : KeysymNames) (new : List Definition) (repertoire : Repertoire) where
-  -- side by side the first fault is that of the first typing, or of those behind it
+  -- side by side the first fault is that of the first typing, or of those that follow
   side_by_side : (c : ℕ) (t : Typing) (cs : List ℕ) (ts : List Typing)
       → first_unmet (typing_demands names new repertoire (c ∷ cs) (t ∷ ts)) ≡ option_or (typing_fault names new repertoire c t) (first_unmet (typing_demands names new repertoire cs ts))
   side_by_side c t cs ts = go (nat_lt t.character c) (nat_lt c t.character) (is_right names new repertoire t)
@@ -46,13 +47,13 @@ module _ (names : KeysymNames) (new : List Definition) (repertoire : Repertoire)
       pub typing_met : typing_fault names new repertoire c t ≡ None → left (i + 1) ≡ left i
       typing_met h = sym (both_left ∙ ap (λ o. option_or o (left (i + 1))) h)
 
-    -- a character behind the last typing
+    -- a character after the last typing
     pub character_left : (c : ℕ) → slice_get chars i ≡ Some c → length ts ≤ i → left i ≡ Some (TypingMissing c)
     character_left c at_c over =
         ap (λ cs. first_unmet (typing_demands names new repertoire cs (drop i ts))) (drop_at chars i c at_c)
         ∙ ap (λ us. first_unmet (typing_demands names new repertoire (c ∷ drop (i + 1) chars) us)) (drop_all i ts over)
 
-    -- a typing behind the last character
+    -- a typing after the last character
     pub typing_left : (t : Typing) → slice_get ts i ≡ Some t → length chars ≤ i → left i ≡ Some (TypingUnasked t.character)
     typing_left t at_t over =
         ap (λ cs. first_unmet (typing_demands names new repertoire cs (drop i ts))) (drop_all i chars over)
@@ -63,6 +64,10 @@ module _ (names : KeysymNames) (new : List Definition) (repertoire : Repertoire)
 same_as_none : (s : List ℕ) → same s [] ≡ is_empty s
 same_as_none [] = refl
 same_as_none (k ∷ s) = refl
+
+-- where u is pending, w commits the character c at its last key and nothing before, and leaves nothing pending
+abbrev pub types_from : KeysymNames → List Definition → List ℕ → List ℕ → ℕ → Bool
+types_from names table u w c = pointwise same (map (λ s. s.text) (steps_from names table u w)) (replicate (length w - 1) [] ++ encode_utf8 c ∷ []) && is_empty (pending_from table u w)
 
 -- before the last key, a key commits nothing, and the later ones type the character from there
 pub types_later : (names : KeysymNames) (table : List Definition) (u : List ℕ) (k : ℕ) (w : List ℕ) (last c : ℕ)

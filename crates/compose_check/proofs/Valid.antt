@@ -12,10 +12,12 @@ use Rattle.compose_model.specs.Follows.{Types}
 use Rattle.compose_model.specs.Nodes.{nodes, node, number_of, edges}
 use Rattle.compose_model.specs.Certificate.{Certificate, Repertoire, Typing, IsValid, is_key, pairs_rise, pairs_in_range, has_pair, rest_is_kept, edge_is_kept, new_starts_type_themselves}
 use Rattle.compose_model.proofs.NodeLemmas.{same_is, same_from}
-use Rattle.compose_check.specs.declared.fault.CheckFault.TheVariants.{TypingWrong}
-use Rattle.compose_check.specs.Demands.{Demand, pair_demands, fresh_demands, start_demand, start_demands, one_edge_demands, edge_demands, edge_demands_from, bound_demands, bound_demands_from, types, is_right, typing_demands, demands, fault_of}
-use Rattle.compose_check.proofs.Unmet.{all_met, met_from_none, none_from_met, all_met-flat_map}
-use Rattle.compose_check.proofs.FreshKeysyms.{are_fresh, fresh_is_met}
+use Rattle.compose_fresh.specs.declared.fault.CheckFault.TheVariants.{TypingWrong}
+use Rattle.compose_fresh.specs.Demands.{Demand}
+use Rattle.compose_fresh.specs.Fresh.{fresh_demands}
+use Rattle.compose_check.specs.Demands.{pair_demands, start_demand, start_demands, one_edge_demands, edge_demands, edge_demands_from, bound_demands, bound_demands_from, types, is_right, typing_demands, demands, fault_of}
+use Rattle.compose_fresh.proofs.Unmet.{all_met, met_from_none, none_from_met, all_met-flat_map}
+use Rattle.compose_fresh.proofs.FreshKeysyms.{are_fresh, fresh_is_met}
 
 -- ---- what each group says
 

@@ -1,42 +1,22 @@
 -- The demands on a certificate in the order in which they are looked at, each with the fault that is named where it is not met.
 use Rattle.std.specs.Prelude.{ℕ, Bool, false, not, ◌+◌, ◌-◌, ◌&&◌, ◌||◌, nat_lt, nat_le, if◌then◌else◌, List, [], ◌∷◌, ◌++◌, length, map, flat_map, replicate, Option, encode_utf8}
-use Rattle.std.specs.List.{find, list_all}
-use Rattle.std.specs.Option.{option_map}
+use Rattle.std.specs.List.{list_all}
 use Rattle.std.specs.Cmp.Lexicographic.{pointwise}
-use Rattle.keysym_core.specs.Keysym.{is_ignored}
 use Rattle.keysym_core.specs.Names.{KeysymNames}
 use Rattle.compose_model.specs.Table.{Definition, same, has_key}
 use Rattle.compose_model.specs.Step.{step, run, pending, is_cancel, is_empty}
-use Rattle.compose_model.specs.Nodes.{nodes, node, number_of, keysyms, edges, has_edge}
-use Rattle.compose_model.specs.Certificate.{Certificate, Repertoire, Typing, is_key, pairs_rise, pairs_in_range, has_pair, rest_is_kept, keys_rise, types_itself}
-use Rattle.compose_check.specs.declared.fault.CheckFault.{CheckFault}
-use Rattle.compose_check.specs.declared.fault.CheckFault.TheVariants.{PairsNotRising, NodeOutOfRange, RootPairMissing, RestBroken, NewStart, Cancels, TextDiffers, PairMissing, BoundExceeded, TypingMissing, TypingWrong, TypingUnasked, FreshNotRising, FreshIgnored, FreshUsed}
-
--- whether it is met, and the fault where it is not
-pub record Demand : Type 0 where
-  pub met : Bool
-  pub fault : CheckFault
-
--- the fault of the first demand that is not met
-abbrev pub first_unmet : List Demand → Option CheckFault
-first_unmet demands = option_map (λ (d : Demand). d.fault) (find (λ (d : Demand). not d.met) demands)
-
-abbrev pub demand : Bool → CheckFault → Demand
-demand met fault = record { met = met; fault = fault }
+use Rattle.compose_model.specs.Nodes.{nodes, node, number_of, edges, has_edge}
+use Rattle.compose_model.specs.Certificate.{Certificate, Repertoire, Typing, is_key, pairs_rise, pairs_in_range, has_pair, rest_is_kept, types_itself}
+use Rattle.compose_fresh.specs.declared.fault.CheckFault.{CheckFault}
+use Rattle.compose_fresh.specs.declared.fault.CheckFault.TheVariants.{PairsNotRising, NodeOutOfRange, RootPairMissing, RestBroken, NewStart, Cancels, TextDiffers, PairMissing, BoundExceeded, TypingMissing, TypingWrong, TypingUnasked}
+use Rattle.compose_fresh.specs.Demands.{Demand, demand, first_unmet}
+use Rattle.compose_fresh.specs.Fresh.{fresh_demands}
 
 -- ---- the pairs rise and are nodes, the roots are a pair, and the old root stands with the new root alone
 abbrev pub pair_demands : List Definition → List Definition → List (ℕ × ℕ) → List Demand
 pair_demands old new pairs =
     demand (pairs_rise pairs) PairsNotRising ∷ demand (pairs_in_range old new pairs) NodeOutOfRange ∷
     demand (has_pair pairs 0 0) RootPairMissing ∷ demand (rest_is_kept pairs) RestBroken ∷ []
-
--- ---- the fresh keysyms rise, and none is ignored or stands in a sequence of the old table
-
-abbrev pub one_fresh_demands : List Definition → ℕ → List Demand
-one_fresh_demands old k = demand (not (is_ignored k)) (FreshIgnored k) ∷ demand (not (has_key (keysyms old) k)) (FreshUsed k) ∷ []
-
-abbrev pub fresh_demands : List Definition → List ℕ → List Demand
-fresh_demands old fresh = demand (keys_rise fresh) FreshNotRising ∷ flat_map (one_fresh_demands old) fresh
 
 -- ---- what begins in the new table and not in the old one is fresh, or types itself
 

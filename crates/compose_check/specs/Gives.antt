@@ -1,16 +1,14 @@
--- What a check on bytes answers, beside want of memory.
-use Rattle.std.specs.Prelude.{◌≡◌, List, Result, Ok, Err}
-use Rattle.keysym_core.specs.declared.fault.NameFault.{NameFault}
+-- What a check on bytes answers, beside memory that is refused.
+use Rattle.std.specs.Prelude.{◌≡◌, [], Result, Ok, Err}
 use Rattle.keysym_core.specs.declared.fault.NameFault.TheVariants as name_faults
-use Rattle.compose_model.specs.Table.{Definition}
-use Rattle.compose_tree.specs.Given.{NoTable, TableGives}
-use Rattle.compose_tree.specs.declared.reading.TableFault.{TableFault}
-use Rattle.compose_tree.specs.declared.reading.TableFault.TheVariants as table_faults
-use Rattle.compose_cert.specs.declared.CertFault.{CertFault}
+use Rattle.compose_tree.specs.Given.{NoTable}
+use Rattle.compose_migration.specs.Migration.{no_names, no_table}
+use Rattle.compose_migration.specs.Given.{TableFails}
+use Rattle.compose_migration.specs.declared.fault.Side.{Side}
+use Rattle.compose_migration.specs.declared.fault.Side.TheVariants as sides
 use Rattle.compose_cert.specs.declared.CertFault.TheVariants as cert_faults
-use Rattle.compose_cert.specs.declared.RepertoireFault.{RepertoireFault}
 use Rattle.compose_cert.specs.declared.RepertoireFault.TheVariants as repertoire_faults
-use Rattle.compose_check.specs.Input.{Input, Parts, Unread, no_names, no_old, no_new, no_repertoire, no_certificate, verdict_on}
+use Rattle.compose_check.specs.Input.{Input, Parts, Unread, no_migration, no_repertoire, no_certificate, verdict_on}
 use Rattle.compose_check.specs.declared.verdict.Verdict.{Verdict}
 use Rattle.compose_check.specs.declared.input.CheckInput.{CheckInput}
 use Rattle.compose_check.specs.declared.input.InputFault.{InputFault}
@@ -18,71 +16,33 @@ use Rattle.compose_check.specs.declared.input.InputFault.TheVariants.{Names, Old
 
 abbrev pub input_of : CheckInput → Input
 input_of i = record {
-  header = i.header.now;
-  old = i.old.now;
-  new = i.new.now;
-  old_rule = i.old_rule;
-  new_rule = i.new_rule;
+  migration = record {
+    header = i.header.now;
+    words = [];
+    old = record { sources = i.old.now; rule = i.old_rule };
+    new = record { sources = i.new.now; rule = i.new_rule };
+  };
   repertoire = i.repertoire.now;
   certificate = i.certificate.now;
 }
 
--- ---- a fault of a part as one of the whole; want of memory is the whole's own
+-- the fault says which part says nothing, and why; memory that is refused is the whole's own fault
+abbrev pub InputRefused : {P : Type 0} → InputFault → Result P Unread → Type 0
+InputRefused (Names name_faults.NoMemory) said = ⊥
+InputRefused (Names fault) said = said ≡ Err (no_migration (no_names fault))
+InputRefused (Old fault) said = (why : NoTable) × (said ≡ Err (no_migration (no_table sides.Old why))) × TableFails fault (Err why)
+InputRefused (New fault) said = (why : NoTable) × (said ≡ Err (no_migration (no_table sides.New why))) × TableFails fault (Err why)
+InputRefused (Repertoire repertoire_faults.NoMemory) said = ⊥
+InputRefused (Repertoire fault) said = said ≡ Err (no_repertoire fault)
+InputRefused (Certificate cert_faults.NoMemory) said = ⊥
+InputRefused (Certificate fault) said = said ≡ Err (no_certificate fault)
+InputRefused NoMemory said = Unit {0}
 
-abbrev pub names_raised : NameFault → InputFault
-names_raised name_faults.NoMemory = NoMemory
-names_raised fault = Names fault
+-- what is read of the parts that are said, or the fault of the first one that says nothing
+abbrev pub InputGives : {P A : Type 0} → (P → A → Type 0) → Result A InputFault → Result P Unread → Type 0
+InputGives {P} reads (Ok read) said = (parts : P) × (said ≡ Ok parts) × reads parts read
+InputGives reads (Err fault) said = InputRefused fault said
 
-abbrev pub repertoire_raised : RepertoireFault → InputFault
-repertoire_raised repertoire_faults.NoMemory = NoMemory
-repertoire_raised fault = Repertoire fault
-
-abbrev pub certificate_raised : CertFault → InputFault
-certificate_raised cert_faults.NoMemory = NoMemory
-certificate_raised fault = Certificate fault
-
--- ---- what is said
-
--- the fault says why there is no table
-abbrev pub TableFails : TableFault → Result (List Definition) NoTable → Type 0
-TableFails table_faults.NoMemory said = ⊥
-TableFails fault said = TableGives (λ (table : List Definition). table) (Err fault) said
-
--- the fault says why this part says nothing
-abbrev pub TableSaid : (NoTable → Unread) → TableFault → Result Parts Unread → Type 0
-TableSaid part fault said = (why : NoTable) × (said ≡ Err (part why)) × TableFails fault (Err why)
-
--- a table that is said, or its fault as one of the whole
-abbrev pub OldGives : {T : Type 0} → (T → List Definition) → Result T InputFault → Result (List Definition) NoTable → Type 0
-OldGives view (Ok table) said = said ≡ Ok (view table)
-OldGives view (Err (Old fault)) said = TableFails fault said
-OldGives view (Err NoMemory) said = Unit {0}
-OldGives view (Err fault) said = ⊥
-
-abbrev pub NewGives : {T : Type 0} → (T → List Definition) → Result T InputFault → Result (List Definition) NoTable → Type 0
-NewGives view (Ok table) said = said ≡ Ok (view table)
-NewGives view (Err (New fault)) said = TableFails fault said
-NewGives view (Err NoMemory) said = Unit {0}
-NewGives view (Err fault) said = ⊥
-
-abbrev pub NamesSaid : NameFault → Result Parts Unread → Type 0
-NamesSaid name_faults.NoMemory said = ⊥
-NamesSaid fault said = said ≡ Err (no_names fault)
-
-abbrev pub RepertoireSaid : RepertoireFault → Result Parts Unread → Type 0
-RepertoireSaid repertoire_faults.NoMemory said = ⊥
-RepertoireSaid fault said = said ≡ Err (no_repertoire fault)
-
-abbrev pub CertificateSaid : CertFault → Result Parts Unread → Type 0
-CertificateSaid cert_faults.NoMemory said = ⊥
-CertificateSaid fault said = said ≡ Err (no_certificate fault)
-
--- the verdict on the parts that are said, or the fault of the first one that says nothing
+-- the verdict on the parts that are said
 abbrev pub CheckGives : Result Verdict InputFault → Result Parts Unread → Type 0
-CheckGives (Ok verdict) said = (parts : Parts) × (said ≡ Ok parts) × (verdict ≡ verdict_on parts)
-CheckGives (Err (Names fault)) said = NamesSaid fault said
-CheckGives (Err (Old fault)) said = TableSaid no_old fault said
-CheckGives (Err (New fault)) said = TableSaid no_new fault said
-CheckGives (Err (Repertoire fault)) said = RepertoireSaid fault said
-CheckGives (Err (Certificate fault)) said = CertificateSaid fault said
-CheckGives (Err NoMemory) said = Unit {0}
+CheckGives result said = InputGives (λ parts verdict. verdict ≡ verdict_on parts) result said

@@ -1,4 +1,4 @@
--- Where a key leads from a node, and what is committed on the way, by the key's target.
+-- Where a key leads from a node, and what is committed on the way, by the key's target. Words for private functions.
 use Rattle.std.specs.Prelude.{ℕ, Bool, false, not, ◌==◌, ◌<◌, List, [], length, Option, Some, None, unwrap_or}
 use Rattle.keysym_core.specs.Names.{KeysymNames, text}
 use Rattle.compose_model.specs.Table.{Definition}
@@ -31,7 +31,7 @@ abbrev pub landing_cancels : ℕ → Option Target → Bool
 landing_cancels n (Some t) = false
 landing_cancels n None = not (n == 0)
 
--- the number of the node that is then pending; behind a leaf, and where a key leads nowhere, the root
+-- the number of the node that is then pending; after a leaf, and where a key leads nowhere, the root
 abbrev pub landing_number : Option Target → ℕ
 landing_number (Some (Node n)) = n.0
 landing_number (Some (Leaf l)) = 0

@@ -1,6 +1,6 @@
 -- The answer to a certificate.
 use Rattle.std.specs.Prelude.{Option, Some, None}
-use Rattle.compose_check.specs.declared.fault.CheckFault.{CheckFault}
+use Rattle.compose_fresh.specs.declared.fault.CheckFault.{CheckFault}
 use Rattle.compose_check.specs.declared.verdict.Verdict.{Verdict}
 use Rattle.compose_check.specs.declared.verdict.Verdict.TheVariants.{Yes, No}
 

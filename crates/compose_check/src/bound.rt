@@ -1,8 +1,9 @@
 //! The demand that no node of the new table is longer than the bound.
 ghost use Rattle.std.specs.Prelude.{◌≡◌};
-ghost use Rattle.compose_check.specs.Demands.{first_unmet, bound_demands};
+ghost use Rattle.compose_fresh.specs.Demands.{first_unmet};
+ghost use Rattle.compose_check.specs.Demands.{bound_demands};
 
-use crate::fault::CheckFault;
+use compose_fresh::CheckFault;
 use compose_tree::{ComposeTable, NodeId};
 
 /// The first node that is longer than the bound. O(nodes).

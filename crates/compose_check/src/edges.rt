@@ -4,16 +4,17 @@ ghost use Rattle.compose_model.specs.Table.{is_table};
 ghost use Rattle.compose_model.specs.Nodes.{nodes, node as node_at, edges};
 ghost use Rattle.compose_model.specs.Certificate.{pairs_rise, pairs_in_range};
 ghost use Rattle.compose_tree.specs.Targets.{target_of};
-ghost use Rattle.compose_check.specs.Demands.{first_unmet, edge_demands, one_edge_demands};
+ghost use Rattle.compose_fresh.specs.Demands.{first_unmet};
+ghost use Rattle.compose_check.specs.Demands.{edge_demands, one_edge_demands};
 
-use crate::fault::CheckFault;
 use crate::landing::{cancels, commits, number_at, text_to};
 use crate::pairs::has_pair;
 use compose_cert::Certificate;
+use compose_fresh::CheckFault;
 use compose_tree::{ComposeTable, NodeId, Target};
 use keysym_core::{Keysym, Names};
 
-/// A pair of nodes, and its place among the pairs.
+/// A pair of nodes, and its index among the pairs.
 #[derive(Clone, Copy)]
 struct Pair {
     index: usize,

@@ -1,17 +1,21 @@
 //! A check on bytes.
-ghost use Rattle.std.specs.Prelude.{◌≡◌, Ok};
+ghost use Rattle.std.specs.Prelude.{◌≡◌, ◌≢◌, ℕ, Result, Ok};
 ghost use Rattle.compose_model.specs.Follows.{Follows, Waits};
 ghost use Rattle.compose_model.specs.Certificate.{IsValid, TypesAll};
-ghost use Rattle.compose_tree.specs.Given.{first_table};
-ghost use Rattle.compose_check.specs.Input.{Parts, parts_of};
-ghost use Rattle.compose_check.specs.Gives.{CheckGives, OldGives, NewGives, input_of};
+ghost use Rattle.compose_cert.specs.Reading.{certificate_of};
+ghost use Rattle.compose_cert.specs.Repertoire.{repertoire_of};
+ghost use Rattle.compose_migration.specs.Migration.{Parts as GivenParts, NoMigration, or_because, migration_of};
+ghost use Rattle.compose_migration.specs.Given.{MigrationRefused, parts};
+ghost use Rattle.compose_check.specs.Input.{Parts, parts_of, no_migration, no_repertoire, no_certificate};
+ghost use Rattle.compose_check.specs.Gives.{CheckGives, InputGives, InputRefused, input_of};
 
 use crate::verdict::{Verdict, check};
 use compose_cert::{CertFault, Certificate, Repertoire, RepertoireFault};
+use compose_migration::{Migration, MigrationFault, MigrationInput, Side, TableInput};
 use compose_model::Rule;
 use compose_read::Sources;
-use compose_tree::{ComposeTable, TableFault, read_first_table};
-use keysym_core::{NameFault, Names};
+use compose_tree::{ComposeTable, TableFault};
+use keysym_core::NameFault;
 use std::alloc::Global;
 use thiserror::Error;
 
@@ -57,45 +61,6 @@ pub enum InputFault {
     NoMemory,
 }
 
-impl From<NameFault> for InputFault {
-    ghost use Rattle.compose_check.specs.Gives.{names_raised};
-
-    ghost from_gives = { λ fault e. e ≡ names_raised fault };
-
-    fn from(fault: NameFault) -> InputFault {
-        match fault {
-            NameFault::NoMemory => InputFault::NoMemory,
-            other => InputFault::Names(other),
-        }
-    }
-}
-
-impl From<RepertoireFault> for InputFault {
-    ghost use Rattle.compose_check.specs.Gives.{repertoire_raised};
-
-    ghost from_gives = { λ fault e. e ≡ repertoire_raised fault };
-
-    fn from(fault: RepertoireFault) -> InputFault {
-        match fault {
-            RepertoireFault::NoMemory => InputFault::NoMemory,
-            other => InputFault::Repertoire(other),
-        }
-    }
-}
-
-impl From<CertFault> for InputFault {
-    ghost use Rattle.compose_check.specs.Gives.{certificate_raised};
-
-    ghost from_gives = { λ fault e. e ≡ certificate_raised fault };
-
-    fn from(fault: CertFault) -> InputFault {
-        match fault {
-            CertFault::NoMemory => InputFault::NoMemory,
-            other => InputFault::Certificate(other),
-        }
-    }
-}
-
 /// Looks at a certificate for a move from the old sources to the new ones, all of it as bytes. The parts are read in their order,
 /// and the first one that says nothing decides; both tables are read with the same names. O(bytes of all parts, sorting of the
 /// definitions), and then as `check`.
@@ -111,42 +76,81 @@ pub fn check_bytes<T: ComposeTable>(
     ensures waits { (p : Parts) → parts_of (input_of input.entry.now) ≡ Ok p → result ≡ Ok Verdict.Yes → Waits p.new p.certificate.bound }
     ensures types { (p : Parts) → parts_of (input_of input.entry.now) ≡ Ok p → result ≡ Ok Verdict.Yes → TypesAll p.names p.new p.repertoire p.certificate.typings }
 {
-    let names = Names::read(alloc, input.header)?;
-    let old: T = read_old(alloc, &names, input.old, input.old_rule)?;
-    let new: T = read_new(alloc, &names, input.new, input.new_rule)?;
-    let repertoire = Repertoire::read(alloc, input.repertoire)?;
-    let certificate = Certificate::read(alloc, input.certificate)?;
-    Ok(check(&old, &new, &names, &repertoire, &certificate))
+    let migration: Migration<T> = read_migration(alloc, input)?;
+    let repertoire = read_repertoire(alloc, input.repertoire)?;
+    let certificate = read_certificate(alloc, input.certificate)?;
+    Ok(check(
+        &migration.old,
+        &migration.new,
+        &migration.names,
+        &repertoire,
+        &certificate,
+    ))
 }
 
-/// The old table.
-fn read_old<T: ComposeTable>(
+/// The names and both tables.
+fn read_migration<T: ComposeTable>(
     alloc: Global,
-    names: &Names,
-    sources: &Sources,
-    rule: Rule,
-) -> Result<T, InputFault>
-    ensures { OldGives T.definitions result (first_table names.now sources.now rule) }
+    input: &CheckInput<'_>,
+) -> Result<Migration<T>, InputFault>
+    ensures { InputGives (λ said read. said ≡ parts T.definitions read) result (or_because no_migration (migration_of (input_of input.entry.now).migration)) }
 {
-    match read_first_table(alloc, names, sources, rule) {
-        Ok(table) => Ok(table),
-        Err(TableFault::NoMemory) => Err(InputFault::NoMemory),
-        Err(fault) => Err(InputFault::Old(fault)),
+    let given = MigrationInput {
+        header: input.header,
+        words: &[],
+        old: TableInput {
+            sources: input.old,
+            rule: input.old_rule,
+        },
+        new: TableInput {
+            sources: input.new,
+            rule: input.new_rule,
+        },
+    };
+    match Migration::read(alloc, &given) {
+        Ok(migration) => Ok(migration),
+        Err(fault) => Err(input_fault(fault)),
     }
 }
 
-/// The new table.
-fn read_new<T: ComposeTable>(
-    alloc: Global,
-    names: &Names,
-    sources: &Sources,
-    rule: Rule,
-) -> Result<T, InputFault>
-    ensures { NewGives T.definitions result (first_table names.now sources.now rule) }
+/// The fault of a migration without words.
+fn input_fault(fault: MigrationFault) -> InputFault
+    requires { (index : ℕ) → fault ≢ MigrationFault.Key index }
+    ensures { (said : Result GivenParts NoMigration) → MigrationRefused fault said → InputRefused result (or_because no_migration said) }
 {
-    match read_first_table(alloc, names, sources, rule) {
-        Ok(table) => Ok(table),
-        Err(TableFault::NoMemory) => Err(InputFault::NoMemory),
-        Err(fault) => Err(InputFault::New(fault)),
+    match fault {
+        MigrationFault::Names(fault) => InputFault::Names(fault),
+        MigrationFault::Key { .. } => unreachable!(),
+        MigrationFault::Table {
+            side: Side::Old,
+            fault,
+        } => InputFault::Old(fault),
+        MigrationFault::Table {
+            side: Side::New,
+            fault,
+        } => InputFault::New(fault),
+        MigrationFault::NoMemory => InputFault::NoMemory,
+    }
+}
+
+/// The characters that people need, and the keys that they have.
+fn read_repertoire(alloc: Global, bytes: &[u8]) -> Result<Repertoire, InputFault>
+    ensures { InputGives (λ said repertoire. said ≡ repertoire) result (or_because no_repertoire (repertoire_of bytes.now)) }
+{
+    match Repertoire::read(alloc, bytes) {
+        Ok(repertoire) => Ok(repertoire),
+        Err(RepertoireFault::NoMemory) => Err(InputFault::NoMemory),
+        Err(fault) => Err(InputFault::Repertoire(fault)),
+    }
+}
+
+/// The certificate.
+fn read_certificate(alloc: Global, bytes: &[u8]) -> Result<Certificate, InputFault>
+    ensures { InputGives (λ said certificate. said ≡ certificate) result (or_because no_certificate (certificate_of bytes.now)) }
+{
+    match Certificate::read(alloc, bytes) {
+        Ok(certificate) => Ok(certificate),
+        Err(CertFault::NoMemory) => Err(InputFault::NoMemory),
+        Err(fault) => Err(InputFault::Certificate(fault)),
     }
 }

@@ -14,8 +14,6 @@
 
 mod bound;
 mod edges;
-mod fault;
-mod fresh;
 mod input;
 mod landing;
 mod pairs;
@@ -23,7 +21,6 @@ mod starts;
 mod typings;
 mod verdict;
 
-pub use fault::CheckFault;
-pub use fresh::check_fresh;
+pub use compose_fresh::{CheckFault, check_fresh};
 pub use input::{CheckInput, InputFault, check_bytes};
 pub use verdict::{Verdict, check, law_demands};

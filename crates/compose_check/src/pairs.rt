@@ -4,10 +4,11 @@ ghost use Rattle.std.specs.List.{list_all};
 ghost use Rattle.compose_model.specs.Table.{Definition};
 ghost use Rattle.compose_model.specs.Nodes.{nodes};
 ghost use Rattle.compose_model.specs.Certificate as words;
-ghost use Rattle.compose_check.specs.Demands.{first_unmet, pair_demands};
+ghost use Rattle.compose_fresh.specs.Demands.{first_unmet};
+ghost use Rattle.compose_check.specs.Demands.{pair_demands};
 
-use crate::fault::CheckFault;
 use compose_cert::Certificate;
+use compose_fresh::CheckFault;
 
 /// The first demand on the pairs that they do not meet, for tables of so many nodes: the pairs strictly rise, are nodes of the
 /// tables, have the roots, and the old root stands with the new one alone. O(pairs).

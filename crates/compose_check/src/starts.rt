@@ -5,11 +5,11 @@ ghost use Rattle.compose_model.specs.Nodes.{has_edge};
 ghost use Rattle.compose_model.specs.Certificate as words;
 ghost use Rattle.compose_model.specs.Certificate.{keys_rise};
 ghost use Rattle.compose_tree.specs.Targets.{target_of};
-ghost use Rattle.compose_check.specs.Demands.{first_unmet, start_demands};
+ghost use Rattle.compose_fresh.specs.Demands.{first_unmet};
+ghost use Rattle.compose_check.specs.Demands.{start_demands};
 
-use crate::fault::CheckFault;
-use crate::fresh::is_among;
 use crate::landing::is_own_text;
+use compose_fresh::{CheckFault, is_among};
 use compose_tree::{ComposeTable, NodeId, Target};
 use keysym_core::{Keysym, Names};
 

@@ -7,11 +7,12 @@ ghost use Rattle.compose_model.specs.Step as step;
 ghost use Rattle.compose_model.specs.Certificate.{is_key};
 ghost use Rattle.compose_state.specs.Texts.{text_bytes};
 ghost use Rattle.compose_check.specs.Demands as words;
-ghost use Rattle.compose_check.specs.Demands.{first_unmet, typing_demands};
+ghost use Rattle.compose_fresh.specs.Demands.{first_unmet};
+ghost use Rattle.compose_check.specs.Demands.{typing_demands};
 ghost use Rattle.compose_check.specs.Typings.{typing_fault};
 
-use crate::fault::CheckFault;
 use compose_cert::{Certificate, Repertoire, Typing};
+use compose_fresh::CheckFault;
 use compose_state::{ComposeState, FedText};
 use compose_tree::ComposeTable;
 use keysym_core::{Keysym, Names};
@@ -42,7 +43,7 @@ pub(crate) fn check_typings<U: ComposeTable>(
     check_ends(repertoire, certificate, count)
 }
 
-/// The fault where the characters or the typings go on behind the place at which the other ones end.
+/// The fault where the characters or the typings go on after the index at which the other ones end.
 fn check_ends(repertoire: &Repertoire, certificate: &Certificate, end: usize) -> Option<CheckFault>
     requires { end ≡ min (length repertoire.now.characters) (length certificate.now.typings) }
     ensures { (names : KeysymNames) (new : List Definition) → result ≡ first_unmet (typing_demands names new repertoire.now (drop end repertoire.now.characters) (drop end certificate.now.typings)) }

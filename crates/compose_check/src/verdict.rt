@@ -10,12 +10,11 @@ ghost use Rattle.compose_check.specs.Verdict.{verdict_of};
 
 use crate::bound::check_bound;
 use crate::edges::check_edges;
-use crate::fault::CheckFault;
-use crate::fresh::check_fresh;
 use crate::pairs::check_pairs;
 use crate::starts::check_starts;
 use crate::typings::check_typings;
 use compose_cert::{Certificate, Repertoire};
+use compose_fresh::{CheckFault, check_fresh};
 use compose_model::{law_bound, law_pairs_lift};
 use compose_tree::ComposeTable;
 use keysym_core::Names;

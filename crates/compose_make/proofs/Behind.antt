@@ -1,5 +1,5 @@
--- What the pass has looked at: the sequences behind a node by some of its keys, and in the end all of them.
-use Rattle.std.proofs.Common.{◌≡◌, ℕ, ◌+◌, ◌≤◌, List, [], ◌∷◌, ◌++◌, Bool, true, false, ◌&&◌, ◌||◌, length, take, refl, sym, ◌∙◌, ap, inl, inr, eqb-true, eq-eqb}
+-- What the pass has looked at: the sequences that go on from a node by some of its keys, and in the end all of them.
+use Rattle.std.proofs.Common.{◌≡◌, ℕ, ◌+◌, ◌≤◌, List, [], ◌∷◌, ◌++◌, Bool, true, false, ◌&&◌, ◌||◌, length, map, take, refl, sym, ◌∙◌, ap, inl, inr, eqb-true, eq-eqb}
 use Rattle.std.specs.Prelude.{Some, None, ◌==◌, encode_utf8, slice_get}
 use Rattle.std.specs.List.{list_any, list_all}
 use Rattle.std.proofs.lemmas.List.{take_more, take_all}
@@ -11,50 +11,22 @@ use Rattle.compose_model.specs.Nodes.{has_edge, edges}
 use Rattle.compose_model.specs.Certificate.{Repertoire, is_key}
 use Rattle.compose_model.proofs.Tests.{list_any-weaker}
 use Rattle.compose_model.proofs.NodeLemmas.{same_is, same_from, edge_extends, edge_listed}
-use Rattle.compose_make.specs.Least.{are_keys, spells, is_whole}
-use Rattle.std.proofs.Common.{map}
-use Rattle.compose_make.specs.Wanted.{WantedCharacter, AreLeast, offered, begins, is_behind, is_through}
+use Rattle.compose_fresh.proofs.Used.{same_test}
+use Rattle.compose_walk.proofs.Edges.{taken_more}
+use Rattle.compose_walk.proofs.Onward.{begins, first_key, goes_behind}
+use Rattle.compose_make.specs.Least.{are_keys}
+use Rattle.compose_make.specs.Candidates.{spells, is_whole}
+use Rattle.compose_make.specs.Wanted.{WantedCharacter, AreLeast, offered, is_behind}
 use Rattle.compose_make.proofs.Reduction.{whole_parts, whole_from, ends}
 use Rattle.compose_make.proofs.Rows.{are_same, are_offered}
 use Rattle.keysym_core.specs.Names.{KeysymNames}
 use Rattle.compose_read.specs.Settle.{IsSettled}
 
--- tests that pass where the other does are equal
-pub equal_tests : (a b : Bool) → (a ≡ true → b ≡ true) → (b ≡ true → a ≡ true) → a ≡ b
-equal_tests true b f g = sym (f refl)
-equal_tests false true f g = g refl
-equal_tests false false f g = refl
+-- ---- lists that go on from others
 
--- ---- lists that go on behind others
-
-first_key : (p v : List ℕ) → is_proper_prefix p v ≡ true → (k : ℕ) × (begins (p ++ k ∷ []) v ≡ true)
-first_key p [] h = cc
-first_key [] (x ∷ []) h = (x, or_left (same (x ∷ []) (x ∷ [])) (is_proper_prefix (x ∷ []) (x ∷ [])) (same_from (x ∷ []) (x ∷ []) refl))
-first_key [] (x ∷ y ∷ v) h = (x, or_right (same (x ∷ []) (x ∷ y ∷ v)) (is_proper_prefix (x ∷ []) (x ∷ y ∷ v)) (and_from (x == x) true (eq-eqb x x refl) refl))
-first_key (j ∷ p) (x ∷ v) h =
-    let parts = and_parts (j == x) (is_proper_prefix p v) h in
-    let r = first_key p v parts.1 in (
-      r.0,
-      elim (or_cases (same (p ++ r.0 ∷ []) v) (is_proper_prefix (p ++ r.0 ∷ []) v) r.1) [
-        | inl e ↦ or_left (same (j ∷ p ++ r.0 ∷ []) (x ∷ v)) (is_proper_prefix (j ∷ p ++ r.0 ∷ []) (x ∷ v)) (and_from (j == x) (same (p ++ r.0 ∷ []) v) parts.0 e)
-        | inr e ↦ or_right (same (j ∷ p ++ r.0 ∷ []) (x ∷ v)) (is_proper_prefix (j ∷ p ++ r.0 ∷ []) (x ∷ v)) (and_from (j == x) (is_proper_prefix (p ++ r.0 ∷ []) v) parts.0 e)
-      ],
-    )
-
-goes_behind : (p : List ℕ) (k : ℕ) (v : List ℕ) → begins (p ++ k ∷ []) v ≡ true → is_proper_prefix p v ≡ true
-goes_behind p k v h = elim (or_cases (same (p ++ k ∷ []) v) (is_proper_prefix (p ++ k ∷ []) v) h) [
-  | inl e ↦ ap (is_proper_prefix p) (sym (same_is (p ++ k ∷ []) v e)) ∙ one p
-  | inr e ↦ longer p v e
-]
-  where
-    one : (p : List ℕ) → is_proper_prefix p (p ++ k ∷ []) ≡ true
-    one [] = refl
-    one (j ∷ p) = and_from (j == j) (is_proper_prefix p (p ++ k ∷ [])) (eq-eqb j j refl) (one p)
-
-    longer : (p v : List ℕ) → is_proper_prefix (p ++ k ∷ []) v ≡ true → is_proper_prefix p v ≡ true
-    longer p [] e = cc
-    longer [] (x ∷ v) e = refl
-    longer (j ∷ p) (x ∷ v) e = let parts = and_parts (j == x) (is_proper_prefix (p ++ k ∷ []) v) e in and_from (j == x) (is_proper_prefix p v) parts.0 (longer p v parts.1)
+-- v goes on from p by one of these keys to a whole sequence that types c
+abbrev pub is_through : List Definition → Repertoire → ℕ → List ℕ → List ℕ → List ℕ → Bool
+is_through table repertoire c p ks v = list_any (λ k. begins (p ++ k ∷ []) v) ks && is_whole table repertoire c v
 
 -- a key that v goes on by is one of v's
 key_of : (P : ℕ → Bool) (p : List ℕ) (k : ℕ) (v : List ℕ) → begins (p ++ k ∷ []) v ≡ true → list_all P v ≡ true → P k ≡ true
@@ -83,12 +55,6 @@ either_again false false true true = refl
 either_again false false true false = refl
 either_again false false false w = refl
 
-pub taken_more : (es : List ℕ) (i k : ℕ) → slice_get es i ≡ Some k → take (i + 1) es ≡ take i es ++ k ∷ []
-taken_more es i k at = elim (slice_get_cases es i).1 [
-  | inl r ↦ take_more es i 0 r.1 ∙ ap (λ x. take i es ++ x ∷ []) (get_or_from_slice_get es i k 0 at)
-  | inr r ↦ absurd (let clash : None ≡ Some k = sym r.1 ∙ at in cc)
-]
-
 module _ (names : KeysymNames) (table : List Definition) (repertoire : Repertoire) (s : IsSettled table) (p : List ℕ) where
   -- by the key k from p
   abbrev pub is_by : ℕ → ℕ → List ℕ → Bool
@@ -114,7 +80,7 @@ module _ (names : KeysymNames) (table : List Definition) (repertoire : Repertoir
 
   -- a node is no sequence
   pub by_node : (c k : ℕ) (v : List ℕ) → is_extended table (p ++ k ∷ []) ≡ true → is_behind table repertoire c (p ++ k ∷ []) v ≡ is_by c k v
-  by_node c k v x = equal_tests (is_behind table repertoire c (p ++ k ∷ []) v) (is_by c k v)
+  by_node c k v x = same_test (is_behind table repertoire c (p ++ k ∷ []) v) (is_by c k v)
       (λ h. (let parts = and_parts (is_proper_prefix (p ++ k ∷ []) v) (is_whole table repertoire c v) h in
       and_from (begins (p ++ k ∷ []) v) (is_whole table repertoire c v) (or_right (same (p ++ k ∷ []) v) (is_proper_prefix (p ++ k ∷ []) v) parts.0) parts.1))
       (λ h. (let parts = and_parts (begins (p ++ k ∷ []) v) (is_whole table repertoire c v) h in
@@ -126,9 +92,9 @@ module _ (names : KeysymNames) (table : List Definition) (repertoire : Repertoir
         | inr e ↦ and_from (is_proper_prefix (p ++ k ∷ []) v) (is_whole table repertoire c v) e parts.1
       ]))
 
-  -- a sequence has nothing behind it
+  -- nothing goes on from a sequence
   pub by_leaf : (c k : ℕ) (t v : List ℕ) → is_sequence table (p ++ k ∷ []) ≡ true → text_at table (p ++ k ∷ []) ≡ Some t → are_keys repertoire (p ++ k ∷ []) ≡ true → (spells c t && same v (p ++ k ∷ [])) ≡ is_by c k v
-  by_leaf c k t v x at keys = equal_tests (spells c t && same v (p ++ k ∷ [])) (is_by c k v)
+  by_leaf c k t v x at keys = same_test (spells c t && same v (p ++ k ∷ [])) (is_by c k v)
       (λ h. (let parts = and_parts (spells c t) (same v (p ++ k ∷ [])) h in
       let is : p ++ k ∷ [] ≡ v = sym (same_is v (p ++ k ∷ []) parts.1) in
       let text : text_at table (p ++ k ∷ []) ≡ Some (encode_utf8 c) = at ∙ ap Some (sym (same_is (encode_utf8 c) t parts.0)) in
@@ -149,9 +115,9 @@ module _ (names : KeysymNames) (table : List Definition) (repertoire : Repertoir
             let clash : true ≡ false = sym longer ∙ ended in cc)
       ]))
 
-  -- all keys of p lead to all that is behind it
+  -- the keys of p lead to all that goes on from it
   pub all_through : (c : ℕ) (v : List ℕ) → is_through table repertoire c p (edges table p) v ≡ is_behind table repertoire c p v
-  all_through c v = equal_tests (is_through table repertoire c p (edges table p) v) (is_behind table repertoire c p v)
+  all_through c v = same_test (is_through table repertoire c p (edges table p) v) (is_behind table repertoire c p v)
       (λ h. (let parts = and_parts (list_any (λ k. begins (p ++ k ∷ []) v) (edges table p)) (is_whole table repertoire c v) h in
       and_from (is_proper_prefix p v) (is_whole table repertoire c v) (some_by (edges table p) parts.0) parts.1))
       (λ h. (let parts = and_parts (is_proper_prefix p v) (is_whole table repertoire c v) h in

@@ -17,16 +17,18 @@ use Rattle.compose_cert.specs.Spelling.{max_count, are_counted, is_typed}
 use Rattle.compose_model.proofs.Definitions.{sequence_few}
 use Rattle.compose_model.specs.Nodes.{nodes, number_of}
 use Rattle.compose_model.specs.Step.{pending}
-use Rattle.compose_check.specs.declared.fault.CheckFault.{CheckFault}
-use Rattle.compose_check.specs.Demands.{first_unmet, fresh_demands}
+use Rattle.compose_fresh.specs.declared.fault.CheckFault.{CheckFault}
+use Rattle.compose_fresh.specs.Demands.{first_unmet}
+use Rattle.compose_fresh.specs.Fresh.{fresh_demands}
 use Rattle.compose_walk.specs.declared.fault.MakeFault.{MakeFault}
 use Rattle.compose_walk.specs.declared.fault.MakeFault.TheVariants.{BadFresh, TooManyFresh}
 use Rattle.compose_walk.specs.Walks.{IsFollower}
-use Rattle.compose_make.specs.Least.{are_keys, is_candidate, is_plain, is_whole, IsLeastTyping, AreLeastTypings}
+use Rattle.compose_make.specs.Least.{are_keys, IsLeastTyping, AreLeastTypings}
+use Rattle.compose_make.specs.Candidates.{is_plain, is_whole}
+use Rattle.compose_make.proofs.Reduction.{is_candidate, reduced, candidate_types, whole_parts}
 use Rattle.compose_make.specs.Depth.{IsGreatestDepth}
 use Rattle.compose_make.specs.Made.{IsMadeFor}
-use Rattle.compose_make.proofs.Order.{FirstParts, first_parts}
-use Rattle.compose_make.proofs.Reduction.{reduced, candidate_types, whole_parts}
+use Rattle.compose_walk.proofs.FirstOrder.{FirstParts, first_parts}
 
 module _ (names : KeysymNames) (table : List Definition) (repertoire : Repertoire) (s : IsSettled table) where
   -- a candidate has at most 32 keys

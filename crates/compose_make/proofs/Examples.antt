@@ -4,16 +4,17 @@ use Rattle.std.specs.Prelude.{Some, None, ◌==◌, nat_le}
 use Rattle.std.specs.Char.{encode_utf8}
 use Rattle.std.specs.List.{list_any, AllByRecursion}
 use Rattle.std.proofs.lemmas.Bool.{and_parts, or_cases, leb-true}
-use Rattle.keysym_core.specs.Keysym.{is_between}
+use Rattle.compose_text.specs.Numbers.{is_between}
 use Rattle.keysym_core.specs.Names.{KeysymNames}
 use Rattle.compose_model.specs.Table.{Definition, same, is_sequence}
 use Rattle.compose_model.specs.Certificate.{Repertoire, is_bound}
 use Rattle.compose_model.specs.Follows.{Types}
 use Rattle.compose_model.proofs.NodeLemmas.{same_is}
 use Rattle.compose_walk.specs.Evidence.{comes_first}
-use Rattle.compose_make.specs.Least.{are_keys, is_plain, is_plain_key, is_whole, is_candidate, IsLeastTyping, IsLeastOf, IsUnreachable}
+use Rattle.compose_make.specs.Least.{are_keys, IsLeastTyping, IsUnreachable}
+use Rattle.compose_make.specs.Candidates.{is_plain, is_plain_key, is_whole, IsLeastOf}
+use Rattle.compose_make.proofs.Reduction.{is_candidate, least_typing, untyped, whole_parts}
 use Rattle.compose_make.specs.Depth.{IsGreatestDepth}
-use Rattle.compose_make.proofs.Reduction.{least_typing, untyped, whole_parts}
 
 abbrev core : KeysymNames
 core = record { names = []; characters = [] }

@@ -7,12 +7,14 @@ use Rattle.keysym_core.specs.Names.{KeysymNames}
 use Rattle.compose_model.specs.Table.{Definition, has_key}
 use Rattle.compose_model.specs.Certificate.{Repertoire, keys_rise}
 use Rattle.compose_read.specs.Settle.{IsSettled}
-use Rattle.compose_make.specs.Least.{is_plain, is_whole, is_candidate, IsLeastOf, IsLeastTyping, AreLeastTypings, IsUnreachable}
-use Rattle.compose_make.specs.Wanted.{WantedCharacter, AreLeast, characters_of, typing_of, first_missing, is_behind}
-use Rattle.compose_make.specs.Found.{IsTypings, IsOfRows}
+use Rattle.compose_fresh.proofs.Places.{rises_tail}
+use Rattle.compose_make.specs.Least.{IsLeastTyping, AreLeastTypings, IsUnreachable}
+use Rattle.compose_make.specs.Candidates.{is_plain, is_whole, IsLeastOf}
+use Rattle.compose_make.proofs.Reduction.{is_candidate, least_typing, untyped, whole_parts, nonempty}
+use Rattle.compose_make.specs.Wanted.{WantedCharacter, AreLeast, characters_of, typing_of, first_missing, is_behind, IsOfRows}
+use Rattle.compose_make.specs.Found.{IsTypings}
 use Rattle.compose_make.specs.declared.typings.Typings.{Typings}
 use Rattle.compose_make.specs.declared.typings.Typings.TheVariants.{Found, Unreachable}
-use Rattle.compose_make.proofs.Reduction.{least_typing, untyped, whole_parts, nonempty}
 use Rattle.compose_make.proofs.Rows.{are_same}
 
 -- ---- rows one after another
@@ -33,10 +35,6 @@ above x d (y ∷ xs) r h =
       | inl e ↦ (let is : d ≡ y = eqb-true d y e in omega arith)
       | inr e ↦ (let more : y < d = above y d xs parts.1 e in omega arith)
     ]
-
-later_rise : (x : ℕ) (xs : List ℕ) → keys_rise (x ∷ xs) ≡ true → keys_rise xs ≡ true
-later_rise x [] r = refl
-later_rise x (y ∷ xs) r = (and_parts (nat_lt x y) (keys_rise (y ∷ xs)) r).1
 
 module _ (names : KeysymNames) (table : List Definition) (repertoire : Repertoire) (s : IsSettled table) where
   -- the rows after the pass
@@ -93,7 +91,7 @@ module _ (names : KeysymNames) (table : List Definition) (repertoire : Repertoir
   earlier : (rows : List WantedCharacter) (c d : ℕ) → keys_rise (characters_of rows) ≡ true → AreLeast (is_candidate names table repertoire) rows → first_missing rows ≡ Some c → has_key (characters_of rows) d ≡ true → d < c
       → (w : List ℕ) × IsLeastTyping names table repertoire d w
   earlier [] c d r a m h l = cc
-  earlier (row ∷ rows) c d r a m h l = go (λ n x. earlier rows c d (later_rise row.character (characters_of rows) r) a.1 n x l) row.keys refl
+  earlier (row ∷ rows) c d r a m h l = go (λ n x. earlier rows c d (rises_tail row.character (characters_of rows) r) a.1 n x l) row.keys refl
     where
       go : (first_missing rows ≡ Some c → has_key (characters_of rows) d ≡ true → (w : List ℕ) × IsLeastTyping names table repertoire d w) → (o : Option (List ℕ)) → row.keys ≡ o → (w : List ℕ) × IsLeastTyping names table repertoire d w
       go rest None e =

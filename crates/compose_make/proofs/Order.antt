@@ -9,16 +9,11 @@ use Rattle.std.proofs.lemmas.Bool.{and_parts, and_from, or_cases, or_left, or_ri
 use Rattle.compose_model.specs.Table.{same, comes_before}
 use Rattle.compose_model.proofs.NodeLemmas.{same_is, same_from}
 use Rattle.compose_walk.specs.Evidence.{comes_first}
-use Rattle.compose_make.specs.Least.{IsLeastOf}
+use Rattle.compose_walk.proofs.FirstOrder.{first_by_length, first_by_order, first_then}
+use Rattle.compose_make.specs.Candidates.{IsLeastOf}
 use Rattle.compose_make.specs.Wanted.{better}
 
 -- ---- the order
-
-pub first_by_length : (v w : List ℕ) → length v < length w → comes_first v w ≡ true
-first_by_length v w h = or_left (nat_lt (length v) (length w)) (length v == length w && comes_before v w) (lt-ltb (length v) (length w) h)
-
-pub first_by_order : (v w : List ℕ) → length v ≡ length w → slice_cmp nat_cmp v w ≡ Less → comes_first v w ≡ true
-first_by_order v w e h = or_right (nat_lt (length v) (length w)) (length v == length w && comes_before v w) (and_from (length v == length w) (comes_before v w) (eq-eqb (length v) (length w) e) (ap is_lt h))
 
 -- of lists that are as long the order of sequences decides
 pub as_long : (v w : List ℕ) (o : Ordering) → length v ≡ length w → o ≡ slice_cmp nat_cmp v w → (ordering_index o == 0) ≡ comes_first v w
@@ -28,30 +23,6 @@ as_long v w o n e =
   where
     not_below : (a b : ℕ) → a ≡ b → nat_lt a b ≡ false
     not_below a b e = elim (cases_Bool (nat_lt a b)) [ inl h ↦ absurd (let l = ltb-true a b h in omega arith) | inr h ↦ h ]
-
-less_of : (o : Ordering) → is_lt o ≡ true → o ≡ Less
-less_of Less h = refl
-less_of Equal h = cc
-less_of Greater h = cc
-
--- shorter, or as long and before it
-abbrev pub FirstParts : List ℕ → List ℕ → Type 0
-FirstParts v w = (length v < length w) ⊎ ((length v ≡ length w) × (slice_cmp nat_cmp v w ≡ Less))
-
-pub first_parts : (v w : List ℕ) → comes_first v w ≡ true → FirstParts v w
-first_parts v w h = elim (or_cases (nat_lt (length v) (length w)) (length v == length w && comes_before v w) h) [
-  | inl e ↦ inl (ltb-true (length v) (length w) e)
-  | inr e ↦ (let p = and_parts (length v == length w) (comes_before v w) e in inr (eqb-true (length v) (length w) p.0, less_of (slice_cmp nat_cmp v w) p.1))
-]
-
-pub first_then : (u v w : List ℕ) → comes_first u v ≡ true → comes_first v w ≡ true → comes_first u w ≡ true
-first_then u v w a b = go (first_parts u v a) (first_parts v w b)
-  where
-    go : FirstParts u v → FirstParts v w → comes_first u w ≡ true
-    go (inl x) (inl y) = first_by_length u w (omega arith)
-    go (inl x) (inr y) = first_by_length u w (let e = y.0 in omega arith)
-    go (inr x) (inl y) = first_by_length u w (let e = x.0 in omega arith)
-    go (inr x) (inr y) = first_by_order u w (x.0 ∙ y.0) (nat_list_cmp_total.trans u v w x.1 y.1)
 
 -- of two lists one comes first, or they are the same
 pub first_total : (v w : List ℕ) → comes_first w v ≡ false → (v ≡ w) ⊎ (comes_first v w ≡ true)

@@ -16,8 +16,8 @@ use Rattle.compose_model.proofs.NodeLemmas.{same_is, same_from}
 use Rattle.compose_tree.specs.declared.table.Target.TheVariants.{Node, Leaf}
 use Rattle.compose_tree.specs.Targets.{target_of, leaf_number}
 use Rattle.compose_walk.specs.Evidence.{comes_first}
-use Rattle.compose_make.specs.Least.{spells, is_plain, is_plain_key, IsLeastOf}
-use Rattle.compose_make.proofs.Order.{first_by_order}
+use Rattle.compose_make.specs.Candidates.{spells, is_plain, is_plain_key, IsLeastOf}
+use Rattle.compose_walk.proofs.FirstOrder.{first_by_order}
 use Rattle.compose_make.proofs.Reduction.{never_silent}
 use Rattle.compose_make.proofs.Rows.{encodes_one}
 

@@ -1,5 +1,5 @@
 -- The reduction: what types a character has, no later in the order, a plain key or a whole sequence that types it.
-use Rattle.std.proofs.Common.{◌≡◌, ◌⊎◌, ℕ, ◌+◌, ◌-◌, ◌<◌, ◌≤◌, List, [], ◌∷◌, ◌++◌, Bool, true, false, not, ◌&&◌, length, map, replicate, refl, sym, ◌∙◌, ap, subst, inl, inr, arith, append-nil, append_assoc, length-append, eq-eqb, suc}
+use Rattle.std.proofs.Common.{◌≡◌, ◌⊎◌, ℕ, ◌+◌, ◌-◌, ◌<◌, ◌≤◌, List, [], ◌∷◌, ◌++◌, Bool, true, false, not, ◌&&◌, ◌||◌, length, map, replicate, refl, sym, ◌∙◌, ap, subst, inl, inr, arith, append-nil, append_assoc, length-append, eq-eqb, suc}
 use Rattle.std.specs.Prelude.{Option, Some, None, unwrap_or, encode_utf8, ◌==◌, nat_lt, nat_le}
 use Rattle.std.specs.Option.{option_map_or}
 use Rattle.std.specs.List.{list_all}
@@ -21,8 +21,15 @@ use Rattle.compose_model.proofs.NodeLemmas.{same_is, same_from, edge_extends, ex
 use Rattle.compose_model.proofs.Definitions.{sequence_fed}
 use Rattle.compose_model.proofs.Reached.{IsReached, node_reached, steps_from-append, root_reached}
 use Rattle.compose_walk.specs.Evidence.{comes_first}
-use Rattle.compose_make.specs.Least.{are_keys, spells, is_plain, is_plain_key, is_whole, is_candidate, IsLeastTyping, IsLeastOf}
-use Rattle.compose_make.proofs.Order.{first_by_length, first_then}
+use Rattle.compose_walk.proofs.Reduction.{empty_is}
+use Rattle.compose_walk.proofs.FirstOrder.{first_by_length, first_then}
+use Rattle.compose_make.specs.Least.{are_keys, IsLeastTyping}
+use Rattle.compose_make.specs.Candidates.{spells, is_plain, is_plain_key, is_whole, IsLeastOf}
+
+-- ---- the lists that need looking at
+
+abbrev pub is_candidate : KeysymNames → List Definition → Repertoire → ℕ → List ℕ → Bool
+is_candidate names table repertoire c w = is_plain names table repertoire c w || is_whole table repertoire c w
 
 -- ---- lists by their last element
 
@@ -117,10 +124,6 @@ silent_texts [] h = refl
 silent_texts (s ∷ steps) h =
     let parts = and_parts (is_empty s.text) (list_all (λ (x : Step). is_empty x.text) steps) h in
     ap (λ t. t ∷ map (λ (x : Step). x.text) steps) (empty_is s.text parts.0) ∙ ap (λ ts. [] ∷ ts) (silent_texts steps parts.1)
-  where
-    empty_is : (u : List ℕ) → is_empty u ≡ true → u ≡ []
-    empty_is [] e = refl
-    empty_is (j ∷ u) e = cc
 
 length_run : (names : KeysymNames) (table : List Definition) (u w : List ℕ) → length (steps_from names table u w) ≡ length w
 length_run names table u [] = refl
@@ -171,7 +174,7 @@ module _ (names : KeysymNames) (table : List Definition) (repertoire : Repertoir
       (ap (λ o. option_map_or (spells c) o false) t ∙ same_from (encode_utf8 c) (encode_utf8 c) refl)
 
   module _ (sound : is_table table ≡ true) (free : is_prefix_free table ≡ true) where
-    -- no sequence goes on behind a sequence
+    -- no sequence goes on from a sequence
     pub ends : (w : List ℕ) → is_sequence table w ≡ true → is_extended table w ≡ false
     ends w h =
         let d = both_at (λ (d : Definition). not (is_extended table d.sequence)) (λ d. same w d.sequence) table free h in

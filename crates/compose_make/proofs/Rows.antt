@@ -1,36 +1,18 @@
 -- Rows of wanted characters: the search for a character, and what an offer does to them.
 use Rattle.std.proofs.Common.{◌≡◌, ℕ, zero, suc, ◌+◌, ◌<◌, ◌≤◌, List, [], ◌∷◌, Bool, true, false, cond, ◌&&◌, ◌||◌, length, get_or, map, refl, sym, ◌∙◌, ap, ap₂, subst, inl, inr, arith, append-nil}
-use Rattle.std.specs.Prelude.{nat_lt, encode_utf8, slice_set}
+use Rattle.std.specs.Prelude.{encode_utf8, slice_set}
 use Rattle.std.proofs.lemmas.Str.{encode_same}
 use Rattle.std.proofs.lemmas.List.{length-map}
-use Rattle.std.proofs.lemmas.Bool.{and_parts, ltb-true, cases_Bool, cases_lt}
+use Rattle.std.proofs.lemmas.Bool.{cases_Bool, cases_lt}
 use Rattle.compose_model.specs.Table.{same}
 use Rattle.compose_model.specs.Certificate.{keys_rise}
 use Rattle.compose_model.proofs.NodeLemmas.{same_is, same_from}
-use Rattle.compose_make.specs.Least.{spells, IsLeastOf}
+use Rattle.compose_fresh.proofs.Places.{rises_head, rises_tail, rises}
+use Rattle.compose_make.specs.Candidates.{spells, IsLeastOf}
 use Rattle.compose_make.specs.Wanted.{WantedCharacter, better, offered, characters_of, AreLeast}
 use Rattle.compose_make.proofs.Order.{least_same, least_more}
 
 -- ---- rising characters
-
-rises_head : (x : ℕ) (xs : List ℕ) → keys_rise (x ∷ xs) ≡ true → (j : ℕ) → j < length xs → x < get_or xs j 0
-rises_head x [] r j h = absurd (omega arith)
-rises_head x (y ∷ xs) r zero h = ltb-true x y (and_parts (nat_lt x y) (keys_rise (y ∷ xs)) r).0
-rises_head x (y ∷ xs) r (suc j) h =
-    let parts = and_parts (nat_lt x y) (keys_rise (y ∷ xs)) r in
-    let a : x < y = ltb-true x y parts.0 in
-    let b : y < get_or xs j 0 = rises_head y xs parts.1 j (omega arith) in omega arith
-
-rises_tail : (x : ℕ) (xs : List ℕ) → keys_rise (x ∷ xs) ≡ true → keys_rise xs ≡ true
-rises_tail x [] r = refl
-rises_tail x (y ∷ xs) r = (and_parts (nat_lt x y) (keys_rise (y ∷ xs)) r).1
-
--- what stands later in a rising list is greater
-pub rises : (xs : List ℕ) → keys_rise xs ≡ true → (i j : ℕ) → i < j → j < length xs → get_or xs i 0 < get_or xs j 0
-rises [] r i j a b = absurd (omega arith)
-rises (x ∷ xs) r i zero a b = absurd (omega arith)
-rises (x ∷ xs) r zero (suc j) a b = rises_head x xs r j (omega arith)
-rises (x ∷ xs) r (suc i) (suc j) a b = rises xs (rises_tail x xs r) i j (omega arith) (omega arith)
 
 -- where the character at m is less, each up to m is less
 pub below_from : (xs : List ℕ) (c m : ℕ) → keys_rise xs ≡ true → m < length xs → get_or xs m 0 < c → (k : ℕ) → k < m + 1 → get_or xs k 0 < c

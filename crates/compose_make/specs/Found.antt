@@ -1,10 +1,9 @@
 -- The answers of the search for typings.
-use Rattle.std.specs.Prelude.{◌≡◌, List, map, Some, None}
+use Rattle.std.specs.Prelude.{List}
 use Rattle.keysym_core.specs.Names.{KeysymNames}
 use Rattle.compose_model.specs.Table.{Definition}
 use Rattle.compose_model.specs.Certificate.{Repertoire}
 use Rattle.compose_make.specs.Least.{AreLeastTypings, IsUnreachable}
-use Rattle.compose_make.specs.Wanted.{WantedCharacter, typing_of, first_missing}
 use Rattle.compose_make.specs.declared.typings.Typings.{Typings}
 use Rattle.compose_make.specs.declared.typings.Typings.TheVariants.{Found, Unreachable}
 
@@ -12,8 +11,3 @@ use Rattle.compose_make.specs.declared.typings.Typings.TheVariants.{Found, Unrea
 abbrev pub IsTypings : KeysymNames → List Definition → Repertoire → Typings → Type 0
 IsTypings names table repertoire (Found typings) = AreLeastTypings names table repertoire typings
 IsTypings names table repertoire (Unreachable c) = IsUnreachable names table repertoire c
-
--- what the rows say
-abbrev pub IsOfRows : List WantedCharacter → Typings → Type 0
-IsOfRows rows (Found typings) = (first_missing rows ≡ None) × (typings ≡ map typing_of rows)
-IsOfRows rows (Unreachable c) = first_missing rows ≡ Some c

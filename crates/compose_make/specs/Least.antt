@@ -1,11 +1,8 @@
 -- The least typings: of the lists of keys that type a character a shortest one, and the first of these in the order of sequences.
-use Rattle.std.specs.Prelude.{◌≡◌, ◌⊎◌, ◌<◌, ℕ, Bool, true, false, not, ◌&&◌, ◌||◌, List, [], ◌∷◌, Option, Some, None, map, IsTrue, encode_utf8}
+use Rattle.std.specs.Prelude.{◌≡◌, ◌⊎◌, ◌<◌, ℕ, Bool, List, map, IsTrue}
 use Rattle.std.specs.List.{list_all, AllByRecursion}
-use Rattle.std.specs.Option.{option_map_or}
-use Rattle.keysym_core.specs.Keysym.{is_ignored}
-use Rattle.keysym_core.specs.Names.{KeysymNames, text}
-use Rattle.compose_model.specs.Table.{Definition, same, has_key, is_sequence, text_at}
-use Rattle.compose_model.specs.Nodes.{has_edge}
+use Rattle.keysym_core.specs.Names.{KeysymNames}
+use Rattle.compose_model.specs.Table.{Definition, has_key}
 use Rattle.compose_model.specs.Follows.{Types}
 use Rattle.compose_model.specs.Certificate.{Typing, Repertoire, is_key}
 use Rattle.compose_walk.specs.Evidence.{comes_first}
@@ -30,32 +27,3 @@ pub record IsUnreachable (names : KeysymNames) (table : List Definition) (repert
   pub wanted : IsTrue (has_key repertoire.characters c)
   pub untyped : (w : List ℕ) → IsTrue (are_keys repertoire w) → Types names table w c → ⊥
   pub earlier_typed : (d : ℕ) → IsTrue (has_key repertoire.characters d) → d < c → (w : List ℕ) × IsLeastTyping names table repertoire d w
-
--- ---- the only lists that need looking at
-
--- the text is the character c in UTF-8
-abbrev pub spells : ℕ → List ℕ → Bool
-spells c text = same (encode_utf8 c) text
-
--- one key of the repertoire that begins no sequence, and whose own text is the character
-abbrev pub is_plain_key : KeysymNames → List Definition → Repertoire → ℕ → ℕ → Bool
-is_plain_key names table repertoire c k = is_key repertoire k && not (is_ignored k) && not (has_edge table [] k) && spells c (text names k)
-
-abbrev pub is_plain : KeysymNames → List Definition → Repertoire → ℕ → List ℕ → Bool
-is_plain names table repertoire c [] = false
-is_plain names table repertoire c (k ∷ []) = is_plain_key names table repertoire c k
-is_plain names table repertoire c (k ∷ j ∷ w) = false
-
--- a whole sequence by keys of the repertoire, whose text is the character
-abbrev pub is_whole : List Definition → Repertoire → ℕ → List ℕ → Bool
-is_whole table repertoire c w = is_sequence table w && are_keys repertoire w && option_map_or (spells c) (text_at table w) false
-
-abbrev pub is_candidate : KeysymNames → List Definition → Repertoire → ℕ → List ℕ → Bool
-is_candidate names table repertoire c w = is_plain names table repertoire c w || is_whole table repertoire c w
-
--- ---- the least of the lists that pass a test
-
--- none passes; or this one does, and comes before each other one that does
-abbrev pub IsLeastOf : (List ℕ → Bool) → Option (List ℕ) → Type 0
-IsLeastOf passes None = (v : List ℕ) → passes v ≡ true → ⊥
-IsLeastOf passes (Some w) = (passes w ≡ true) × ((v : List ℕ) → passes v ≡ true → (w ≡ v) ⊎ (comes_first w v ≡ true))

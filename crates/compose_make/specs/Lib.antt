@@ -1,4 +1,5 @@
 pub mod Least
+pub mod Candidates
 pub mod Wanted
 pub mod Found
 pub mod Depth

@@ -1,10 +1,12 @@
--- The characters that are wanted, each with the first of the lists of keys that were looked at.
-use Rattle.std.specs.Prelude.{ℕ, Bool, ◌||◌, ◌&&◌, if◌then◌else◌, List, [], ◌∷◌, ◌++◌, map, Option, Some, None, is_some, unwrap_or}
-use Rattle.std.specs.List.{list_any, AllByRecursion}
-use Rattle.compose_model.specs.Table.{Definition, same, is_proper_prefix}
+-- The characters that are wanted, each with the first of the lists of keys that were looked at. Words for private functions.
+use Rattle.std.specs.Prelude.{◌≡◌, ℕ, Bool, ◌&&◌, if◌then◌else◌, List, [], ◌∷◌, map, Option, Some, None, is_some, unwrap_or}
+use Rattle.std.specs.List.{AllByRecursion}
+use Rattle.compose_model.specs.Table.{Definition, is_proper_prefix}
 use Rattle.compose_model.specs.Certificate.{Typing, Repertoire}
 use Rattle.compose_walk.specs.Evidence.{comes_first}
-use Rattle.compose_make.specs.Least.{spells, is_whole, IsLeastOf}
+use Rattle.compose_make.specs.Candidates.{spells, is_whole, IsLeastOf}
+use Rattle.compose_make.specs.declared.typings.Typings.{Typings}
+use Rattle.compose_make.specs.declared.typings.Typings.TheVariants.{Found, Unreachable}
 
 -- a character, and keys that type it, where some are known
 pub record WantedCharacter : Type 0 where
@@ -29,17 +31,9 @@ AreLeast passes rows = AllByRecursion (λ row. IsLeastOf (passes row.character) 
 
 -- ---- what was looked at
 
--- v is u, or goes on behind it
-abbrev pub begins : List ℕ → List ℕ → Bool
-begins u v = same u v || is_proper_prefix u v
-
--- v goes on behind p to a whole sequence that types c
+-- v goes on from p to a whole sequence that types c
 abbrev pub is_behind : List Definition → Repertoire → ℕ → List ℕ → List ℕ → Bool
 is_behind table repertoire c p v = is_proper_prefix p v && is_whole table repertoire c v
-
--- by one of these keys
-abbrev pub is_through : List Definition → Repertoire → ℕ → List ℕ → List ℕ → List ℕ → Bool
-is_through table repertoire c p ks v = list_any (λ k. begins (p ++ k ∷ []) v) ks && is_whole table repertoire c v
 
 -- ---- the answer of the rows
 
@@ -53,3 +47,8 @@ typing_of row = typing_by row.character (unwrap_or row.keys [])
 abbrev pub first_missing : List WantedCharacter → Option ℕ
 first_missing [] = None
 first_missing (row ∷ rows) = if is_some row.keys then first_missing rows else Some row.character
+
+-- these typings are what the rows say
+abbrev pub IsOfRows : List WantedCharacter → Typings → Type 0
+IsOfRows rows (Found typings) = (first_missing rows ≡ None) × (typings ≡ map typing_of rows)
+IsOfRows rows (Unreachable c) = first_missing rows ≡ Some c

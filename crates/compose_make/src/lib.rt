@@ -9,6 +9,10 @@ mod plain;
 mod typings;
 mod wanted;
 
+pub use compose_walk::{
+    Counterexample, Differences, Kind, MakeFault, Pairs, Walk, differences, explain, explain_all,
+    walk,
+};
 pub use list::TypingList;
 pub use maker::{Made, make};
 pub use typings::{Typings, find_typings};

@@ -2,14 +2,16 @@
 ghost use Rattle.std.specs.Prelude.{◌≡◌, ◌<◌, ◌≤◌, ℕ, List, Some, None, Err, length, IfErr, IfOk, MatchResult};
 ghost use Rattle.compose_model.specs.Table.{Definition};
 ghost use Rattle.compose_model.specs.Certificate.{AreFresh};
-ghost use Rattle.compose_check.specs.Demands.{first_unmet, fresh_demands};
+ghost use Rattle.compose_tree.specs.Targets.{max_nodes};
+ghost use Rattle.compose_fresh.specs.Demands.{first_unmet};
+ghost use Rattle.compose_fresh.specs.Fresh.{fresh_demands, max_fresh};
 ghost use Rattle.compose_walk.specs.Walks.{IsFollower};
 ghost use Rattle.compose_make.specs.Made.{IsMade};
 
 use crate::depth::greatest_depth;
 use crate::typings::{Typings, find_typings};
 use compose_cert::{Certificate, Repertoire};
-use compose_check::CheckFault;
+use compose_fresh::CheckFault;
 use compose_tree::ComposeTable;
 use compose_walk::{Counterexample, MakeFault, Pairs, Walk, walk};
 use keysym_core::{Keysym, Names};
@@ -42,8 +44,8 @@ pub fn make<T: ComposeTable, U: ComposeTable>(
     fresh: &[Keysym],
 ) -> Result<Made, MakeFault>
     ensures bad_fresh { (fault : CheckFault) → first_unmet (fresh_demands (T.definitions old.now) fresh.now) ≡ Some fault → result ≡ Err (MakeFault.BadFresh fault) }
-    ensures too_many { first_unmet (fresh_demands (T.definitions old.now) fresh.now) ≡ None → 1048576 < length fresh.now → result ≡ Err MakeFault.TooManyFresh }
-    ensures answer { first_unmet (fresh_demands (T.definitions old.now) fresh.now) ≡ None → length fresh.now ≤ 1048576
+    ensures too_many { first_unmet (fresh_demands (T.definitions old.now) fresh.now) ≡ None → max_fresh < length fresh.now → result ≡ Err MakeFault.TooManyFresh }
+    ensures answer { first_unmet (fresh_demands (T.definitions old.now) fresh.now) ≡ None → length fresh.now ≤ max_fresh
         → MatchResult result (IsMade names.now fresh.now (T.definitions old.now) (U.definitions new.now) repertoire.now) (λ e. e ≡ MakeFault.NoMemory) }
 {
     // A call's contract says that the table is settled.
@@ -63,8 +65,8 @@ fn certify<U: ComposeTable>(
     fresh: &[Keysym],
     pairs: Pairs,
 ) -> Result<Made, MakeFault>
-    requires few_fresh { length fresh.now ≤ 1048576 }
-    requires few_pairs { length pairs ≤ 1048576 }
+    requires few_fresh { length fresh.now ≤ max_fresh }
+    requires few_pairs { length pairs ≤ max_nodes }
     ensures { (old : List Definition) → AreFresh fresh.now old → IsFollower names.now fresh.now old (U.definitions new.now) pairs
         → MatchResult result (IsMade names.now fresh.now old (U.definitions new.now) repertoire.now) (λ e. e ≡ MakeFault.NoMemory) }
 {

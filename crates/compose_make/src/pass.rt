@@ -12,8 +12,8 @@ use compose_cert::Repertoire;
 use compose_tree::{ComposeTable, NodeId, Target};
 use keysym_core::Keysym;
 
-/// Looks at each sequence behind the node, to which these keys lead, that goes on by keys of the repertoire.
-/// O(edges behind the node × log n) in the number n of the rows.
+/// Looks at each sequence that goes on from the node, to which these keys lead, by keys of the repertoire.
+/// O(edges from the node on × log n) in the number n of the rows.
 pub fn visit<U: ComposeTable>(
     new: &U,
     repertoire: &Repertoire,

@@ -4,7 +4,7 @@ ghost use Rattle.std.specs.Option.{option_map};
 ghost use Rattle.keysym_core.specs.Keysym as keysyms;
 ghost use Rattle.compose_model.specs.Nodes.{nodes, has_edge};
 ghost use Rattle.compose_model.specs.Certificate.{is_key};
-ghost use Rattle.compose_make.specs.Least.{is_plain, IsLeastOf};
+ghost use Rattle.compose_make.specs.Candidates.{is_plain, IsLeastOf};
 
 use compose_cert::Repertoire;
 use compose_tree::{ComposeTable, NodeId};

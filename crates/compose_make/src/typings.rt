@@ -1,8 +1,8 @@
 //! A typing for each character that people need.
 ghost use Rattle.std.specs.Prelude.{◌≡◌, IfOk, IfErr};
-ghost use Rattle.compose_make.specs.Least.{is_plain};
-ghost use Rattle.compose_make.specs.Wanted.{AreLeast, characters_of};
-ghost use Rattle.compose_make.specs.Found.{IsTypings, IsOfRows};
+ghost use Rattle.compose_make.specs.Candidates.{is_plain};
+ghost use Rattle.compose_make.specs.Wanted.{AreLeast, IsOfRows, characters_of};
+ghost use Rattle.compose_make.specs.Found.{IsTypings};
 
 use crate::list::TypingList;
 use crate::pass::visit;

@@ -101,7 +101,7 @@ fn comes_first(keys: &[Keysym], other: &[Keysym]) -> bool
     keys.len() < other.len()
 }
 
-/// The place of the character, if it is wanted. O(log n).
+/// The index of the character, if it is wanted. O(log n).
 fn place_of(rows: &[Wanted], character: char) -> Option<usize>
     requires { IsTrue (keys_rise (characters_of rows.now)) }
     ensures { MatchOption result ((k : ℕ) → k < length rows.now → get_or (characters_of rows.now) k 0 ≡ character → ⊥) (λ i. (i < length rows.now) × (get_or (characters_of rows.now) i 0 ≡ character)) }

@@ -51,7 +51,7 @@ shorter_node table v w h = elim (or_cases (same (v ++ w) []) (is_extended table 
     front_empty [] e = refl
     front_empty (x ∷ v) e = cc
 
--- a proper front of p and k is a front of p
+-- a proper prefix of p and k is a prefix of p
 front_of : (v w p : List ℕ) (k : ℕ) → p ++ k ∷ [] ≡ v ++ w → w ≢ [] → (rest : List ℕ) × (p ≡ v ++ rest)
 front_of [] w p k e n = (p, refl)
 front_of (x ∷ v) w [] k e n = absurd (n (tail_empty v (let t : [] ≡ v ++ w = cc in sym t)))

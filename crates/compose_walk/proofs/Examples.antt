@@ -90,7 +90,7 @@ breaks_off = refl
 breaks_kind : difference_at core grave_acute grave_d (0xfe50 ∷ []) 0xfe51 ≡ Some cancelled
 breaks_kind = refl
 
--- nothing is looked at behind it
+-- nothing is looked at after it
 not_behind : agrees core grave_acute grave_d (0xfe50 ∷ 0xfe51 ∷ []) ≡ false
 not_behind = refl
 

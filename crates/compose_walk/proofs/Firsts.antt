@@ -1,44 +1,19 @@
 -- The first of all differences is the least counterexample, and where there is none the new table follows.
-use Rattle.std.proofs.Common.{◌≡◌, ◌⊎◌, ℕ, ◌<◌, List, [], ◌∷◌, ◌++◌, true, ◌&&◌, length, refl, sym, ◌∙◌, ap, inl, inr, arith, eqb-true, eq-eqb, lt-ltb, Ordering, Less, Equal, Greater, nat_cmp, Option, Some, None}
-use Rattle.std.specs.Prelude.{◌==◌, nat_lt, is_some}
+use Rattle.std.proofs.Common.{◌≡◌, ◌⊎◌, ℕ, List, [], ◌∷◌, ◌++◌, true, refl, sym, ◌∙◌, ap, inl, inr, Option, Some, None}
+use Rattle.std.specs.Prelude.{is_some}
 use Rattle.std.specs.List.{list_any}
-use Rattle.std.specs.Ordering.{is_lt}
-use Rattle.std.specs.Cmp.Lexicographic.{slice_cmp}
-use Rattle.std.proofs.lemmas.Cmp.{nat_list_cmp_total}
-use Rattle.std.proofs.lemmas.Bool.{and_parts, and_from, or_cases, or_left, or_right, ltb-true}
+use Rattle.std.proofs.lemmas.Bool.{and_parts, or_cases}
 use Rattle.keysym_core.specs.Names.{KeysymNames}
-use Rattle.compose_model.specs.Table.{Definition, same, comes_before, is_table}
+use Rattle.compose_model.specs.Table.{Definition, same, is_table}
 use Rattle.compose_model.specs.Follows.{Follows, Kind}
 use Rattle.compose_model.specs.Certificate.{AreFresh}
 use Rattle.compose_model.proofs.NodeLemmas.{same_is}
 use Rattle.compose_walk.specs.Evidence.{Evidence, IsLeast, AreDifferences, comes_first, differences_rise}
 use Rattle.compose_walk.specs.Pass.{difference_at, evidence}
+use Rattle.compose_walk.proofs.FirstOrder.{first_then}
 use Rattle.compose_walk.proofs.Candidates.{least_from, follows_without, candidate_is}
 
-less_is : (o : Ordering) → is_lt o ≡ true → o ≡ Less
-less_is Less h = refl
-less_is Equal h = cc
-less_is Greater h = cc
-
--- the order of evidence goes on
-first_then : (s t u : List ℕ) → comes_first s t ≡ true → comes_first t u ≡ true → comes_first s u ≡ true
-first_then s t u a b = go (or_cases (nat_lt (length s) (length t)) (length s == length t && comes_before s t) a) (or_cases (nat_lt (length t) (length u)) (length t == length u && comes_before t u) b)
-  where
-    shorter : length s < length u → comes_first s u ≡ true
-    shorter h = or_left (nat_lt (length s) (length u)) (length s == length u && comes_before s u) (lt-ltb (length s) (length u) h)
-
-    go : (nat_lt (length s) (length t) ≡ true) ⊎ (length s == length t && comes_before s t ≡ true) → (nat_lt (length t) (length u) ≡ true) ⊎ (length t == length u && comes_before t u ≡ true) → comes_first s u ≡ true
-    go (inl x) (inl y) = shorter (let m = ltb-true (length s) (length t) x in let n = ltb-true (length t) (length u) y in omega arith)
-    go (inl x) (inr y) = shorter (let m = ltb-true (length s) (length t) x in let n = eqb-true (length t) (length u) (and_parts (length t == length u) (comes_before t u) y).0 in omega arith)
-    go (inr x) (inl y) = shorter (let m = eqb-true (length s) (length t) (and_parts (length s == length t) (comes_before s t) x).0 in let n = ltb-true (length t) (length u) y in omega arith)
-    go (inr x) (inr y) =
-        let p = and_parts (length s == length t) (comes_before s t) x in
-        let q = and_parts (length t == length u) (comes_before t u) y in
-        or_right (nat_lt (length s) (length u)) (length s == length u && comes_before s u)
-        (and_from (length s == length u) (comes_before s u) (eq-eqb (length s) (length u) (eqb-true (length s) (length t) p.0 ∙ eqb-true (length t) (length u) q.0))
-        (ap is_lt (nat_list_cmp_total.trans s t u (less_is (slice_cmp nat_cmp s t) p.1) (less_is (slice_cmp nat_cmp t u) q.1))))
-
--- what stands in a rising list is its first element, or comes behind it
+-- what stands in a rising list is its first element, or comes after it
 first_of : (ks : List ℕ) (x : Evidence) (xs : List Evidence) → differences_rise (x ∷ xs) ≡ true → list_any (λ y. same y.keys ks) (x ∷ xs) ≡ true → (x.keys ≡ ks) ⊎ (comes_first x.keys ks ≡ true)
 first_of ks x [] r h = elim (or_cases (same x.keys ks) (list_any (λ (y : Evidence). same y.keys ks) []) h) [ inl e ↦ inl (same_is x.keys ks e) | inr e ↦ absurd (let n : list_any (λ (y : Evidence). same y.keys ks) [] ≡ true = e in cc) ]
 first_of ks x (y ∷ ys) r h =

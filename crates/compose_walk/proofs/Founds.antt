@@ -107,7 +107,7 @@ all_index P (y ∷ ys) (suc i) x a h e = all_index P ys i x a.1 (omega arith) e
 
 -- ---- the order of what is found
 
--- lists of one length keep their order with more behind them
+-- lists of one length keep their order when they go on
 less_behind : (p q x y : List ℕ) → length p ≡ length q → slice_cmp nat_cmp p q ≡ Less → slice_cmp nat_cmp (p ++ x) (q ++ y) ≡ Less
 less_behind [] [] x y e h = cc
 less_behind [] (k ∷ q) x y e h = absurd (omega arith)
@@ -129,7 +129,7 @@ first_shorter s t h = or_left (nat_lt (length s) (length t)) (length s == length
 first_before : (s t : List ℕ) → length s ≡ length t → slice_cmp nat_cmp s t ≡ Less → comes_first s t ≡ true
 first_before s t e h = or_right (nat_lt (length s) (length t)) (length s == length t && comes_before s t) (and_from (length s == length t) (comes_before s t) (eq-eqb (length s) (length t) e) (ap is_lt h))
 
--- what does not come sooner comes behind, or has the same keys
+-- what does not come sooner comes later, or has the same keys
 pub in_order : (table : List Definition) (p q : List ℕ) (k j : ℕ) → is_node table p ≡ true → is_node table q ≡ true → comes_sooner (found_at table q j) (found_at table p k) ≡ false
     → (p ++ k ∷ [] ≡ q ++ j ∷ []) ⊎ (comes_first (p ++ k ∷ []) (q ++ j ∷ []) ≡ true)
 in_order table p q k j hp hq n = by (length q == length p) refl n

@@ -2,6 +2,7 @@ mod Examples
 pub mod Reduction
 pub mod Candidates
 pub mod Places
+pub mod Onward
 pub mod Stepped
 pub mod Standing
 pub mod Edges
@@ -10,5 +11,6 @@ pub mod Starts
 pub mod Traces
 pub mod Founds
 pub mod Told
+pub mod FirstOrder
 pub mod Firsts
 pub mod Order

@@ -43,7 +43,7 @@ map_const : {X Y : Type 0} (y : Y) (xs : List X) → map (λ x. y) xs ≡ replic
 map_const y [] = refl
 map_const y (x ∷ xs) = ap (λ ys. y ∷ ys) (map_const y xs)
 
--- a node is behind its front by an edge
+-- an edge leads to a node from the keys before its last one
 behind_front : (table : List Definition) (q : List ℕ) → is_node table q ≡ true → is_empty q ≡ false → has_edge table (front q) (last_key q) ≡ true
 behind_front table q h e = or_left (is_node table (front q ++ last_key q ∷ [])) (is_sequence table (front q ++ last_key q ∷ [])) (ap (is_node table) (sym (pushed q e)) ∙ h)
 
@@ -185,7 +185,7 @@ found_next names fresh old new i before after h b a =
     ∙ flat_map_more (found_behind names old new) (map (found_at old []) (differing_starts names fresh old new)) (take i (nodes old)) (node old i)
     ∙ ap (all_found names fresh old new) (sym (take_more (nodes old) i [] h))
 
--- nothing is found behind a node up to which the tables do not agree
+-- nothing is found at a node up to which the tables do not agree
 pub found_dark : (names : KeysymNames) (old new : List Definition) (p : List ℕ) (xs : List Found) → agrees names old new p ≡ false → xs ≡ xs ++ found_behind names old new p
 found_dark names old new p xs d = sym (append-nil xs) ∙ ap (λ b. xs ++ map (found_at old p) (cond b (filter (differs_at names old new p) (edges old p)) [])) (sym d)
 

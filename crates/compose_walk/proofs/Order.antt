@@ -84,7 +84,7 @@ less_than : (j k : ℕ) → nat_cmp j k ≡ Less → j ≡ k → ⊥
 less_than j k h e = let clash : Less ≡ Equal = sym h ∙ ap (nat_cmp j) (sym e) ∙ tied_itself nat_cmp_total j in cc
 
 module _ (old : List Definition) (p : List ℕ) where
-  -- rising keys behind one node
+  -- rising keys at one node
   distinct_keys : (ks : List ℕ) → IsStrictlySortedBy nat_cmp ks → IsDistinct same_place (map (found_at old p) ks)
   unfolding IsDistinct IsStrictlySortedBy
   distinct_keys [] s = tt
@@ -110,7 +110,7 @@ module _ (names : KeysymNames) (fresh : List ℕ) (old new : List Definition) wh
       go true = distinct_filtered old p old p (differs_at names old new p)
       go false = tt
 
-  -- what is true of each key behind a node
+  -- what is true of each key at a node
   each_behind : (P : Found → Type 0) (p : List ℕ) → ((k : ℕ) → has_edge old p k ≡ true → P (found_at old p k)) → AllByRecursion P (found_behind names old new p)
   each_behind P p h = go (agrees names old new p)
     where

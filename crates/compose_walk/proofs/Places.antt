@@ -30,7 +30,7 @@ all_at P [] i d a h = absurd (omega arith)
 all_at P (x ∷ xs) zero d a h = a.0
 all_at P (x ∷ xs) (suc i) d a h = all_at P xs i d a.1 (omega arith)
 
-place_is : (xs : List (List ℕ)) (i : ℕ) → IsStrictlySortedBy (slice_cmp nat_cmp) xs → i < length xs → position_or_len (same (get_or xs i [])) xs ≡ i
+pub place_is : (xs : List (List ℕ)) (i : ℕ) → IsStrictlySortedBy (slice_cmp nat_cmp) xs → i < length xs → position_or_len (same (get_or xs i [])) xs ≡ i
 unfolding IsStrictlySortedBy
 place_is [] i s h = absurd (omega arith)
 place_is (x ∷ xs) zero s h = ap (λ b. cond (not b) (1 + position_or_len (same x) xs) 0) (same_from x x refl)
@@ -42,7 +42,7 @@ place_is (x ∷ xs) (suc i) s h =
 pub number_at_node : (table : List Definition) (i : ℕ) → i < length (nodes table) → number_of table (node table i) ≡ i
 number_at_node table i h = place_is (nodes table) i (nodes_sorted table) h
 
-any_at : (xs : List (List ℕ)) (i : ℕ) → i < length xs → list_any (same (get_or xs i [])) xs ≡ true
+pub any_at : (xs : List (List ℕ)) (i : ℕ) → i < length xs → list_any (same (get_or xs i [])) xs ≡ true
 any_at [] i h = absurd (omega arith)
 any_at (x ∷ xs) zero h = or_left (same x x) (list_any (same x) xs) (same_from x x refl)
 any_at (x ∷ xs) (suc i) h = or_right (same (get_or xs i []) x) (list_any (same (get_or xs i [])) xs) (any_at xs i (omega arith))

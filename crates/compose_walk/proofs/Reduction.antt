@@ -141,7 +141,7 @@ module _ (names : KeysymNames) (fresh : List ℕ) (old new : List Definition) wh
           (subst (λ (y : List ℕ). difference (step names old (pending_from old (pending_after old p j) w) k) (step names new (pending_from new y w) k) ≡ Some kind) en d) in
           again q cq uq aq dq
 
-      -- what is shorter or as long behind fewer keys is shorter
+      -- what is shorter or as long after fewer keys is shorter
       shorter : (q : List ℕ) → length q < length p + 1 → Reduces q w k
           → Reduces p (j ∷ w) k
       shorter q l (r, cand, inl e) = (r, cand, inr (let n : length r ≡ length q + length w = ap length e ∙ length-append q w in omega arith))

@@ -26,7 +26,7 @@ use Rattle.compose_walk.proofs.Places.{on_nodes, set_node}
 
 -- ---- the steps of the program differ as the model's do
 
-zero_test : (table : List Definition) (q : List ℕ) → is_node table q ≡ true → number_of table q == 0 ≡ is_empty q
+pub zero_test : (table : List Definition) (q : List ℕ) → is_node table q ≡ true → number_of table q == 0 ≡ is_empty q
 zero_test table [] h = eq-eqb (number_of table []) 0 (root_number table)
 zero_test table (k ∷ q) h = elim (cases_Bool (number_of table (k ∷ q) == 0)) [
   | inl e ↦ absurd (let is : k ∷ q ≡ [] = zero_is_root table (k ∷ q) h (eqb-true (number_of table (k ∷ q)) 0 e) in cc)
@@ -61,7 +61,7 @@ pub differs_alike : (names : KeysymNames) (old new : List Definition) (p v : Lis
 differs_alike names old new p v k a b hp hv e sa sb =
     sym (some_alike (difference_of a b)) ∙ ap is_some (differ_alike names old new p v k a b hp hv sa sb) ∙ ap (λ y. is_some (difference (step names old p k) (step names new y k))) e
 
--- ---- the front of a list and its last key
+-- ---- a list without its last key, and its last key
 
 pub front_push : (p : List ℕ) (k : ℕ) → front (p ++ k ∷ []) ≡ p
 front_push [] k = refl

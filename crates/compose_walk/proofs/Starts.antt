@@ -3,17 +3,12 @@ use Rattle.std.proofs.Common.{◌≡◌, ℕ, zero, suc, ◌+◌, ◌<◌, ◌�
 use Rattle.std.specs.Prelude.{◌==◌, is_some, is_ok, slice_get}
 use Rattle.std.specs.List.{filter}
 use Rattle.std.proofs.lemmas.List.{take_all}
-use Rattle.std.specs.List.Sorted.{IsBinarySearchResult}
-use Rattle.std.specs.Result.{MatchResult}
-use Rattle.std.proofs.lemmas.Bool.{or_left, or_right, or_from, cases_lt, ne_eqb}
-use Rattle.std.proofs.lemmas.List.Sorted.{searched}
+use Rattle.std.proofs.lemmas.Bool.{or_from}
 use Rattle.keysym_core.specs.Names.{KeysymNames}
 use Rattle.compose_model.specs.Table.{Definition, has_key, is_extended, is_sequence}
 use Rattle.compose_model.specs.Step.{pending}
 use Rattle.compose_model.specs.Nodes.{nodes, node, is_node, has_edge, edges}
-use Rattle.compose_model.specs.Certificate.{keys_rise}
 use Rattle.compose_model.proofs.NodeLemmas.{root_first, root_number, node_zero, root_is_node, edge_extends}
-use Rattle.compose_check.proofs.Places.{rises}
 use Rattle.compose_tree.specs.declared.table.Target.{Target}
 use Rattle.compose_tree.specs.Targets.{target_of}
 use Rattle.compose_tree.proofs.Steps.{Leads, leads, edge_target}
@@ -24,33 +19,6 @@ use Rattle.compose_walk.specs.Steps.{IsStep, difference_of}
 use Rattle.compose_walk.specs.declared.step.KeyStep.{KeyStep}
 use Rattle.compose_walk.proofs.Standing.{differs_alike}
 use Rattle.compose_walk.proofs.Nodes.{found_more}
-
--- ---- a search in rising keysyms
-
-key_there : (xs : List ℕ) (i k : ℕ) → i < length xs → get_or xs i 0 ≡ k → has_key xs k ≡ true
-key_there [] i k h e = absurd (omega arith)
-key_there (x ∷ xs) zero k h e = or_left (k == x) (has_key xs k) (eq-eqb k x (sym e))
-key_there (x ∷ xs) (suc i) k h e = or_right (k == x) (has_key xs k) (key_there xs i k (omega arith) e)
-
-key_absent : (xs : List ℕ) (k : ℕ) → ((i : ℕ) → i < length xs → get_or xs i 0 ≡ k → ⊥) → has_key xs k ≡ false
-key_absent [] k n = refl
-key_absent (x ∷ xs) k n = or_from (k == x) (has_key xs k) (ne_eqb k x (λ e. n zero (omega arith) (sym e))) (key_absent xs k (λ i h e. n (suc i) (omega arith) e))
-
-pub among : (xs : List ℕ) (k : ℕ) (r : Result ℕ ℕ) → keys_rise xs ≡ true → IsBinarySearchResult (λ y. nat_cmp y k) xs r → is_ok r ≡ has_key xs k
-among xs k r rise found = go r (searched xs k r found up)
-  where
-    up : (i j : ℕ) → i ≤ j → j < length xs → get_or xs i 0 ≤ get_or xs j 0
-    up i j a b = elim (cases_lt i j) [
-      | inl l ↦ (let m = rises xs rise i j l b in omega arith)
-      | inr l ↦ (let e : get_or xs i 0 ≡ get_or xs j 0 = ap (λ n. get_or xs n 0) (omega arith) in omega arith)
-    ]
-
-    go : (r : Result ℕ ℕ) → MatchResult r (λ i. (i < length xs) × (get_or xs i 0 ≡ k)) (λ i. (i ≤ length xs) × ((j : ℕ) → j < i → get_or xs j 0 < k) × ((j : ℕ) → i ≤ j → j < length xs → k < get_or xs j 0)) → is_ok r ≡ has_key xs k
-    go (Ok i) h = sym (key_there xs i k h.0 h.1)
-    go (Err i) h = sym (key_absent xs k (λ j b e. elim (cases_lt j i) [
-      | inl l ↦ absurd (let m = h.1 j l in omega arith)
-      | inr l ↦ absurd (let m = h.2 j l b in omega arith)
-    ]))
 
 -- ---- the roots
 

@@ -44,6 +44,6 @@ module _ (names : KeysymNames) (table : List Definition) (p : List ℕ) (k : ℕ
   pub step_breaks : None ≡ target_of table p k → is_empty p ≡ false → (s : KeyStep) → s.cancels ≡ true → text_bytes s.text ≡ [] → s.next.0 ≡ 0 → IsStep names table p k s
   step_breaks h at s c t m = step_by cancels (effect_of None h ∙ ap (λ b. cond b passes cancels) at) s c t (m ∙ sym (root_number table))
 
--- a leaf behind a key is one of the table
+-- a leaf to which a key leads is one of the table
 pub to_leaf_below : (table : List Definition) (p : List ℕ) (k : ℕ) (l : LeafId) → Some (Leaf l) ≡ target_of table p k → l.0 < length (leaves table)
 to_leaf_below table p k l h = (subst (λ (y : Option Target). Leads table p k y) (sym h) (leads table p k)).in_range

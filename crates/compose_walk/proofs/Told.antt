@@ -1,4 +1,4 @@
--- One push behind another makes the four lines, and one write the line that counts.
+-- One push after another makes the four lines, and one write the line that counts.
 use Rattle.std.proofs.Common.{◌≡◌, ℕ, List, [], ◌∷◌, ◌++◌, ◌∙◌, ap, append_assoc}
 use Rattle.std.specs.Prelude.{length, codes}
 use Rattle.std.specs.Fmt.{decimal}

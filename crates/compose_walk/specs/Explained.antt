@@ -51,7 +51,7 @@ abbrev pub count_line : List Evidence → List ℕ
 count_line xs =
     line (counted (length xs) (count_word (length xs)) ++ codes ": " ++ kind_counted text_differs xs ++ codes ", " ++ kind_counted cancelled xs ++ codes ", " ++ kind_counted waiting xs)
 
--- each difference with an empty line behind it
+-- each difference with an empty line after it
 abbrev pub each_explained : KeysymNames → List Evidence → List ℕ
 each_explained names xs = flat_map (λ x. explained names x ++ line []) xs
 

@@ -1,4 +1,4 @@
--- What one pass over the nodes of the old table finds: up to which nodes the tables agree, and the keys at which they then differ.
+-- What one pass over the nodes of the old table finds: up to which nodes the tables agree, and the keys at which they then differ. Words for private functions.
 use Rattle.std.specs.Prelude.{ℕ, Bool, true, not, ◌&&◌, if◌then◌else◌, List, [], ◌∷◌, ◌++◌, Option, is_some}
 use Rattle.std.specs.List.{filter}
 use Rattle.keysym_core.specs.Names.{KeysymNames}
@@ -8,7 +8,7 @@ use Rattle.compose_model.specs.Follows.{Kind, difference}
 use Rattle.compose_model.specs.Nodes.{has_edge, edges}
 use Rattle.compose_walk.specs.Evidence.{Evidence}
 
--- how the tables differ at the key k behind the node p
+-- how the tables differ at the key k after the node p
 abbrev pub difference_at : KeysymNames → List Definition → List Definition → List ℕ → ℕ → Option Kind
 difference_at names old new p k = difference (step names old p k) (step names new (pending new p) k)
 
@@ -35,6 +35,6 @@ is_differing_start names fresh old new k = not (has_edge old [] k) && (not (has_
 abbrev pub differing_starts : KeysymNames → List ℕ → List Definition → List Definition → List ℕ
 differing_starts names fresh old new = filter (is_differing_start names fresh old new) (edges new [])
 
--- the evidence that the key k behind the node p is
+-- the evidence that the key k after the node p is
 abbrev pub evidence : KeysymNames → List Definition → List Definition → List ℕ → ℕ → Kind → Evidence
 evidence names old new p k kind = record { keys = p ++ k ∷ []; kind = kind; old_text = (step names old p k).text; new_text = (step names new (pending new p) k).text }

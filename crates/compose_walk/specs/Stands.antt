@@ -1,4 +1,4 @@
--- What the pass keeps: for each old node what stands with it, and the keys that it found.
+-- What the pass keeps: for each old node what stands with it, and the keys that it found. Words for private functions.
 use Rattle.std.specs.Prelude.{◌≡◌, ℕ, ◌+◌, ◌<◌, Bool, true, false, ◌&&◌, ◌||◌, ◌==◌, nat_lt, if◌then◌else◌, List, [], ◌∷◌, ◌++◌, length, map, flat_map, Option, Some, None, unwrap_or}
 use Rattle.keysym_core.specs.Keysym.{is_ignored}
 use Rattle.keysym_core.specs.Names.{KeysymNames}
@@ -31,22 +31,22 @@ stand names old new p =
       keysym = last_key p;
     }) else None
 
--- the edge that leads to p was looked at: it is one of a node before the one with this number, or one of these keys behind that node
+-- the edge that leads to p was looked at: it is one of a node before the one with this number, or one of these keys at that node
 abbrev pub is_done : List Definition → ℕ → List ℕ → List ℕ → Bool
 is_done old i ks p = is_empty p || (nat_lt (number_of old (front p)) i || (number_of old (front p) == i && has_key ks (last_key p)))
 
 abbrev pub stands_at : KeysymNames → List Definition → List Definition → ℕ → List ℕ → List (Option Stand)
 stands_at names old new i ks = map (λ p. if is_done old i ks p then stand names old new p else None) (nodes old)
 
--- the key k behind the old node p
+-- the key k at the old node p
 abbrev pub found_at : List Definition → List ℕ → ℕ → Found
 found_at old p k = record { depth = length p; node = number_of old p; keysym = k }
 
--- those behind the old node p
+-- those at the old node p
 abbrev pub found_behind : KeysymNames → List Definition → List Definition → List ℕ → List Found
 found_behind names old new p = map (found_at old p) (differing_edges names old new p)
 
--- those among the new starts, and behind these nodes
+-- those among the new starts, and at these nodes
 abbrev pub all_found : KeysymNames → List ℕ → List Definition → List Definition → List (List ℕ) → List Found
 all_found names fresh old new ps = map (found_at old []) (differing_starts names fresh old new) ++ flat_map (found_behind names old new) ps
 

@@ -42,7 +42,7 @@ impl Differences {
         self.differences.is_empty()
     }
 
-    /// The difference at this place, if there is one. O(1).
+    /// The difference at this index, if there is one. O(1).
     pub fn get(&self, index: usize) -> Option<&Counterexample>
         ensures { option_copied result ≡ slice_get self.now index }
     {

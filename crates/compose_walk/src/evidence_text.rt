@@ -28,7 +28,7 @@ pub fn explain(
     Ok(text)
 }
 
-/// All differences as text: four lines for each, with an empty line behind them, and a last line that counts them, as
+/// All differences as text: four lines for each, with an empty line after them, and a last line that counts them, as
 /// `2 differences: 1 text, 1 cancelled, 0 waiting`. Where there is none, the one line `follows`.
 /// O(keys × look-up in the names + bytes of the texts).
 pub fn explain_all(
@@ -44,7 +44,7 @@ pub fn explain_all(
     Ok(text)
 }
 
-/// Puts all differences and their count behind the text, or that there is none.
+/// Appends all differences and their count to the text, or that there is none.
 fn push_all(
     alloc: Global,
     text: &mut String,
@@ -60,7 +60,7 @@ fn push_all(
     push_count(text, differences)
 }
 
-/// Puts each difference, with an empty line behind it, behind the text.
+/// Appends each difference, with an empty line after it, to the text.
 fn push_each(
     alloc: Global,
     text: &mut String,
@@ -76,7 +76,7 @@ fn push_each(
     Ok(())
 }
 
-/// Puts the line that counts the differences behind the text.
+/// Appends the line that counts the differences to the text.
 fn push_count(text: &mut String, differences: &[Counterexample]) -> Result<(), AllocError>
     ensures { IfOk result (λ _. string_bytes text.new ≡ string_bytes text.old ++ count_line differences.now) }
 {
@@ -113,7 +113,7 @@ fn count_of(differences: &[Counterexample], kind: Kind) -> usize
         .count()
 }
 
-/// Puts the four lines behind the text.
+/// Appends the four lines to the text.
 fn push_explained(
     alloc: Global,
     text: &mut String,
@@ -133,7 +133,7 @@ fn push_explained(
     Ok(())
 }
 
-/// Puts the word `keys` and the printed keysyms, with a blank before each, behind the text.
+/// Appends the word `keys` and the printed keysyms, with a blank before each, to the text.
 fn push_keys(
     alloc: Global,
     text: &mut String,
@@ -150,7 +150,7 @@ fn push_keys(
     Ok(())
 }
 
-/// Puts the printed keysym behind the text.
+/// Appends the printed keysym to the text.
 fn push_printed(
     alloc: Global,
     text: &mut String,
@@ -165,7 +165,7 @@ fn push_printed(
     }
 }
 
-/// Puts the text between quotes behind the other one.
+/// Appends the one text between quotes to the other one.
 fn push_quoted(alloc: Global, text: &mut String, inside: &str) -> Result<(), AllocError>
     ensures { IfOk result (λ _. string_bytes text.new ≡ string_bytes text.old ++ quote inside.now) }
 {

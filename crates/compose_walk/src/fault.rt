@@ -1,5 +1,5 @@
 //! Why no answer is made.
-use compose_check::CheckFault;
+use compose_fresh::CheckFault;
 use std::alloc::{AllocError, AllocFailed};
 use thiserror::Error;
 

@@ -25,6 +25,7 @@ pub use evidence_text::{explain, explain_all};
 pub use fault::MakeFault;
 pub use outcome::Walk;
 pub use pairs::Pairs;
+pub use step::{KeyStep, KeyText, difference, key_step};
 pub use walker::{differences, walk};
 
 /// Of all differences of two tables, in order, the first is the least counterexample; where there is none, the new table follows.

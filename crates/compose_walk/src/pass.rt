@@ -2,7 +2,7 @@
 ghost use Rattle.std.specs.Prelude.{◌≡◌, ◌<◌, ◌+◌, ◌++◌, ◌∷◌, [], ℕ, List, Some, true, IsTrue, length, map, take, slice_get, OnOk, IfOk, IfErr};
 ghost use Rattle.std.specs.List.{filter};
 ghost use Rattle.std.specs.List.Sorted.{IsPermutation, IsSortedBy};
-ghost use Rattle.compose_model.specs.Table.{has_key, is_table};
+ghost use Rattle.compose_model.specs.Table.{is_table};
 ghost use Rattle.compose_model.specs.Step.{pending};
 ghost use Rattle.compose_model.specs.Nodes as words;
 ghost use Rattle.compose_model.specs.Nodes.{nodes, number_of, edges};
@@ -13,6 +13,7 @@ ghost use Rattle.compose_walk.specs.Stands.{stand, stands_at, found_at, found_be
 
 use crate::fault::MakeFault;
 use crate::step::{ROOT, difference, key_step};
+use compose_fresh::is_among;
 use compose_tree::{ComposeTable, NodeId, Target};
 use keysym_core::{Keysym, Names};
 use std::alloc::Global;
@@ -26,7 +27,7 @@ pub struct Stand {
     pub keysym: Keysym,
 }
 
-/// A key at which the tables differ first, behind an old node with so many keysyms.
+/// A key at which the tables differ first, typed at an old node with so many keysyms.
 #[derive(Clone, Copy)]
 pub struct Found {
     pub depth: u32,
@@ -239,12 +240,4 @@ fn is_differing_start<T: ComposeTable, U: ComposeTable>(
     let old_step = key_step(old, names, ROOT, keysym, None);
     let new_step = key_step(new, names, ROOT, keysym, Some(target));
     difference(&old_step, &new_step).is_some()
-}
-
-/// Whether the keysym is among those, which rise. O(log n).
-fn is_among(keysyms: &[Keysym], keysym: Keysym) -> bool
-    requires { IsTrue (keys_rise keysyms.now) }
-    ensures { result ≡ has_key keysyms.now keysym }
-{
-    keysyms.binary_search(&keysym).is_ok()
 }

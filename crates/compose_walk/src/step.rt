@@ -57,7 +57,7 @@ pub fn own_text(names: &Names, key: Keysym) -> ArrayString<4>
     own
 }
 
-/// What the key does to the table at the node, behind which it has this target. O(1), and at the root a look-up in the names.
+/// What the key, which has this target there, does to the table at the node. O(1), and at the root a look-up in the names.
 pub fn key_step<'t, T: ComposeTable>(
     table: &'t T,
     names: &Names,

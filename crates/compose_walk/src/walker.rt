@@ -2,7 +2,8 @@
 ghost use Rattle.std.specs.Prelude.{◌≡◌, ◌<◌, ◌≤◌, ◌++◌, ◌∷◌, [], ℕ, List, Some, None, true, IsTrue, ◌^◌, Err, Ok, length, map, drop, IfOk, IfErr, MatchResult};
 ghost use Rattle.std.specs.List.{IsFirstBest};
 ghost use Rattle.compose_model.specs.Certificate.{AreFresh};
-ghost use Rattle.compose_check.specs.Demands.{first_unmet, fresh_demands};
+ghost use Rattle.compose_fresh.specs.Demands.{first_unmet};
+ghost use Rattle.compose_fresh.specs.Fresh.{fresh_demands, max_fresh};
 ghost use Rattle.compose_walk.specs.Evidence.{AreDifferences};
 ghost use Rattle.compose_walk.specs.Stands.{comes_sooner, stand_pairs};
 ghost use Rattle.compose_walk.specs.Walks.{IsWalk};
@@ -12,13 +13,10 @@ use crate::fault::MakeFault;
 use crate::outcome::Walk;
 use crate::pairs::Pairs;
 use crate::pass::{Found, Pass, Stand};
-use compose_check::{CheckFault, check_fresh};
+use compose_fresh::{CheckFault, MAX_FRESH, check_fresh};
 use compose_tree::ComposeTable;
 use keysym_core::{Keysym, Names};
 use std::alloc::Global;
-
-/// The most fresh keysyms that a certificate can have.
-pub const MOST_FRESH: usize = 1_048_576;
 
 /// Walks through both tables, but for what begins with a fresh keysym.
 ///
@@ -32,8 +30,8 @@ pub fn walk<T: ComposeTable, U: ComposeTable>(
     fresh: &[Keysym],
 ) -> Result<Walk, MakeFault>
     ensures bad_fresh { (fault : CheckFault) → first_unmet (fresh_demands (T.definitions old.now) fresh.now) ≡ Some fault → result ≡ Err (MakeFault.BadFresh fault) }
-    ensures too_many { first_unmet (fresh_demands (T.definitions old.now) fresh.now) ≡ None → 1048576 < length fresh.now → result ≡ Err MakeFault.TooManyFresh }
-    ensures answer { first_unmet (fresh_demands (T.definitions old.now) fresh.now) ≡ None → length fresh.now ≤ 1048576
+    ensures too_many { first_unmet (fresh_demands (T.definitions old.now) fresh.now) ≡ None → max_fresh < length fresh.now → result ≡ Err MakeFault.TooManyFresh }
+    ensures answer { first_unmet (fresh_demands (T.definitions old.now) fresh.now) ≡ None → length fresh.now ≤ max_fresh
         → MatchResult result (IsWalk names.now fresh.now (T.definitions old.now) (U.definitions new.now)) (λ e. e ≡ MakeFault.NoMemory) }
 {
     accept_fresh(old, fresh)?;
@@ -53,8 +51,8 @@ pub fn differences<T: ComposeTable, U: ComposeTable>(
     fresh: &[Keysym],
 ) -> Result<Differences, MakeFault>
     ensures bad_fresh { (fault : CheckFault) → first_unmet (fresh_demands (T.definitions old.now) fresh.now) ≡ Some fault → result ≡ Err (MakeFault.BadFresh fault) }
-    ensures too_many { first_unmet (fresh_demands (T.definitions old.now) fresh.now) ≡ None → 1048576 < length fresh.now → result ≡ Err MakeFault.TooManyFresh }
-    ensures answer { first_unmet (fresh_demands (T.definitions old.now) fresh.now) ≡ None → length fresh.now ≤ 1048576
+    ensures too_many { first_unmet (fresh_demands (T.definitions old.now) fresh.now) ≡ None → max_fresh < length fresh.now → result ≡ Err MakeFault.TooManyFresh }
+    ensures answer { first_unmet (fresh_demands (T.definitions old.now) fresh.now) ≡ None → length fresh.now ≤ max_fresh
         → MatchResult result (AreDifferences names.now fresh.now (T.definitions old.now) (U.definitions new.now)) (λ e. e ≡ MakeFault.NoMemory) }
 {
     accept_fresh(old, fresh)?;
@@ -64,14 +62,14 @@ pub fn differences<T: ComposeTable, U: ComposeTable>(
 /// Refuses keysyms that are not fresh for the old table, or too many of them.
 pub fn accept_fresh<T: ComposeTable>(old: &T, fresh: &[Keysym]) -> Result<(), MakeFault>
     ensures bad_fresh { (fault : CheckFault) → first_unmet (fresh_demands (T.definitions old.now) fresh.now) ≡ Some fault → result ≡ Err (MakeFault.BadFresh fault) }
-    ensures too_many { first_unmet (fresh_demands (T.definitions old.now) fresh.now) ≡ None → 1048576 < length fresh.now → result ≡ Err MakeFault.TooManyFresh }
-    ensures accepted { first_unmet (fresh_demands (T.definitions old.now) fresh.now) ≡ None → length fresh.now ≤ 1048576 → result ≡ Ok tt }
+    ensures too_many { first_unmet (fresh_demands (T.definitions old.now) fresh.now) ≡ None → max_fresh < length fresh.now → result ≡ Err MakeFault.TooManyFresh }
+    ensures accepted { first_unmet (fresh_demands (T.definitions old.now) fresh.now) ≡ None → length fresh.now ≤ max_fresh → result ≡ Ok tt }
     ensures fresh { IfOk result (λ _. AreFresh fresh.now (T.definitions old.now)) }
 {
     if let Some(fault) = check_fresh(old, fresh) {
         return Err(MakeFault::BadFresh(fault));
     }
-    if fresh.len() > MOST_FRESH {
+    if fresh.len() > MAX_FRESH {
         return Err(MakeFault::TooManyFresh);
     }
     Ok(())
@@ -132,7 +130,7 @@ fn pairs_of(alloc: Global, stands: &[Option<Stand>]) -> Result<Pairs, MakeFault>
     Ok(Pairs::new(pairs))
 }
 
-/// The place of the one with the fewest keys, and of these the first in order. O(n).
+/// The index of the one with the fewest keys, and of these the first in order. O(n).
 fn least_of(found: &[Found]) -> usize
     requires { 0 < length found.now }
     ensures { IsFirstBest comes_sooner found.now (length found.now) result }

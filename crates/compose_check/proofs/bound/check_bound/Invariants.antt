@@ -1,6 +1,7 @@
 use Rattle.std.proofs.Common.{◌≡◌, drop}
 use Rattle.compose_model.specs.Nodes.{nodes}
-use Rattle.compose_check.specs.Demands.{first_unmet, bound_demands, bound_demands_from}
+use Rattle.compose_fresh.specs.Demands.{first_unmet}
+use Rattle.compose_check.specs.Demands.{bound_demands, bound_demands_from}
 use Rattle.compose_check.proofs.bound.check_bound.Given as goal
 
 -- the demands on the nodes that are left fail where those on all of them do

@@ -3,7 +3,7 @@ use Rattle.std.specs.Prelude.{nat_lt}
 use Rattle.std.proofs.lemmas.Bool.{and_parts}
 use Rattle.compose_model.specs.Nodes.{nodes}
 use Rattle.compose_check.proofs.Lists.{all_at}
-use Rattle.compose_check.proofs.Unmet.{none_left}
+use Rattle.compose_fresh.proofs.Unmet.{none_left}
 use Rattle.compose_check.proofs.EdgeDemands.{pair_unmet, pair_met}
 use Rattle.compose_check.proofs.edges.check_edges.Goals as goal
 

@@ -1,5 +1,6 @@
 use Rattle.std.proofs.Common.{◌≡◌, drop}
-use Rattle.compose_check.specs.Demands.{first_unmet, edge_demands, edge_demands_from}
+use Rattle.compose_fresh.specs.Demands.{first_unmet}
+use Rattle.compose_check.specs.Demands.{edge_demands, edge_demands_from}
 use Rattle.compose_check.proofs.edges.check_edges.Given as goal
 
 -- the demands on the pairs that are left fail where those on all of them do

@@ -1,7 +1,7 @@
 use Rattle.std.proofs.Common.{◌∙◌, sym}
 use Rattle.compose_model.specs.Nodes.{node, edges}
 use Rattle.compose_check.specs.Demands.{one_edge_demands}
-use Rattle.compose_check.proofs.Unmet.{unmet_at, met_at, none_left}
+use Rattle.compose_fresh.proofs.Unmet.{unmet_at, met_at, none_left}
 use Rattle.compose_check.proofs.edges.check_pair.Goals as goal
 
 pub returns-in-Some : goal.returns-in-Some

@@ -1,7 +1,8 @@
 use Rattle.std.proofs.Common.{◌≡◌, drop}
 use Rattle.std.specs.Prelude.{flat_map}
 use Rattle.compose_model.specs.Nodes.{node, edges}
-use Rattle.compose_check.specs.Demands.{first_unmet, one_edge_demands}
+use Rattle.compose_fresh.specs.Demands.{first_unmet}
+use Rattle.compose_check.specs.Demands.{one_edge_demands}
 use Rattle.compose_check.proofs.edges.check_pair.Given as goal
 
 -- the demands at the edges that are left fail where those at all of them do

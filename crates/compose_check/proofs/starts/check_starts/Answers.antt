@@ -4,8 +4,9 @@ use Rattle.std.proofs.lemmas.List.{drop_all}
 use Rattle.compose_model.specs.Nodes.{edges}
 use Rattle.compose_model.proofs.NodeLemmas.{node_zero}
 use Rattle.compose_tree.specs.Targets.{target_of}
-use Rattle.compose_check.specs.Demands.{first_unmet, start_demand}
-use Rattle.compose_check.proofs.Unmet.{one_unmet_at, one_met_at}
+use Rattle.compose_fresh.specs.Demands.{first_unmet}
+use Rattle.compose_check.specs.Demands.{start_demand}
+use Rattle.compose_fresh.proofs.Unmet.{one_unmet_at, one_met_at}
 use Rattle.compose_check.proofs.StartDemands.{has_root}
 use Rattle.compose_check.proofs.starts.check_starts.Goals as goal
 

@@ -1,6 +1,7 @@
 use Rattle.std.proofs.Common.{◌≡◌, [], map, drop}
 use Rattle.compose_model.specs.Nodes.{edges}
-use Rattle.compose_check.specs.Demands.{first_unmet, start_demand, start_demands}
+use Rattle.compose_fresh.specs.Demands.{first_unmet}
+use Rattle.compose_check.specs.Demands.{start_demand, start_demands}
 use Rattle.compose_check.proofs.starts.check_starts.Given as goal
 
 -- the demands on the keysyms that are left fail where those on all of them do

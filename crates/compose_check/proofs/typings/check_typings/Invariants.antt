@@ -1,5 +1,6 @@
 use Rattle.std.proofs.Common.{◌≡◌, drop}
-use Rattle.compose_check.specs.Demands.{first_unmet, typing_demands}
+use Rattle.compose_fresh.specs.Demands.{first_unmet}
+use Rattle.compose_check.specs.Demands.{typing_demands}
 use Rattle.compose_check.proofs.typings.check_typings.Given as goal
 
 -- the demands on what is left fail where those on all of it do

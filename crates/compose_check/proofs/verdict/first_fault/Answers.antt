@@ -1,6 +1,8 @@
 use Rattle.std.proofs.Common.{◌∙◌, sym, ap}
-use Rattle.compose_check.specs.Demands.{first_unmet, fresh_demands, start_demands, bound_demands}
-use Rattle.compose_check.proofs.Unmet.{none_left}
+use Rattle.compose_fresh.specs.Demands.{first_unmet}
+use Rattle.compose_fresh.specs.Fresh.{fresh_demands}
+use Rattle.compose_check.specs.Demands.{start_demands, bound_demands}
+use Rattle.compose_fresh.proofs.Unmet.{none_left}
 use Rattle.compose_check.proofs.Groups.{fresh_fault, start_fault, pairs_fit, edge_fault, bound_fault, typing_faults}
 use Rattle.compose_check.proofs.verdict.first_fault.Goals as goal
 

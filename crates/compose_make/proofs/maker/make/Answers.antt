@@ -1,5 +1,5 @@
 use Rattle.std.proofs.Common.{subst, arith}
-use Rattle.compose_check.proofs.FreshKeysyms.{are_fresh}
+use Rattle.compose_fresh.proofs.FreshKeysyms.{are_fresh}
 use Rattle.compose_walk.specs.Walks.{IsWalk}
 use Rattle.compose_make.proofs.Certified.{accepted, pairs_few}
 use Rattle.compose_make.proofs.maker.make.Goals as goal

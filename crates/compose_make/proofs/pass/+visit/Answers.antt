@@ -11,13 +11,13 @@ use Rattle.compose_tree.specs.declared.table.Target.TheVariants.{Node, Leaf}
 use Rattle.compose_tree.proofs.Lookups.{node_few, node_listed}
 use Rattle.compose_tree.proofs.Steps.{Leads, leads, ToNode, ToLeaf}
 use Rattle.compose_make.specs.Least.{are_keys}
-use Rattle.compose_make.specs.Wanted.{WantedCharacter, AreLeast, offered, is_through, is_behind, characters_of}
+use Rattle.compose_make.specs.Wanted.{WantedCharacter, AreLeast, offered, is_behind, characters_of}
+use Rattle.compose_make.proofs.Behind.{is_through, seen_skip, seen_node, seen_leaf, seen_all}
 use Rattle.compose_tree.specs.declared.table.NodeId.{NodeId}
 use Rattle.compose_tree.specs.declared.table.LeafId.{LeafId}
 use Rattle.std.proofs.Common.{length-append, ◌-◌}
 use Rattle.compose_make.proofs.Reduction.{with_last}
 use Rattle.compose_make.proofs.Rows.{offered_characters}
-use Rattle.compose_make.proofs.Behind.{seen_skip, seen_node, seen_leaf, seen_all}
 use Rattle.compose_make.proofs.pass.+visit.Goals.{in-Node, in-Leaf}
 use Rattle.compose_make.proofs.pass.+visit.Goals as goal
 

@@ -1,6 +1,7 @@
 use Rattle.std.proofs.Common.{length, ◌≡◌, ◌||◌, ◌-◌, ℕ, Bool, List, take}
 use Rattle.compose_model.specs.Nodes.{node, edges}
-use Rattle.compose_make.specs.Wanted.{AreLeast, is_through, characters_of}
+use Rattle.compose_make.specs.Wanted.{AreLeast, characters_of}
+use Rattle.compose_make.proofs.Behind.{is_through}
 use Rattle.compose_make.proofs.pass.+visit.Given as goal
 
 abbrev pub decreases-visit : goal.decreases-visit

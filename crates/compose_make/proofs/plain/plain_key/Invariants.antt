@@ -1,6 +1,6 @@
 use Rattle.std.proofs.Common.{◌≡◌, ◌<◌, ◌-◌, ℕ, false}
 use Rattle.keysym_core.specs.Next.{from_above}
-use Rattle.compose_make.specs.Least.{is_plain_key}
+use Rattle.compose_make.specs.Candidates.{is_plain_key}
 use Rattle.compose_make.proofs.plain.plain_key.Given as goal
 
 abbrev pub invariant-loop-keysym : goal.invariant-loop-keysym

@@ -1,10 +1,10 @@
 use Rattle.std.proofs.Common.{◌≡◌, ◌∙◌, List, length, drop, sym, ap, subst, arith}
 use Rattle.std.specs.Prelude.{IfOk}
 use Rattle.std.proofs.lemmas.List.{take_at}
-use Rattle.compose_make.specs.Found.{IsOfRows}
+use Rattle.compose_make.specs.Wanted.{IsOfRows, WantedCharacter, AreLeast, characters_of}
 use Rattle.compose_model.proofs.NodeLemmas.{node_zero}
-use Rattle.compose_make.specs.Least.{is_plain, is_candidate}
-use Rattle.compose_make.specs.Wanted.{WantedCharacter, AreLeast, characters_of}
+use Rattle.compose_make.specs.Candidates.{is_plain}
+use Rattle.compose_make.proofs.Reduction.{is_candidate}
 use Rattle.compose_make.proofs.FoundRows.{all_looked_at, answered}
 use Rattle.compose_make.proofs.typings.find_typings.Goals as goal
 

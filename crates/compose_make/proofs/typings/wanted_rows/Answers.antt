@@ -1,9 +1,9 @@
 use Rattle.std.proofs.Common.{◌∙◌, ◌∷◌, ◌++◌, [], sym, ap, subst, arith}
 use Rattle.std.specs.Option.{option_map}
 use Rattle.std.proofs.lemmas.List.{take_all, map_push}
-use Rattle.compose_make.specs.Least.{is_plain}
+use Rattle.compose_make.specs.Candidates.{is_plain}
 use Rattle.compose_make.specs.Wanted.{WantedCharacter, AreLeast, characters_of}
-use Rattle.compose_make.proofs.Behind.{taken_more}
+use Rattle.compose_walk.proofs.Edges.{taken_more}
 use Rattle.compose_make.proofs.FoundRows.{are_joined}
 use Rattle.compose_make.proofs.typings.wanted_rows.Goals as goal
 

@@ -1,5 +1,5 @@
 use Rattle.std.proofs.Common.{◌≡◌, take}
-use Rattle.compose_make.specs.Least.{is_plain}
+use Rattle.compose_make.specs.Candidates.{is_plain}
 use Rattle.compose_make.specs.Wanted.{AreLeast, characters_of}
 use Rattle.compose_make.proofs.typings.wanted_rows.Given as goal
 

@@ -1,7 +1,0 @@
-use Rattle.std.proofs.Common.{◌≡◌, ◌∷◌, drop}
-use Rattle.compose_model.specs.Certificate.{keys_rise}
-use Rattle.compose_check.proofs.fresh.are_rising.Given as goal
-
--- the keysyms that are left rise behind the last one where all of them rise
-abbrev pub invariant-loop-keysym : goal.invariant-loop-keysym
-invariant-loop-keysym l = keys_rise (l.last ∷ drop l.keysym-index l.rest) ≡ keys_rise l.keysyms

@@ -1,0 +1,4 @@
+pub mod Places
+pub mod Used
+pub mod Unmet
+pub mod FreshKeysyms

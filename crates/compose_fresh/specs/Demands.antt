@@ -1,0 +1,17 @@
+-- Demands on a certificate, each with the fault that is named where it is not met; the first that is not met gives the fault.
+use Rattle.std.specs.Prelude.{Bool, not, List, Option}
+use Rattle.std.specs.List.{find}
+use Rattle.std.specs.Option.{option_map}
+use Rattle.compose_fresh.specs.declared.fault.CheckFault.{CheckFault}
+
+-- whether it is met, and the fault where it is not
+pub record Demand : Type 0 where
+  pub met : Bool
+  pub fault : CheckFault
+
+abbrev pub demand : Bool → CheckFault → Demand
+demand met fault = record { met = met; fault = fault }
+
+-- the fault of the first demand that is not met
+abbrev pub first_unmet : List Demand → Option CheckFault
+first_unmet demands = option_map (λ (d : Demand). d.fault) (find (λ (d : Demand). not d.met) demands)

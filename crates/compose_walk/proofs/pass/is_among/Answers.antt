@@ -1,6 +1,0 @@
-use Rattle.std.proofs.Common.{◌∙◌}
-use Rattle.compose_walk.proofs.Starts.{among}
-use Rattle.compose_walk.proofs.pass.is_among.Goals as goal
-
-pub returns : goal.returns
-returns c = c.is_ok.ensures.value ∙ among c.args.keysyms.now c.args.keysym c.binary_search.result c.requires c.binary_search.ensures.position
