@@ -1,0 +1,3 @@
+pub mod Change
+pub mod Comparison
+pub mod Passes
