@@ -1,0 +1,3 @@
+pub mod Bundle
+pub mod Decoded
+pub mod Written

@@ -1,0 +1,137 @@
+//! A bundle is read from a payload.
+ghost use Rattle.std.specs.Prelude.{◌≡◌, ◌<◌, ◌≤◌, [], Some, None, length, IfOk, MatchOption, MatchResult, option_map};
+ghost use Rattle.std.specs.Int.{from_be_bytes, w16, w32};
+ghost use Rattle.compose_bundle.specs.Bundle.{IsBundle};
+ghost use Rattle.compose_bundle.specs.Decoded as words;
+ghost use Rattle.compose_bundle.specs.Decoded.{split, sized_by_2, sized_by_4, sources_at, bundle_of};
+ghost use Rattle.compose_bundle.specs.Written.{NotRead, NotDecoded};
+
+use crate::BundleFault;
+use compose_read::{SourceFault, Sources};
+use std::alloc::{AllocError, Global};
+
+/// The most sources of a bundle.
+const MOST_SOURCES: u16 = 64;
+
+/// The sources of a table, the root first, and the text of a certificate.
+#[derive(Drop)]
+pub struct Bundle<'b> {
+    pub sources: Sources,
+    pub certificate: &'b [u8],
+}
+
+/// The bundle that the payload is.
+///
+/// A payload is two bytes with the number of sources, 1 to 64; for each source two bytes with the length of its name, the name, four
+/// bytes with the length of its content, the content; four bytes with the length of the certificate, and the certificate. Nothing
+/// follows. All numbers are big-endian; the names are UTF-8 and distinct. O(bytes); the contents are copied, the certificate is lent.
+///
+/// Form where the payload is no bundle, NoMemory where a growth was refused.
+pub fn read_bundle(alloc: Global, payload: &[u8]) -> Result<Bundle<'_>, BundleFault>
+    ensures { MatchResult result (λ b. IsBundle payload.now (record { sources = b.sources; certificate = b.certificate.now })) (λ fault. NotRead fault payload.now) }
+{
+    decode(alloc, payload)
+}
+
+/// The bundle that the payload is, part by part.
+fn decode(alloc: Global, bytes: &[u8]) -> Result<Bundle<'_>, BundleFault>
+    ensures { MatchResult result (λ b. bundle_of bytes.now ≡ Some (record { sources = b.sources; certificate = b.certificate.now })) (λ fault. NotDecoded fault (bundle_of bytes.now)) }
+{
+    let Some((count, rest)) = split_count(bytes) else {
+        return Err(BundleFault::Form);
+    };
+    if count == 0 || count > MOST_SOURCES {
+        return Err(BundleFault::Form);
+    }
+    let (sources, rest) = match read_sources(alloc, count, rest) {
+        Ok(read) => read,
+        Err(fault) => return Err(fault),
+    };
+    let Some((certificate, rest)) = split_by_4(rest) else {
+        return Err(BundleFault::Form);
+    };
+    if !rest.is_empty() {
+        return Err(BundleFault::Form);
+    }
+    Ok(Bundle {
+        sources,
+        certificate,
+    })
+}
+
+/// So many sources, and the bytes after them.
+fn read_sources(alloc: Global, count: u16, bytes: &[u8]) -> Result<(Sources, &[u8]), BundleFault>
+    requires { count ≤ 64 }
+    ensures { MatchResult result (λ p. sources_at count [] bytes.now ≡ Some (p.0, p.1.now)) (λ fault. NotDecoded fault (sources_at count [] bytes.now)) }
+{
+    let mut sources = Sources::new(alloc);
+    let mut rest = bytes;
+    for index in 0..count {
+        match read_source(alloc, &mut sources, rest) {
+            Ok(left) => rest = left,
+            Err(fault) => return Err(fault),
+        }
+    }
+    Ok((sources, rest))
+}
+
+/// Adds the source that the bytes begin with, and gives the bytes after it.
+fn read_source<'b>(
+    alloc: Global,
+    sources: &mut Sources,
+    bytes: &'b [u8],
+) -> Result<&'b [u8], BundleFault>
+    requires { length sources.old < 64 }
+    ensures { MatchResult result (λ rest. words.AddsSource sources.old bytes.now sources.new rest.now) (λ fault. NotDecoded fault (words.more_source sources.old bytes.now)) }
+{
+    let Some((name, rest)) = split_by_2(bytes) else {
+        return Err(BundleFault::Form);
+    };
+    let Ok(name) = str::from_utf8(name) else {
+        return Err(BundleFault::Form);
+    };
+    let Some((content, rest)) = split_by_4(rest) else {
+        return Err(BundleFault::Form);
+    };
+    let Ok(content) = copied(alloc, content) else {
+        return Err(BundleFault::NoMemory);
+    };
+    match sources.add(name, content) {
+        Ok(()) => Ok(rest),
+        Err(SourceFault::NoMemory) => Err(BundleFault::NoMemory),
+        Err(SourceFault::NameTaken | SourceFault::TooManySources) => Err(BundleFault::Form),
+    }
+}
+
+/// A copy of these bytes, in one allocation of their size. Linear.
+fn copied(alloc: Global, bytes: &[u8]) -> Result<Vec<u8>, AllocError>
+    ensures { IfOk result (λ copy. copy.items ≡ bytes.now) }
+{
+    let mut copy = Vec::with_capacity(alloc, bytes.len())?;
+    copy.extend_from_slice(bytes).unwrap();
+    Ok(copy)
+}
+
+/// A number of two bytes, and the bytes after it.
+fn split_count(bytes: &[u8]) -> Option<(u16, &[u8])>
+    ensures { MatchOption result (split 2 bytes.now ≡ None) (λ p. (head : _) × (split 2 bytes.now ≡ Some (head, p.1.now)) × (p.0 ≡ from_be_bytes w16 head)) }
+{
+    let (head, rest) = bytes.split_at_checked(2)?;
+    Some((u16::from_be_bytes([head[0], head[1]]), rest))
+}
+
+/// So many bytes as the first two say, and the bytes after them.
+fn split_by_2(bytes: &[u8]) -> Option<(&[u8], &[u8])>
+    ensures { option_map (λ p. (p.0.now, p.1.now)) result ≡ sized_by_2 bytes.now }
+{
+    let (head, rest) = bytes.split_at_checked(2)?;
+    rest.split_at_checked(usize::from(u16::from_be_bytes([head[0], head[1]])))
+}
+
+/// So many bytes as the first four say, and the bytes after them.
+fn split_by_4(bytes: &[u8]) -> Option<(&[u8], &[u8])>
+    ensures { option_map (λ p. (p.0.now, p.1.now)) result ≡ sized_by_4 bytes.now }
+{
+    let (head, rest) = bytes.split_at_checked(4)?;
+    rest.split_at_checked(u32::from_be_bytes([head[0], head[1], head[2], head[3]]) as usize)
+}
