@@ -1,0 +1,27 @@
+-- What comes next on a stream: a request, or why there is none (this project's profile).
+use Rattle.std.specs.Prelude.{◌≡◌, ◌≢◌, ℕ, ◌<◌, Bool, true, List, [], ◌++◌, length, Option, Result, Ok, Err, IsSome}
+use Rattle.std.specs.Io.KnownBytes.{IsAtEnd}
+use Rattle.compose_wire.specs.Messages.{Fits}
+use Rattle.compose_wire.specs.Frames.{frame, fault_at, IsBegun}
+use Rattle.compose_wire.specs.Requests.{request_of}
+use Rattle.compose_wire.specs.declared.request.Request.{Request}
+use Rattle.compose_serve.specs.declared.next.Stop.{Stop}
+use Rattle.compose_serve.specs.declared.next.Stop.TheVariants.{Faulty, End, EndInFrame, ReadFailed, NoMemory}
+use Rattle.compose_serve.specs.declared.next.Pulled.{Pulled}
+use Rattle.compose_serve.specs.declared.next.Pulled.TheVariants.{More, End as AtEnd, Failure, NoRoom}
+
+-- what a pull of a piece brings: rest is what was held and what came
+abbrev pub PullsSo : Pulled → List ℕ → List ℕ → List ℕ → Option (List ℕ) → Bool → Type 0
+PullsSo More held rest held' left' failed' = (held' ≡ rest) × (length held < length held')
+PullsSo AtEnd held rest held' left' failed' = (rest ≡ held) × (held' ≡ held) × IsAtEnd left'
+PullsSo Failure held rest held' left' failed' = (rest ≡ held) × (held' ≡ held) × (failed' ≡ true)
+PullsSo NoRoom held rest held' left' failed' = rest ≢ []
+
+-- the next request, or why there is none: rest is what is not yet given out
+abbrev pub ComesSo : Result Request Stop → List ℕ → List ℕ → Option (List ℕ) → Bool → Type 0
+ComesSo (Ok q) rest held' left' failed' = Fits (request_of q) × (rest ≡ frame (request_of q) ++ held')
+ComesSo (Err Faulty) rest held' left' failed' = IsSome (fault_at rest)
+ComesSo (Err End) rest held' left' failed' = IsAtEnd left' × (rest ≡ [])
+ComesSo (Err EndInFrame) rest held' left' failed' = IsAtEnd left' × (rest ≢ []) × IsBegun rest
+ComesSo (Err ReadFailed) rest held' left' failed' = (failed' ≡ true) × IsBegun rest
+ComesSo (Err NoMemory) rest held' left' failed' = rest ≢ []

@@ -1,0 +1,88 @@
+//! A service on a stream.
+ghost use Rattle.std.specs.Prelude.{◌≡◌, ◌≢◌, List, Err};
+ghost use Rattle.compose_wire.specs.Messages as words;
+ghost use Rattle.compose_wire.specs.Replies.{SaysReply};
+ghost use Rattle.compose_wire.specs.Requests.{request_of};
+ghost use Rattle.compose_machine.specs.Machine.{ServiceState, Reading, Step};
+ghost use Rattle.compose_serve.specs.Ends.{Serves, EndsBy};
+
+use crate::ends::{Ended, ServeFault};
+use crate::next::{Stop, next_request};
+use crate::streams::{Pull, Push, push_all};
+use compose_wire::{Feeder, Reply, Request, put_reply};
+use std::alloc::Global;
+
+/// The most requests that are answered on one stream.
+const MAX_FRAMES: u32 = 16_777_216;
+
+/// What answers requests, each by one step of the service machine.
+pub trait Answer {
+    /// What the payload of a load reads as.
+    ghost reading: { Reading };
+
+    /// The state of the machine that it stands for.
+    ghost state: { Self → ServiceState };
+
+    /// Answers one request.
+    fn answer(&mut self, alloc: Global, request: &Request) -> Reply
+        ensures { (said : words.Reply) × Step reading (state self.old) (request_of request.now) said (state self.new) × SaysReply result said };
+}
+
+/// Writes what is due where no request follows: the refusal of a faulty frame.
+fn end_with<W: Push>(writer: &mut W, stop: Stop) -> Result<Ended, ServeFault>
+    ensures so { EndsBy stop result (W.written writer.old) (W.written writer.new) (W.failed writer.new) }
+    ensures mark { result ≢ Err ServeFault.Write → W.failed writer.new ≡ W.failed writer.old }
+{
+    match stop {
+        Stop::Faulty => {
+            let reply = [0xff, 0, 0, 0, 0, 0, 0, 0, 2, 0, 10];
+            match push_all(writer, &reply) {
+                Ok(()) => Ok(Ended::Malformed),
+                Err(_) => Err(ServeFault::Write),
+            }
+        }
+        Stop::End => Ok(Ended::InputEnd),
+        Stop::EndInFrame => Err(ServeFault::Cut),
+        Stop::ReadFailed => Err(ServeFault::Read),
+        Stop::NoMemory => Err(ServeFault::NoMemory),
+    }
+}
+
+/// Answers the requests of a stream, and writes each reply before it looks for the next request.
+///
+/// It reads pieces of at most 4,096 bytes and does not flush. The answered requests are the first frames of what was read, and
+/// these stand however the stream ends. InputEnd and Cut come at the reader's end, without and with a part of a frame; Malformed
+/// after the reply to a faulty frame; Read where every whole frame that was read is answered; Write where a part of the last reply
+/// is missing; TooManyFrames where a whole frame follows the 16,777,216th; NoMemory for bytes that were read.
+///
+/// It keeps the bytes of one frame and of one piece. Each request costs what its answer costs, one write and, where no whole frame
+/// is held, one read or more.
+pub fn serve<S: Answer, R: Pull, W: Push>(
+    service: &mut S,
+    alloc: Global,
+    reader: &mut R,
+    writer: &mut W,
+) -> Result<Ended, ServeFault>
+    ensures ends { Serves S.reading (S.state service.old) (S.state service.new) (R.left reader.old) (R.left reader.new) (W.written writer.old) (W.written writer.new) (R.failed reader.new) (W.failed writer.new) result }
+    ensures read_mark { result ≢ Err ServeFault.Read → R.failed reader.new ≡ R.failed reader.old }
+    ensures write_mark { result ≢ Err ServeFault.Write → W.failed writer.new ≡ W.failed writer.old }
+{
+    let mut feeder = Feeder::new(alloc);
+    'answers: for count in 0..MAX_FRAMES {
+        match next_request(&mut feeder, alloc, reader) {
+            Ok(request) => {
+                let reply = service.answer(alloc, &request);
+                let bytes = put_reply(&reply);
+                match push_all(writer, bytes.as_slice()) {
+                    Ok(()) => {}
+                    Err(_) => return Err(ServeFault::Write),
+                }
+            }
+            Err(stop) => return end_with(writer, stop),
+        }
+    }
+    match next_request(&mut feeder, alloc, reader) {
+        Ok(_) => return Err(ServeFault::TooManyFrames),
+        Err(stop) => return end_with(writer, stop),
+    }
+}
