@@ -1,0 +1,4 @@
+pub mod Kept
+pub mod Answering
+pub mod Starting
+pub mod Running

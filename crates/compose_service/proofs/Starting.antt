@@ -1,0 +1,65 @@
+-- How a service starts.
+use Rattle.std.proofs.Common.{◌≡◌, ℕ, List, [], refl, sym, ◌∙◌, ap, ap₂, subst, rules}
+use Rattle.std.specs.Result.{IsErrAnd}
+use Rattle.std.specs.Prelude.{Option, Some, None, Result, Ok, Err}
+use Rattle.keysym_core.specs.Names.{KeysymNames}
+use Rattle.compose_model.specs.Table.{Definition}
+use Rattle.compose_model.specs.Certificate.{Certificate, Repertoire}
+use Rattle.compose_read.specs.declared.settling.SettleFault.TheVariants as settle_faults
+use Rattle.compose_tree.specs.Given.{NoTable, TableGives}
+use Rattle.compose_tree.specs.declared.table.BuildFault.TheVariants as build_faults
+use Rattle.compose_tree.specs.declared.reading.TableFault.{TableFault}
+use Rattle.compose_tree.specs.declared.reading.TableFault.TheVariants as table_faults
+use Rattle.compose_cert.specs.declared.CertFault.{CertFault}
+use Rattle.compose_check.specs.Demands.{fault_of}
+use Rattle.compose_check.specs.Verdict.{verdict_of}
+use Rattle.compose_migration.specs.Given.{TableFails}
+use Rattle.compose_fresh.specs.declared.fault.CheckFault.{CheckFault}
+use Rattle.compose_check.specs.declared.verdict.Verdict.TheVariants.{Yes, No}
+use Rattle.compose_machine.specs.Machine.{ServiceState}
+use Rattle.compose_service.specs.Start.{Begun, NoStart, begun_by, started, not_valid, without_table, table_raised, StartGives}
+use Rattle.compose_service.specs.declared.service.StartFault.{StartFault}
+use Rattle.compose_service.specs.declared.service.StartFault.TheVariants as start_faults
+
+verdict_yes : (o : Option CheckFault) → Yes ≡ verdict_of o → o ≡ None
+verdict_yes None e = refl
+verdict_yes (Some f) e = cc
+
+verdict_no : (o : Option CheckFault) (f : CheckFault) → No f ≡ verdict_of o → o ≡ Some f
+verdict_no None f e = cc
+verdict_no (Some g) f e = cc
+
+-- no fault says that there is a table
+no_fault : (fault : TableFault) (table : List Definition) → TableFails fault (Ok table) → ⊥
+no_fault (table_faults.Read fault) table h = search rules
+no_fault (table_faults.Settle fault) table h = search rules
+no_fault (table_faults.Build fault) table h = search rules
+no_fault table_faults.NoMemory table h = h
+
+module _ (names : KeysymNames) (repertoire : Repertoire) where
+  fails : (fault : TableFault) (said : Result (List Definition) NoTable) (certificate : Result Certificate CertFault) → TableFails fault said → (why : NoTable) × (started names repertoire said certificate ≡ Err (without_table why)) × TableFails fault (Err why)
+  fails fault (Err why) certificate h = (why, refl, h)
+  fails fault (Ok table) certificate h = absurd (no_fault fault table h)
+
+  pub table_fault : {T : Type 0} (view : T → List Definition) (result : Result ServiceState StartFault) (fault : TableFault) (said : Result (List Definition) NoTable) (certificate : Result Certificate CertFault)
+      → IsErrAnd result (λ e. e ≡ table_raised fault) → TableGives view (Err fault) said → StartGives names repertoire result (started names repertoire said certificate)
+  table_fault view (Ok s) fault said certificate is h = absurd is
+  table_fault view (Err e) fault said certificate is h = subst (λ (x : StartFault). StartGives names repertoire (Err x) (started names repertoire said certificate)) (sym is) (go fault h)
+    where
+      go : (f : TableFault) → TableGives view (Err f) said → StartGives names repertoire (Err (table_raised f)) (started names repertoire said certificate)
+      go table_faults.NoMemory h = tt
+      go (table_faults.Read f) h = fails (table_faults.Read f) said certificate h
+      go (table_faults.Settle (settle_faults.Overlap short long)) h = fails (table_faults.Settle (settle_faults.Overlap short long)) said certificate h
+      go (table_faults.Settle settle_faults.NoMemory) h = absurd h
+      go (table_faults.Build build_faults.TooManyNodes) h = fails (table_faults.Build build_faults.TooManyNodes) said certificate h
+      go (table_faults.Build build_faults.NoMemory) h = absurd h
+
+  module _ (said : Result (List Definition) NoTable) (spelt : Result Certificate CertFault) (table : List Definition) (certificate : Certificate) (t : said ≡ Ok table) (c : spelt ≡ Ok certificate) where
+    both : started names repertoire said spelt ≡ begun_by (fault_of names table table repertoire certificate) table certificate
+    both = ap₂ (λ x y. started names repertoire x y) t c
+
+    pub starts : Yes ≡ verdict_of (fault_of names table table repertoire certificate) → started names repertoire said spelt ≡ Ok (record { table = table; certificate = certificate })
+    starts e = both ∙ ap (λ o. begun_by o table certificate) (verdict_yes (fault_of names table table repertoire certificate) e)
+
+    pub starts_not : (f : CheckFault) → No f ≡ verdict_of (fault_of names table table repertoire certificate) → started names repertoire said spelt ≡ Err (not_valid f)
+    starts_not f e = both ∙ ap (λ o. begun_by o table certificate) (verdict_no (fault_of names table table repertoire certificate) f e)

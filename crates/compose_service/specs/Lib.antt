@@ -1,0 +1,5 @@
+pub mod Rows
+pub mod Reading
+pub mod Refusals
+pub mod Answered
+pub mod Start

@@ -1,0 +1,16 @@
+//! The typing service: sessions over one current table, which may be changed while they type.
+//!
+//! A service answers requests one after another. Every answer is one step of the machine in `compose_machine`, which says what a
+//! service is: its current table, and the sessions in the order in which they were opened. What is stored differs from the machine in
+//! one thing: a load touches no session, and a session that is named is first refed by the current table.
+#![tactic(auto)]
+
+mod refusal;
+mod service;
+mod sessions;
+mod stream;
+
+pub use compose_machine::{
+    law_isolation, law_kept_texts, law_late_service, law_loads, law_run_append, law_run_history,
+};
+pub use service::{RunFault, Service, StartFault};

@@ -1,0 +1,347 @@
+//! The service: sessions over one current table.
+use crate::refusal::Refusal;
+use crate::sessions::Sessions;
+use compose_bundle::read_bundle;
+use compose_cert::{CertFault, Certificate, Repertoire};
+use compose_check::{CheckFault, Verdict, check};
+use compose_model::Rule;
+use compose_read::Sources;
+use compose_serve::{Ended, Pull, Push, ServeFault, serve};
+use compose_tree::{ComposeTable, TableFault, read_first_table};
+use compose_wire::{Answer, Body, Reply, Request};
+use keysym_core::{Keysym, Names};
+use std::alloc::Global;
+use std::marker::Model;
+use thiserror::Error;
+
+/// The most sessions that are open at once.
+const MOST_SESSIONS: usize = 4_096;
+
+/// Why no service starts.
+#[derive(Debug, PartialEq, Eq, Drop, Error)]
+pub enum StartFault {
+    /// The sources give no table.
+    #[error("1 Table: {0}")]
+    Table(TableFault),
+    /// The text is no certificate.
+    #[error("2 Certificate: {0}")]
+    Certificate(CertFault),
+    /// The certificate is not valid for the table against itself.
+    #[error("3 No: {0}")]
+    No(CheckFault),
+    /// Memory was refused in this call.
+    #[error("4 NoMemory")]
+    NoMemory,
+}
+
+impl From<TableFault> for StartFault {
+    ghost use Rattle.std.specs.Prelude.{◌≡◌};
+    ghost use Rattle.compose_service.specs.Start.{table_raised};
+
+    ghost from_gives = { λ fault e. e ≡ table_raised fault };
+
+    fn from(fault: TableFault) -> StartFault {
+        match fault {
+            TableFault::NoMemory => StartFault::NoMemory,
+            other => StartFault::Table(other),
+        }
+    }
+}
+
+impl From<CertFault> for StartFault {
+    ghost use Rattle.std.specs.Prelude.{◌≡◌};
+    ghost use Rattle.compose_service.specs.Start.{certificate_raised};
+
+    ghost from_gives = { λ fault e. e ≡ certificate_raised fault };
+
+    fn from(fault: CertFault) -> StartFault {
+        match fault {
+            CertFault::NoMemory => StartFault::NoMemory,
+            other => StartFault::Certificate(other),
+        }
+    }
+}
+
+/// Why requests are not run.
+#[derive(Clone, Copy, Debug, PartialEq, Eq, Drop, Error)]
+pub enum RunFault {
+    /// There is no room for the replies.
+    #[error("1 NoMemory")]
+    NoMemory,
+}
+
+/// Sessions over one current table, which loads change.
+///
+/// A contract sees what is stored: the table, the names, the repertoire, the count of loads, and the sessions in the order in which they
+/// were opened, each as it was last used. `seen` of it is the state of the machine: there each session is refed by the current table.
+#[derive(Drop)]
+pub struct Service<T: ComposeTable> {
+    table: T,
+    names: Names,
+    repertoire: Repertoire,
+    loads: u64,
+    sessions: Sessions,
+}
+
+impl<T: ComposeTable> Model for Service<T> {
+    ghost use Rattle.compose_machine.specs.Machine.{ServiceState};
+    ghost use Rattle.compose_machine.specs.Late.{AreKept};
+
+    ghost Value = { ServiceState };
+
+    ghost view = { λ s. record { table = T.definitions s.table; names = s.names; repertoire = s.repertoire; loads = s.loads; sessions = s.sessions } };
+
+    // the current table does not cancel on what is pending in a session, and its status is composing exactly where something is pending
+    ghost invariant = { λ s. AreKept (T.definitions s.table) s.sessions };
+}
+
+impl<T: ComposeTable> Service<T> {
+    ghost use Rattle.std.specs.Prelude.{◌≡◌, ◌≢◌, ◌<◌, ◌≤◌, List, [], ℕ, length, map, IsTrue, IfOk, OnErr, MatchResult, Err};
+    ghost use Rattle.compose_model.specs.Table.{is_prefix_free};
+    ghost use Rattle.compose_model.specs.Certificate.{IsValid};
+    ghost use Rattle.compose_wire.specs.Messages as words;
+    ghost use Rattle.compose_wire.specs.Requests.{request_of, body_of};
+    ghost use Rattle.compose_wire.specs.Replies.{SaysReply, SaysAnswer};
+    ghost use Rattle.compose_machine.specs.Machine.{ServiceState, Step, Run, one_more};
+    ghost use Rattle.compose_machine.specs.Late.{seen, swapped, LateAnswers, AreKept};
+    ghost use Rattle.compose_service.specs.Reading.{reading};
+    ghost use Rattle.compose_service.specs.Answered.{Answered, Checked, SayReplies};
+    ghost use Rattle.compose_service.specs.Start.{StartGives, started};
+    ghost use Rattle.compose_tree.specs.Given.{first_table};
+    ghost use Rattle.compose_cert.specs.Reading.{certificate_of};
+    ghost use Rattle.compose_serve.specs.Ends.{Serves};
+
+    /// A service without sessions over the table of the sources, whose root is the first one: the table is read by the rule, then the
+    /// certificate, and it is checked against itself. The first fault decides, in this order.
+    pub fn start(
+        alloc: Global,
+        names: Names,
+        repertoire: Repertoire,
+        sources: Sources,
+        rule: Rule,
+        certificate: &[u8],
+    ) -> Result<Service<T>, StartFault>
+        ensures { StartGives names repertoire result (started names repertoire (first_table names sources rule) (certificate_of certificate.now)) }
+    {
+        let table: T = read_first_table(alloc, &names, &sources, rule)?;
+        let certificate = Certificate::read(alloc, certificate)?;
+        match check(&table, &table, &names, &repertoire, &certificate) {
+            Verdict::Yes => {}
+            Verdict::No(fault) => return Err(StartFault::No(fault)),
+        }
+        Ok(Service {
+            table,
+            names,
+            repertoire,
+            loads: 0,
+            sessions: Sessions::new(alloc),
+        })
+    }
+
+    /// The current table. O(1).
+    pub fn table(&self) -> &T
+        ensures { T.definitions result.now ≡ self.now.table }
+    {
+        &self.table
+    }
+
+    /// How many loads were accepted; it stays at the greatest number once that is reached. O(1).
+    pub fn loads(&self) -> u64
+        ensures { result ≡ self.now.loads }
+    {
+        self.loads
+    }
+
+    /// How many sessions are open. O(1).
+    pub fn session_count(&self) -> usize
+        ensures { result ≡ length self.now.sessions }
+    {
+        self.sessions.count()
+    }
+
+    /// Answers one request, which is one step of the machine. A Key, a Reset, a Close and an Ask take no memory and always give their
+    /// answer; a request that is refused changes nothing.
+    ///
+    /// Open: O(1), its growth spread over the Opens. Key: one look-up of the session and what `feed` costs, beside refeeding what is
+    /// pending, O(pending keysyms × log edges of a node). Reset, Ask: O(1) beside that. Close: that, and O(sessions opened later),
+    /// since the order of opening is kept. Load: what reading, settling, building and checking cost; an accepted one touches no
+    /// session, unless its certificate has fresh keysyms, and then refeeds each.
+    pub fn answer(&mut self, alloc: Global, request: &Request) -> Reply
+        ensures stored { (said : words.Answer) × LateAnswers reading self.old (request_of request.now).session (request_of request.now).body said self.new × SaysReply result (record { session = (request_of request.now).session; answer = said }) }
+        ensures step { (said : words.Reply) × Step reading (seen self.old) (request_of request.now) said (seen self.new) × SaysReply result said }
+    {
+        // what is stored is sound, which its invariant tells
+        let _sessions = &self.sessions;
+        let answer = self.answer_body(alloc, request.session, &request.body);
+        Reply {
+            session: request.session,
+            answer,
+        }
+    }
+
+    /// Answers requests in order, each by `answer`. Room for all replies is taken first; refused then, nothing has changed.
+    pub fn run(&mut self, alloc: Global, requests: &[Request]) -> Result<Vec<Reply>, RunFault>
+        ensures ok { IfOk result (λ replies. (said : List words.Reply) × Run reading (seen self.old) (map request_of requests.now) said (seen self.new) × SayReplies replies.items said) }
+        ensures err { OnErr result (self.new ≡ self.old) }
+    {
+        let Ok(mut replies) = Vec::with_capacity(alloc, requests.len()) else {
+            return Err(RunFault::NoMemory);
+        };
+        for request in requests {
+            let reply = self.answer(alloc, request);
+            replies.push(reply).unwrap();
+        }
+        Ok(replies)
+    }
+
+    /// Answers the requests of a stream until it ends, and writes each reply before the next frame is looked at. The answered requests
+    /// stand in every case, and the service can serve again.
+    pub fn serve<R: Pull, W: Push>(
+        &mut self,
+        alloc: Global,
+        reader: &mut R,
+        writer: &mut W,
+    ) -> Result<Ended, ServeFault>
+        ensures ends { Serves reading (seen self.old) (seen self.new) (R.left reader.old) (R.left reader.new) (W.written writer.old) (W.written writer.new) (R.failed reader.new) (W.failed writer.new) result }
+        ensures read_mark { result ≢ Err ServeFault.Read → R.failed reader.new ≡ R.failed reader.old }
+        ensures write_mark { result ≢ Err ServeFault.Write → W.failed writer.new ≡ W.failed writer.old }
+    {
+        serve(self, alloc, reader, writer)
+    }
+
+    /// Answers what is asked of the session.
+    fn answer_body(&mut self, alloc: Global, number: u32, body: &Body) -> Answer
+        ensures { Answered self.old number (body_of body.now) result self.new }
+    {
+        match body {
+            Body::Open => return self.open(number),
+            Body::Key(keysym) => return self.key(number, *keysym),
+            Body::Reset => return self.reset(number),
+            Body::Close => return self.close(number),
+            Body::Load(payload) => {
+                return self.load(alloc, number, payload.as_slice(), Rule::Refuse);
+            }
+            Body::Ask => return self.ask(number),
+            Body::LoadLongest(payload) => {
+                return self.load(alloc, number, payload.as_slice(), Rule::Longest);
+            }
+        }
+    }
+
+    /// Opens the session after the others.
+    fn open(&mut self, number: u32) -> Answer
+        ensures { Answered self.old number words.open_session result self.new }
+    {
+        if self.sessions.has(number) {
+            return Answer::Refused(Refusal::SessionTaken.code());
+        }
+        if self.sessions.count() >= MOST_SESSIONS {
+            return Answer::Refused(Refusal::Full.code());
+        }
+        let Ok(()) = self.sessions.open(number) else {
+            return Answer::Refused(Refusal::NoMemory.code());
+        };
+        Answer::Opened
+    }
+
+    /// Types a key in the session.
+    fn key(&mut self, number: u32, keysym: u32) -> Answer
+        ensures { Answered self.old number (words.key keysym) result self.new }
+    {
+        if !self.sessions.refeed(number, &self.table, &self.names) {
+            return Answer::Refused(Refusal::NoSession.code());
+        }
+        let Some(keysym) = Keysym::new(keysym) else {
+            return Answer::Refused(Refusal::BadKeysym.code());
+        };
+        let Some(answer) = self.sessions.feed(number, &self.table, &self.names, keysym) else {
+            return Answer::Refused(Refusal::NoSession.code());
+        };
+        answer
+    }
+
+    /// Puts the session to rest.
+    fn reset(&mut self, number: u32) -> Answer
+        ensures { Answered self.old number words.reset result self.new }
+    {
+        if !self.sessions.refeed(number, &self.table, &self.names) {
+            return Answer::Refused(Refusal::NoSession.code());
+        }
+        self.sessions.reset(number);
+        Answer::WasReset
+    }
+
+    /// Closes the session.
+    fn close(&mut self, number: u32) -> Answer
+        ensures { Answered self.old number words.close result self.new }
+    {
+        if !self.sessions.refeed(number, &self.table, &self.names) {
+            return Answer::Refused(Refusal::NoSession.code());
+        }
+        self.sessions.close(number);
+        Answer::Closed
+    }
+
+    /// Tells where the session stands.
+    fn ask(&mut self, number: u32) -> Answer
+        ensures { Answered self.old number words.ask result self.new }
+    {
+        self.sessions.refeed(number, &self.table, &self.names);
+        let Some(answer) = self.sessions.state(number) else {
+            return Answer::Refused(Refusal::NoSession.code());
+        };
+        answer
+    }
+
+    /// Changes the current table, where the certificate is valid.
+    fn load(&mut self, alloc: Global, number: u32, payload: &[u8], rule: Rule) -> Answer
+        ensures { Answered self.old number (words.load rule payload.now) result self.new }
+    {
+        let (table, certificate) = match self.checked(alloc, payload, rule) {
+            Ok(load) => load,
+            Err(refusal) => return Answer::Refused(refusal.code()),
+        };
+        self.swap(table, &certificate)
+    }
+
+    /// The table and the certificate of a load, where the certificate is valid for the move from the current table to that one.
+    fn checked(
+        &self,
+        alloc: Global,
+        payload: &[u8],
+        rule: Rule,
+    ) -> Result<(T, Certificate), Refusal>
+        ensures { Checked self.now rule payload.now T.definitions result }
+    {
+        let bundle = read_bundle(alloc, payload)?;
+        let table: T = read_first_table(alloc, &self.names, &bundle.sources, rule)?;
+        let certificate = Certificate::read(alloc, bundle.certificate)?;
+        // every table is settled, which its count of nodes tells
+        let _nodes = table.node_count();
+        let verdict = check(
+            &self.table,
+            &table,
+            &self.names,
+            &self.repertoire,
+            &certificate,
+        );
+        let Verdict::Yes = verdict else {
+            return Err(Refusal::VerdictNo);
+        };
+        Ok((table, certificate))
+    }
+
+    /// Makes the table the current one. The sessions stay as they are, but before a table with fresh keysyms comes, all of them are
+    /// refed by the one that goes.
+    fn swap(&mut self, table: T, certificate: &Certificate) -> Answer
+        requires prefix_free { IsTrue (is_prefix_free (T.definitions table)) }
+        requires valid { IsValid self.old.names self.old.table (T.definitions table) self.old.repertoire certificate.now }
+        ensures swapped { self.new ≡ swapped self.old (T.definitions table) certificate.now.fresh }
+        ensures told { SaysAnswer result (words.loaded (one_more self.old.loads)) }
+    {
+        self.sessions.leave(certificate, &self.table, &self.names);
+        self.table = table;
+        self.loads = self.loads.saturating_add(1);
+        Answer::Loaded(self.loads)
+    }
+}

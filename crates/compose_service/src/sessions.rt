@@ -1,0 +1,159 @@
+//! The sessions of a service, by number.
+ghost use Rattle.std.specs.Prelude.{◌≡◌, ◌<◌, ◌++◌, [], ◌∷◌, ℕ, length, map, not, true, Some, None, is_some, IsNone, MatchOption, OnOk, OnErr};
+ghost use Rattle.keysym_core.specs.Keysym.{is_ignored};
+ghost use Rattle.compose_model.specs.Session.{Session, rest, loaded, fed as session_fed};
+ghost use Rattle.compose_model.specs.Step.{step};
+ghost use Rattle.compose_wire.specs.Messages as words;
+ghost use Rattle.compose_wire.specs.Replies.{SaysAnswer};
+ghost use Rattle.compose_machine.specs.Machine.{session_of, with_session, without_session, all_loaded};
+ghost use Rattle.compose_machine.specs.Late.{refed_row, rows_at_swap};
+
+use arrayvec::{ArrayString, ArrayVec};
+use compose_cert::Certificate;
+use compose_state::ComposeState;
+use compose_tree::ComposeTable;
+use compose_wire::Answer;
+use indexmap::IndexMap;
+use keysym_core::{Keysym, Names};
+use std::alloc::{AllocError, Global};
+use std::marker::Model;
+
+/// Sessions by their numbers, in the order in which they were opened.
+#[derive(Drop)]
+pub struct Sessions {
+    rows: IndexMap<u32, ComposeState>,
+}
+
+impl Model for Sessions {
+    ghost use Rattle.std.specs.Prelude.{List};
+    ghost use Rattle.compose_machine.specs.Machine.{Row};
+    ghost use Rattle.compose_service.specs.Rows.{rows_of};
+
+    ghost Value = { List Row };
+
+    ghost view = { λ s. rows_of s.rows.entries };
+}
+
+impl Sessions {
+    /// No session; takes no memory yet. O(1).
+    pub fn new(alloc: Global) -> Sessions
+        ensures { result ≡ [] }
+    {
+        Sessions {
+            rows: IndexMap::new(alloc),
+        }
+    }
+
+    /// How many sessions are open. O(1).
+    pub fn count(&self) -> usize
+        ensures { result ≡ length self.now }
+    {
+        self.rows.len()
+    }
+
+    /// Whether the session is open. O(1).
+    pub fn has(&self, number: u32) -> bool
+        ensures { result ≡ is_some (session_of self.now number) }
+    {
+        self.rows.contains_key(&number)
+    }
+
+    /// Puts a session at rest after the others. Refused where memory is, it changes nothing. O(1), the growth spread.
+    pub fn open(&mut self, number: u32) -> Result<(), AllocError>
+        requires { IsNone (session_of self.old number) }
+        ensures ok { OnOk result (self.new ≡ self.old ++ record { number = number; session = rest } ∷ []) }
+        ensures err { OnErr result (self.new ≡ self.old) }
+    {
+        self.rows.insert(number, ComposeState::new())?;
+        Ok(())
+    }
+
+    /// Refeeds the session by the table, and tells whether there is one. Takes no memory. O(pending keysyms × log edges).
+    pub fn refeed<T: ComposeTable>(&mut self, number: u32, table: &T, names: &Names) -> bool
+        ensures value { self.new ≡ map (refed_row (T.definitions table.now) number) self.old }
+        ensures some { result ≡ is_some (session_of self.new number) }
+    {
+        let Some(session) = self.rows.get_mut(&number) else {
+            return false;
+        };
+        session.refeed(table, names);
+        true
+    }
+
+    /// Feeds a key to the session, if there is one. Takes no memory. O(pending keysyms + log edges of a node).
+    pub fn feed<T: ComposeTable>(
+        &mut self,
+        number: u32,
+        table: &T,
+        names: &Names,
+        keysym: Keysym,
+    ) -> Option<Answer>
+        ensures { MatchOption result ((session_of self.old number ≡ None) × (self.new ≡ self.old)) (λ answer. (s : Session) × (session_of self.old number ≡ Some s) × (self.new ≡ with_session self.old number (session_fed (T.definitions table.now) s keysym)) × SaysAnswer answer (words.fed (session_fed (T.definitions table.now) s keysym).status (not (is_ignored keysym)) (step names.now (T.definitions table.now) s.pending keysym).text)) }
+    {
+        let Some(session) = self.rows.get_mut(&number) else {
+            return None;
+        };
+        let fed = session.feed(table, names, keysym);
+        let mut text = ArrayString::new();
+        fed.text_into(&mut text);
+        Some(Answer::Fed(fed.status, fed.accepted, text))
+    }
+
+    /// Puts the session at rest, if there is one, and tells whether there is. O(1).
+    pub fn reset(&mut self, number: u32) -> bool
+        ensures value { self.new ≡ with_session self.old number rest }
+        ensures some { result ≡ is_some (session_of self.old number) }
+    {
+        let Some(session) = self.rows.get_mut(&number) else {
+            return false;
+        };
+        session.reset();
+        true
+    }
+
+    /// Takes the session out, if there is one, and tells whether there was. O(sessions opened later).
+    pub fn close(&mut self, number: u32) -> bool
+        ensures value { self.new ≡ without_session self.old number }
+        ensures some { result ≡ is_some (session_of self.old number) }
+    {
+        let _before = self.rows.len();
+        self.rows.shift_remove(&number).is_some()
+    }
+
+    /// What is pending in the session and its status, if there is one. O(pending keysyms).
+    pub fn state(&self, number: u32) -> Option<Answer>
+        ensures { MatchOption result (session_of self.now number ≡ None) (λ answer. (s : Session) × (session_of self.now number ≡ Some s) × SaysAnswer answer (words.state s.status s.pending)) }
+    {
+        let Some(session) = self.rows.get(&number) else {
+            return None;
+        };
+        let mut pending = ArrayVec::new();
+        pending.try_extend_from_slice(session.pending()).unwrap();
+        Some(Answer::State(session.status(), pending))
+    }
+
+    /// Prepares for a table that comes with this certificate, where the given one goes: with fresh keysyms, all sessions are refed by the
+    /// one that goes, and without, they stay as they are. Takes no memory.
+    pub fn leave<T: ComposeTable>(&mut self, certificate: &Certificate, table: &T, names: &Names)
+        ensures { self.new ≡ rows_at_swap certificate.now.fresh (T.definitions table.now) self.old }
+    {
+        if certificate.fresh_count() == 0 {
+            return;
+        }
+        self.refeed_all(table, names);
+    }
+
+    /// Refeeds every session by the table. Takes no memory. O(sessions × pending keysyms × log edges).
+    pub fn refeed_all<T: ComposeTable>(&mut self, table: &T, names: &Names)
+        ensures { self.new ≡ all_loaded (T.definitions table.now) self.old }
+    {
+        self.rows.retain(
+            |_number: &u32, each: &mut ComposeState| -> bool
+                ensures { (result ≡ true) × (each.new ≡ loaded (T.definitions table.entry.now) each.old) }
+            {
+                each.refeed(table, names);
+                true
+            },
+        );
+    }
+}
