@@ -2,5 +2,6 @@ mod Examples
 pub mod Tabs
 pub mod OneLine
 pub mod OneKey
-pub mod WordKeys
 pub mod Moves
+pub mod Rising
+pub mod Steps

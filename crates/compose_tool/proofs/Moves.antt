@@ -1,76 +1,64 @@
--- Why sources give no table, and what the fresh keysyms say.
-use Rattle.std.proofs.Common.{◌≡◌, ◌<◌, ◌≤◌, ℕ, List, cond, length, refl, ◌∙◌, ap}
+-- Why a part is refused, and what the fresh keysyms say.
+use Rattle.std.proofs.Common.{◌≡◌, ◌<◌, ◌≤◌, ℕ, List, cond, length, refl, sym, ◌∙◌, ap, subst}
 use Rattle.std.specs.Prelude.{Some, None, Result, Ok, Err, nat_lt}
 use Rattle.std.specs.Option.{option_map_or}
 use Rattle.std.proofs.lemmas.Bool.{le-ltb}
 use Rattle.compose_model.specs.Table.{Definition}
-use Rattle.compose_read.specs.declared.ReadFault.{ReadFault}
-use Rattle.compose_read.specs.declared.ReadFault.TheVariants as read_faults
-use Rattle.compose_read.specs.declared.settling.SettleFault.TheVariants as settle_faults
-use Rattle.compose_tree.specs.Given.{NoTable, ReadSaid, TableGives}
-use Rattle.compose_tree.specs.declared.reading.TableFault.{TableFault}
-use Rattle.compose_tree.specs.declared.reading.TableFault.TheVariants as table_faults
-use Rattle.compose_tree.specs.declared.table.BuildFault.TheVariants as build_faults
-use Rattle.compose_check.specs.Demands.{first_unmet, fresh_demands}
-use Rattle.compose_check.specs.Gives.{TableFails}
-use Rattle.compose_check.specs.declared.fault.CheckFault.{CheckFault}
+use Rattle.compose_migration.specs.Migration.{NoMigration, or_because}
+use Rattle.compose_migration.specs.Given.{MigrationRefused}
+use Rattle.compose_migration.specs.declared.fault.MigrationFault.{MigrationFault}
+use Rattle.compose_migration.specs.declared.fault.MigrationFault.TheVariants as migration_faults
+use Rattle.keysym_core.specs.declared.fault.NameFault.TheVariants as name_faults
+use Rattle.compose_cert.specs.declared.CertFault.TheVariants as cert_faults
+use Rattle.compose_cert.specs.declared.RepertoireFault.TheVariants as repertoire_faults
+use Rattle.compose_fresh.specs.Fresh.{fresh_demands}
+use Rattle.compose_fresh.specs.Demands.{first_unmet}
+use Rattle.compose_check.specs.Input.{Parts, Unread, no_migration}
+use Rattle.compose_check.specs.Gives.{InputRefused}
+use Rattle.compose_fresh.specs.declared.fault.CheckFault.{CheckFault}
+use Rattle.compose_check.specs.declared.input.InputFault.{InputFault}
+use Rattle.compose_check.specs.declared.input.InputFault.TheVariants as input_faults
 use Rattle.compose_walk.specs.declared.fault.MakeFault.{MakeFault}
 use Rattle.compose_walk.specs.declared.fault.MakeFault.TheVariants.{BadFresh, TooManyFresh}
 use Rattle.compose_make.proofs.Certified as certified
-use Rattle.compose_tool.specs.Migration.{no_old, no_new, no_fresh, or_because, accepted}
-use Rattle.compose_tool.specs.Moved.{MigrationRefused, old_raised, new_raised}
-use Rattle.compose_tool.specs.declared.tables.MigrationFault.TheVariants as faults
+use Rattle.compose_tool.specs.Parts.{NoAnswer, unread, no_fresh, accepted}
+use Rattle.compose_tool.specs.Refused.{IsRefused, migration_raised, input_raised}
+use Rattle.compose_tool.specs.declared.refusal.Refusal.{Refusal}
 
--- ---- a table that is not there
+-- ---- a fault of a layer below is the refusal that is said
 
-read_at_all : (fault : ReadFault) (table : List Definition) → ReadSaid fault (Ok table) → ⊥
-read_at_all read_faults.MissingRoot table h = cc
-read_at_all (read_faults.NotUtf8 s l) table h = cc
-read_at_all (read_faults.Lex s l f) table h = cc
-read_at_all (read_faults.UnknownKeysym s l i) table h = cc
-read_at_all (read_faults.IgnoredKeysym s l i) table h = cc
-read_at_all (read_faults.MissingInclude s l) table h = cc
-read_at_all (read_faults.IncludeDepth s l) table h = cc
-read_at_all (read_faults.TooManyLines s l) table h = cc
-read_at_all (read_faults.TooManyDefinitions s l) table h = cc
-read_at_all read_faults.NoMemory table h = h
+module _ {P : Type 0} where
+  abbrev pub unmoved : Result P NoMigration → Result P NoAnswer
+  unmoved said = or_because (λ why. unread (no_migration why)) said
 
--- a fault is of no table that is read
-is_read : (fault : TableFault) (table : List Definition) → TableFails fault (Ok table) → ⊥
-is_read (table_faults.Read fault) table h = read_at_all fault table h
-is_read (table_faults.Settle (settle_faults.Overlap s l)) table h = cc
-is_read (table_faults.Settle settle_faults.NoMemory) table h = h
-is_read (table_faults.Build build_faults.TooManyNodes) table h = cc
-is_read (table_faults.Build build_faults.NoMemory) table h = h
-is_read table_faults.NoMemory table h = h
+  pub migration_refused : (fault : MigrationFault) (said : Result P NoMigration) → MigrationRefused fault said → IsRefused (migration_raised fault) (unmoved said)
+  migration_refused (migration_faults.Names name_faults.NoMemory) said h = absurd h
+  migration_refused (migration_faults.Names (name_faults.NotUtf8 n)) said h = ap unmoved h
+  migration_refused (migration_faults.Names (name_faults.BadLine n)) said h = ap unmoved h
+  migration_refused (migration_faults.Names (name_faults.ValueTooLarge n)) said h = ap unmoved h
+  migration_refused (migration_faults.Names (name_faults.NameConflict n)) said h = ap unmoved h
+  migration_refused (migration_faults.Names name_faults.TooManyNames) said h = ap unmoved h
+  migration_refused (migration_faults.Key index) said h = ap unmoved h
+  migration_refused (migration_faults.Table side fault) said h = (h.0, ap unmoved h.1, h.2)
+  migration_refused migration_faults.NoMemory said h = tt
 
--- why there is none, and that the fault says so
-no_table : (fault : TableFault) (said : Result (List Definition) NoTable) → TableFails fault said → (why : NoTable) × (said ≡ Err why) × TableFails fault (Err why)
-no_table fault (Ok table) h = absurd (is_read fault table h)
-no_table fault (Err why) h = (why, refl, h)
-
-module _ {T : Type 0} (view : T → List Definition) (said : Result (List Definition) NoTable) where
-  old_refused_by : (fault : TableFault) → TableFails fault said → MigrationRefused (faults.Old fault) (or_because no_old said)
-  old_refused_by fault h = let none = no_table fault said h in (none.0, ap (or_because no_old) none.1, none.2)
-
-  new_refused_by : (fault : TableFault) → TableFails fault said → MigrationRefused (faults.New fault) (or_because no_new said)
-  new_refused_by fault h = let none = no_table fault said h in (none.0, ap (or_because no_new) none.1, none.2)
-
-  pub old_refused : (fault : TableFault) → TableGives view (Err fault) said → MigrationRefused (old_raised fault) (or_because no_old said)
-  old_refused (table_faults.Read fault) h = old_refused_by (table_faults.Read fault) h
-  old_refused (table_faults.Settle (settle_faults.Overlap s l)) h = old_refused_by (table_faults.Settle (settle_faults.Overlap s l)) h
-  old_refused (table_faults.Settle settle_faults.NoMemory) h = absurd h
-  old_refused (table_faults.Build build_faults.TooManyNodes) h = old_refused_by (table_faults.Build build_faults.TooManyNodes) h
-  old_refused (table_faults.Build build_faults.NoMemory) h = absurd h
-  old_refused table_faults.NoMemory h = tt
-
-  pub new_refused : (fault : TableFault) → TableGives view (Err fault) said → MigrationRefused (new_raised fault) (or_because no_new said)
-  new_refused (table_faults.Read fault) h = new_refused_by (table_faults.Read fault) h
-  new_refused (table_faults.Settle (settle_faults.Overlap s l)) h = new_refused_by (table_faults.Settle (settle_faults.Overlap s l)) h
-  new_refused (table_faults.Settle settle_faults.NoMemory) h = absurd h
-  new_refused (table_faults.Build build_faults.TooManyNodes) h = new_refused_by (table_faults.Build build_faults.TooManyNodes) h
-  new_refused (table_faults.Build build_faults.NoMemory) h = absurd h
-  new_refused table_faults.NoMemory h = tt
+  pub input_refused : (fault : InputFault) (said : Result P Unread) → InputRefused fault said → IsRefused (input_raised fault) (or_because unread said)
+  input_refused (input_faults.Names name_faults.NoMemory) said h = absurd h
+  input_refused (input_faults.Names (name_faults.NotUtf8 n)) said h = ap (or_because unread) h
+  input_refused (input_faults.Names (name_faults.BadLine n)) said h = ap (or_because unread) h
+  input_refused (input_faults.Names (name_faults.ValueTooLarge n)) said h = ap (or_because unread) h
+  input_refused (input_faults.Names (name_faults.NameConflict n)) said h = ap (or_because unread) h
+  input_refused (input_faults.Names name_faults.TooManyNames) said h = ap (or_because unread) h
+  input_refused (input_faults.Old fault) said h = (h.0, ap (or_because unread) h.1, h.2)
+  input_refused (input_faults.New fault) said h = (h.0, ap (or_because unread) h.1, h.2)
+  input_refused (input_faults.Repertoire (repertoire_faults.BadLine n)) said h = ap (or_because unread) h
+  input_refused (input_faults.Repertoire (repertoire_faults.NotRising n)) said h = ap (or_because unread) h
+  input_refused (input_faults.Repertoire repertoire_faults.TooMany) said h = ap (or_because unread) h
+  input_refused (input_faults.Repertoire repertoire_faults.NoMemory) said h = absurd h
+  input_refused (input_faults.Certificate (cert_faults.NotText n)) said h = ap (or_because unread) h
+  input_refused (input_faults.Certificate cert_faults.TooLarge) said h = ap (or_because unread) h
+  input_refused (input_faults.Certificate cert_faults.NoMemory) said h = absurd h
+  input_refused input_faults.NoMemory said h = tt
 
 -- ---- the fresh keysyms
 

@@ -3,7 +3,7 @@ use Rattle.std.proofs.Common.{◌≡◌, ◌≢◌, ℕ, ◌<◌, zero, suc, Lis
 use Rattle.std.specs.Prelude.{◌==◌, ◌&&◌}
 use Rattle.std.specs.List.{list_all}
 use Rattle.std.proofs.lemmas.Bool.{eqb-true}
-use Rattle.compose_lex.specs.Fault.{front, behind}
+use Rattle.compose_text.specs.Bytes.{front, behind}
 use Rattle.compose_tool.specs.Manifest.{Entry, is_no_tab, are_parts, entry_of, entry_of_parts}
 
 other_byte : (b : ℕ) → b ≢ 9 → is_no_tab b ≡ true

@@ -1,6 +1,7 @@
 pub mod Manifest
 pub mod Given
 pub mod Typed
-pub mod Keys
-pub mod Migration
-pub mod Moved
+pub mod Parts
+pub mod Ends
+pub mod Refused
+pub mod Answers

@@ -1,17 +1,22 @@
-//! What the commands of `composecheck` do over values: manifests, keysyms of words, the lines that are typed, and what is said of a
-//! move from an old table to a new one.
+//! What the commands of `composecheck` do over values: manifests, and for each command the answer on the bytes that it is given.
+//!
+//! A command is a function from its input to `Result<Answer, Refusal>`: what is printed on standard output, or why there is no answer.
+//! [`Ended::of`] says how it ends.
 #![tactic(auto)]
 
-mod keys;
+mod answer;
+mod checking;
+mod explaining;
+mod making;
 mod manifest;
-mod migration;
-mod tables;
+mod parts;
+mod refusal;
 mod typing;
 
-pub use keys::{KeyFault, fresh_keysyms, look_up_keys};
-pub use manifest::{Manifest, ManifestFault, read_manifest};
-pub use migration::{
-    Explained, MadeText, explain_all_migration, explain_migration, make_migration,
-};
-pub use tables::{MigrationFault, TableInput};
-pub use typing::{TypeFault, type_lines};
+pub use answer::{Answer, Ended};
+pub use checking::check_migration;
+pub use explaining::{explain_all_migration, explain_migration};
+pub use making::make_migration;
+pub use manifest::{Entry, Manifest, ManifestFault, read_manifest};
+pub use refusal::Refusal;
+pub use typing::{TypeFault, type_keys, type_lines};

@@ -8,7 +8,7 @@ ghost use Rattle.compose_tool.specs.Manifest.{listing_of, with_rule, with_text};
 ghost use Rattle.compose_tool.specs.Given.{ManifestGives, LineGives, SaidGives, entry};
 
 use compose_model::Rule;
-use keysym_core::first_line;
+use compose_text::first_line;
 use std::alloc::{AllocError, AllocFailed, Global};
 use std::marker::Model;
 use thiserror::Error;
@@ -49,9 +49,9 @@ impl<T: Drop> From<AllocFailed<T>> for ManifestFault {
 
 /// A source's name and the path of its file.
 #[derive(Drop)]
-struct Entry {
-    name: String,
-    path: String,
+pub struct Entry {
+    pub name: String,
+    pub path: String,
 }
 
 impl Model for Entry {
@@ -84,6 +84,13 @@ impl Manifest {
         ensures { result ≡ length self.now.entries }
     {
         self.entries.len()
+    }
+
+    /// The entries in order, the root first. O(1).
+    pub fn entries(&self) -> &[Entry]
+        ensures { result.now ≡ self.now.entries }
+    {
+        &self.entries
     }
 
     /// The name of the source at this place. O(1).

@@ -1,13 +1,21 @@
 //! Typing keys with a table, line by line.
-ghost use Rattle.std.specs.Prelude.{◌≡◌, ◌++◌, List, Ok, OnOk, IfOk, string_bytes};
+ghost use Rattle.std.specs.Prelude.{◌≡◌, ◌++◌, List, map, Ok, OnOk, IfOk, string_bytes};
 ghost use Rattle.compose_model.specs.Table.{Definition};
 ghost use Rattle.compose_read.specs.Read.{definitions_of};
 ghost use Rattle.compose_tree.specs.Given.{table_of};
 ghost use Rattle.compose_tool.specs.Given.{TypeGives};
+ghost use Rattle.compose_migration.specs.Given.{table_given};
 ghost use Rattle.compose_tool.specs.Typed.{typed_lines, fed_line};
+ghost use Rattle.compose_tool.specs.Parts.{type_parts};
+ghost use Rattle.compose_tool.specs.Refused.{Gives};
+ghost use Rattle.compose_tool.specs.Answers.{IsTyped};
 
+use crate::answer::Answer;
+use crate::parts::{read_named, read_only_table};
+use crate::refusal::Refusal;
 use arrayvec::ArrayString;
 use compose_lex::{LexFault, quote};
+use compose_migration::TableInput;
 use compose_model::Rule;
 use compose_read::{Sources, law_settle};
 use compose_state::{ComposeState, Fed};
@@ -59,6 +67,22 @@ pub fn type_lines<T: ComposeTable>(
         Err(TableFault::NoMemory) => Err(TypeFault::NoMemory),
         Err(fault) => Err(TypeFault::Table(fault)),
     }
+}
+
+/// Types the words with a table, from rest: a line for each key, as `type_lines` gives it. The parts are read in the order names, words,
+/// table, and the first that is refused decides.
+pub fn type_keys<T: ComposeTable>(
+    alloc: Global,
+    header: &[u8],
+    words: &[&str],
+    table: &TableInput<'_>,
+) -> Result<Answer, Refusal>
+    ensures { Gives IsTyped result (type_parts header.now (map (λ word. word.now) words.now) (table_given table.entry.now)) }
+{
+    let named = read_named(alloc, header, words)?;
+    let table: T = read_only_table(alloc, &named.names, table)?;
+    let lines = lines_of_keys(alloc, &named.names, &table, &named.keys)?;
+    Ok(Answer::Yes(lines))
 }
 
 /// A line for each key: the word for what happens, a blank and the committed text in quotes. O(keys × log edges).

@@ -1,6 +1,6 @@
 use Rattle.std.proofs.Common.{◌+◌, sym, ◌∙◌, ap, arith}
 use Rattle.std.specs.Prelude.{Ok}
-use Rattle.keysym_core.specs.Lines.{lines_of}
+use Rattle.compose_text.specs.Lines.{lines_of}
 use Rattle.compose_tool.specs.Manifest.{lines_on}
 use Rattle.compose_tool.proofs.OneLine.{line_said, line_stops}
 use Rattle.compose_tool.proofs.manifest.read_manifest.Goals as goal

@@ -1,6 +1,6 @@
 use Rattle.std.proofs.Common.{◌≡◌, ◌≤◌, ◌+◌, length}
 use Rattle.std.specs.Prelude.{Ok, None, []}
-use Rattle.keysym_core.specs.Lines.{lines_of}
+use Rattle.compose_text.specs.Lines.{lines_of}
 use Rattle.compose_tool.specs.Manifest.{Listing, lines_on}
 use Rattle.compose_tool.proofs.manifest.read_manifest.Given as goal
 

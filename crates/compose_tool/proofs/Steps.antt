@@ -1,0 +1,94 @@
+-- The parts of a command, read one after another.
+use Rattle.std.proofs.Common.{◌≡◌, ℕ, List, sym, ◌∙◌, ap, subst, nat_cmp}
+use Rattle.std.specs.Prelude.{Result, Ok, Err}
+use Rattle.std.specs.Result.{IsErrAnd}
+use Rattle.compose_model.specs.Table.{Definition}
+use Rattle.compose_model.specs.Nodes.{rising}
+use Rattle.compose_model.specs.Certificate.{Repertoire}
+use Rattle.compose_tree.specs.Given.{first_table}
+use Rattle.compose_cert.specs.Repertoire.{repertoire_of}
+use Rattle.compose_migration.specs.Migration.{GivenMigration, NamedParts, TableSources, Parts, ◌>>=◌, or_because}
+use Rattle.compose_check.specs.Input.{no_repertoire}
+use Rattle.compose_tool.specs.Parts.{NoAnswer, TypedParts, Explainable, Needs, unread, no_only_table, given_words, type_parts, migration_parts, explainable, explain_parts, makeable, make_parts}
+use Rattle.compose_tool.specs.Refused.{IsRefused, Gives}
+use Rattle.compose_tool.specs.declared.refusal.Refusal.{Refusal}
+use Rattle.compose_tool.specs.declared.refusal.Refusal.TheVariants as refusals
+
+-- this is read
+abbrev pub IsRead : {A : Type 0} → Result A NoAnswer → A → Type 0
+IsRead {A} said x = (a : A) × (said ≡ Ok a) × (a ≡ x)
+
+is_read : {A : Type 0} (said : Result A NoAnswer) (x : A) → IsRead said x → said ≡ Ok x
+is_read said x h = h.1 ∙ ap (λ a. Ok a) h.2
+
+-- a refusal of one step is the refusal of the whole
+step_refused : {A B : Type 0} (refusal : Refusal) (r : Result A NoAnswer) (f : A → Result B NoAnswer) → IsRefused refusal r → IsRefused refusal (r >>= f)
+step_refused (refusals.Names fault) r f h = ap (λ r. r >>= f) h
+step_refused (refusals.Key index) r f h = ap (λ r. r >>= f) h
+step_refused (refusals.Table fault) r f h = (h.0, ap (λ r. r >>= f) h.1, h.2)
+step_refused (refusals.Side side fault) r f h = (h.0, ap (λ r. r >>= f) h.1, h.2)
+step_refused (refusals.Repertoire fault) r f h = ap (λ r. r >>= f) h
+step_refused (refusals.Certificate fault) r f h = ap (λ r. r >>= f) h
+step_refused (refusals.Fresh fault) r f h = ap (λ r. r >>= f) h
+step_refused refusals.TooManyFresh r f h = ap (λ r. r >>= f) h
+step_refused refusals.NoMemory r f h = tt
+
+-- an answer that is this refusal gives what the refusal gives
+pub refusal_gives : {P A : Type 0} (answers : P → A → Type 0) (r : Result A Refusal) (refusal : Refusal) (said : Result P NoAnswer) → IsErrAnd r (λ e. e ≡ refusal) → IsRefused refusal said → Gives answers r said
+refusal_gives answers (Ok x) refusal said h g = absurd h
+refusal_gives answers (Err e) refusal said h g = subst (λ (x : Refusal). IsRefused x said) (sym h) g
+
+-- ---- type
+
+module _ (header : List ℕ) (words : List (List ℕ)) (given : TableSources) where
+  abbrev with_table : NamedParts → List Definition → Result TypedParts NoAnswer
+  with_table n table = Ok (record { names = n.names; keys = n.keys; table = table })
+
+  abbrev with_named : NamedParts → Result TypedParts NoAnswer
+  with_named n = or_because no_only_table (first_table n.names given.sources given.rule) >>= with_table n
+
+  pub named_refused : (refusal : Refusal) → IsRefused refusal (given_words header words) → IsRefused refusal (type_parts header words given)
+  named_refused refusal h = step_refused refusal (given_words header words) with_named h
+
+  module _ (n : NamedParts) (n_read : IsRead (given_words header words) n) where
+    after_named : type_parts header words given ≡ (or_because no_only_table (first_table n.names given.sources given.rule) >>= with_table n)
+    after_named = ap (λ r. r >>= with_named) (is_read (given_words header words) n n_read)
+
+    pub table_refused : (refusal : Refusal) → IsRefused refusal (or_because no_only_table (first_table n.names given.sources given.rule)) → IsRefused refusal (type_parts header words given)
+    table_refused refusal h = subst (λ (s : Result TypedParts NoAnswer). IsRefused refusal s) (sym after_named) (step_refused refusal (or_because no_only_table (first_table n.names given.sources given.rule)) (with_table n) h)
+
+    pub typed_read : (table : List Definition) → IsRead (or_because no_only_table (first_table n.names given.sources given.rule)) table → type_parts header words given ≡ Ok (record { names = n.names; keys = n.keys; table = table })
+    typed_read table table_read = after_named ∙ ap (λ r. r >>= with_table n) (is_read (or_because no_only_table (first_table n.names given.sources given.rule)) table table_read)
+
+-- ---- explain and make
+
+module _ (given : GivenMigration) where
+  abbrev with_fresh : Parts → Result Explainable NoAnswer
+  with_fresh move = explainable move (rising nat_cmp move.keys)
+
+  pub explain_refused : (refusal : Refusal) → IsRefused refusal (migration_parts given) → IsRefused refusal (explain_parts given)
+  explain_refused refusal h = step_refused refusal (migration_parts given) with_fresh h
+
+  module _ (bytes : List ℕ) where
+    abbrev with_repertoire : Parts → Repertoire → Result Needs NoAnswer
+    with_repertoire move r = makeable move r (rising nat_cmp move.keys)
+
+    abbrev with_move : Parts → Result Needs NoAnswer
+    with_move move = or_because (λ why. unread (no_repertoire why)) (repertoire_of bytes) >>= with_repertoire move
+
+    pub make_refused : (refusal : Refusal) → IsRefused refusal (migration_parts given) → IsRefused refusal (make_parts given bytes)
+    make_refused refusal h = step_refused refusal (migration_parts given) with_move h
+
+  module _ (move : Parts) (move_read : IsRead (migration_parts given) move) where
+    pub explain_read : (fresh : List ℕ) → fresh ≡ rising nat_cmp move.keys → explain_parts given ≡ explainable move fresh
+    explain_read fresh is = ap (λ r. r >>= with_fresh) (is_read (migration_parts given) move move_read) ∙ ap (explainable move) (sym is)
+
+    module _ (bytes : List ℕ) where
+      after_move : make_parts given bytes ≡ (or_because (λ why. unread (no_repertoire why)) (repertoire_of bytes) >>= with_repertoire bytes move)
+      after_move = ap (λ r. r >>= with_move bytes) (is_read (migration_parts given) move move_read)
+
+      pub repertoire_refused : (refusal : Refusal) → IsRefused refusal (or_because (λ why. unread (no_repertoire why)) (repertoire_of bytes)) → IsRefused refusal (make_parts given bytes)
+      repertoire_refused refusal h = subst (λ (s : Result Needs NoAnswer). IsRefused refusal s) (sym after_move) (step_refused refusal (or_because (λ why. unread (no_repertoire why)) (repertoire_of bytes)) (with_repertoire bytes move) h)
+
+      pub make_read : (r : Repertoire) → IsRead (or_because (λ why. unread (no_repertoire why)) (repertoire_of bytes)) r → (fresh : List ℕ) → fresh ≡ rising nat_cmp move.keys → make_parts given bytes ≡ makeable move r fresh
+      make_read r r_read fresh is = after_move ∙ ap (λ x. x >>= with_repertoire bytes move) (is_read (or_because (λ why. unread (no_repertoire why)) (repertoire_of bytes)) r r_read) ∙ ap (makeable move r) (sym is)

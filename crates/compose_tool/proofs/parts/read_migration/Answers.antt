@@ -1,0 +1,12 @@
+use Rattle.std.proofs.Common.{sym, subst}
+use Rattle.compose_migration.specs.Migration.{migration_of}
+use Rattle.compose_migration.specs.Given.{given_of}
+use Rattle.compose_tool.specs.Refused.{IsRefused}
+use Rattle.compose_tool.specs.declared.refusal.Refusal.{Refusal}
+use Rattle.compose_tool.proofs.Moves.{migration_refused, unmoved}
+use Rattle.compose_tool.proofs.parts.read_migration.Goals as goal
+
+pub returns-in-Err : goal.returns-in-Err
+returns-in-Err g c =
+    let said = migration_of (given_of c.args.input.now) in
+    subst (λ (r : Refusal). IsRefused r (unmoved said)) (sym c.from.ensures) (migration_refused c.in-Err.fault said c.in-Err.ensures)

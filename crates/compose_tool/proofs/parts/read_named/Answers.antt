@@ -1,0 +1,11 @@
+use Rattle.std.proofs.Common.{sym, subst, map}
+use Rattle.compose_migration.specs.Migration.{named}
+use Rattle.compose_tool.specs.Refused.{IsRefused}
+use Rattle.compose_tool.specs.declared.refusal.Refusal.{Refusal}
+use Rattle.compose_tool.proofs.Moves.{migration_refused, unmoved}
+use Rattle.compose_tool.proofs.parts.read_named.Goals as goal
+
+pub returns-in-Err : goal.returns-in-Err
+returns-in-Err c =
+    let said = named c.args.header.now (map (λ word. word.now) c.args.words.now) in
+    subst (λ (r : Refusal). IsRefused r (unmoved said)) (sym c.from.ensures) (migration_refused c.in-Err.fault said c.in-Err.ensures)

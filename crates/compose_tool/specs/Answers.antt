@@ -1,0 +1,89 @@
+-- What each command answers on its parts.
+use Rattle.std.specs.Prelude.{◌≡◌, ◌≢◌, ◌⊎◌, ℕ, List, [], ◌∷◌, ◌++◌, string_bytes, codes, true}
+use Rattle.std.specs.Fmt.{digits}
+use Rattle.keysym_core.specs.Names.{KeysymNames}
+use Rattle.keysym_core.specs.Printed.{at_least_four}
+use Rattle.compose_model.specs.Table.{Definition}
+use Rattle.compose_model.specs.Follows as model
+use Rattle.compose_model.specs.Certificate as certificates
+use Rattle.compose_cert.specs.Spelling.{Spells}
+use Rattle.compose_check.specs.Input as checks
+use Rattle.compose_check.specs.Input.{verdict_on}
+use Rattle.compose_check.specs.declared.verdict.Verdict.TheVariants as verdicts
+use Rattle.compose_walk.specs.Evidence.{Evidence, IsLeast, AreDifferences}
+use Rattle.compose_walk.specs.Explained.{explained, all_explained}
+use Rattle.compose_make.specs.Least.{IsUnreachable}
+use Rattle.compose_make.specs.Made.{IsMadeFor}
+use Rattle.compose_tool.specs.Parts.{TypedParts, Explainable, Needs}
+use Rattle.compose_tool.specs.Typed.{typed_lines}
+use Rattle.compose_tool.specs.declared.answer.Answer.{Answer}
+use Rattle.compose_tool.specs.declared.answer.Answer.TheVariants.{Yes, No, Invalid}
+
+-- the text is these words and a newline
+abbrev pub one_line : List ℕ → List ℕ
+one_line words = words ++ 10 ∷ []
+
+-- ---- type
+
+-- a line for each key
+abbrev pub IsTyped : TypedParts → Answer → Type 0
+IsTyped p (Yes text) = string_bytes text ≡ typed_lines p.names p.table p.keys
+IsTyped p (No text) = ⊥
+IsTyped p (Invalid fault) = ⊥
+
+-- ---- check
+
+-- the verdict on the certificate: `yes`, or the first demand that it does not meet
+abbrev pub IsChecked : checks.Parts → Answer → Type 0
+IsChecked p (Yes text) = (verdict_on p ≡ verdicts.Yes) × (string_bytes text ≡ one_line (codes "yes"))
+IsChecked p (No text) = ⊥
+IsChecked p (Invalid fault) = verdict_on p ≡ verdicts.No fault
+
+-- ---- explain
+
+-- the new table does not follow, and the bytes are the four lines of the least of the shortest counterexamples
+pub record TellsLeast (names : KeysymNames) (fresh : List ℕ) (old new : List Definition) (bytes : List ℕ) : Type 0 where
+  pub differs : model.Follows names fresh old new → ⊥
+  pub evidence : Evidence
+  pub least : IsLeast names fresh old new evidence
+  pub is : bytes ≡ explained names evidence
+
+-- `follows`, or the four lines
+abbrev pub IsExplained : Explainable → Answer → Type 0
+IsExplained e (Yes text) = model.Follows e.move.names e.fresh e.move.old e.move.new × (string_bytes text ≡ one_line (codes "follows"))
+IsExplained e (No text) = TellsLeast e.move.names e.fresh e.move.old e.move.new (string_bytes text)
+IsExplained e (Invalid fault) = ⊥
+
+-- the tables differ, and the bytes tell all their differences and count them
+pub record TellsAll (names : KeysymNames) (fresh : List ℕ) (old new : List Definition) (bytes : List ℕ) : Type 0 where
+  pub differences : List Evidence
+  pub are : AreDifferences names fresh old new differences
+  pub some : differences ≢ []
+  pub is : bytes ≡ all_explained names differences
+
+-- `follows`, where there are no differences; or all of them
+abbrev pub IsAllExplained : Explainable → Answer → Type 0
+IsAllExplained e (Yes text) = AreDifferences e.move.names e.fresh e.move.old e.move.new [] × (string_bytes text ≡ one_line (codes "follows"))
+IsAllExplained e (No text) = TellsAll e.move.names e.fresh e.move.old e.move.new (string_bytes text)
+IsAllExplained e (Invalid fault) = ⊥
+
+-- ---- make
+
+-- the bytes are the text of a certificate that is to be made
+pub record SpellsMade (needs : Needs) (bytes : List ℕ) : Type 0 where
+  pub certificate : certificates.Certificate
+  pub made : IsMadeFor needs.move.names needs.fresh needs.move.old needs.move.new needs.repertoire certificate
+  pub spells : Spells bytes certificate
+
+-- the new table follows, no list of keys types the character, the least such one, and the bytes say so
+pub record TellsUnreachable (needs : Needs) (bytes : List ℕ) : Type 0 where
+  pub follows : model.Follows needs.move.names needs.fresh needs.move.old needs.move.new
+  pub character : ℕ
+  pub unreachable : IsUnreachable needs.move.names needs.move.new needs.repertoire character
+  pub is : bytes ≡ one_line (codes "unreachable U+" ++ at_least_four (digits 16 true character))
+
+-- a certificate's text; else the least counterexample's, where the new table does not follow; else the first character that has no typing
+abbrev pub IsMadeText : Needs → Answer → Type 0
+IsMadeText needs (Yes text) = SpellsMade needs (string_bytes text)
+IsMadeText needs (No text) = TellsLeast needs.move.names needs.fresh needs.move.old needs.move.new (string_bytes text) ⊎ TellsUnreachable needs (string_bytes text)
+IsMadeText needs (Invalid fault) = ⊥

@@ -1,0 +1,80 @@
+-- What each command is given, and what it says: the parts are read in one order, and the first that is refused decides.
+use Rattle.std.specs.Prelude.{ℕ, nat_lt, if◌then◌else◌, List, length, Option, Some, None, Result, Ok, Err}
+use Rattle.std.specs.Option.{option_map_or}
+use Rattle.std.specs.Ordering.{nat_cmp}
+use Rattle.keysym_core.specs.Names.{KeysymNames}
+use Rattle.compose_model.specs.Table.{Definition}
+use Rattle.compose_model.specs.Nodes.{rising}
+use Rattle.compose_model.specs.Certificate.{Repertoire}
+use Rattle.compose_tree.specs.Given.{NoTable, first_table}
+use Rattle.compose_migration.specs.Migration.{GivenMigration, NoMigration, NamedParts, TableSources, Parts, ◌>>=◌, or_because, named, migration_of}
+use Rattle.compose_cert.specs.Repertoire.{repertoire_of}
+use Rattle.compose_fresh.specs.Fresh.{fresh_demands}
+use Rattle.compose_fresh.specs.Demands.{first_unmet}
+use Rattle.compose_check.specs.Input.{Unread, no_migration, no_repertoire}
+use Rattle.compose_walk.specs.declared.fault.MakeFault.{MakeFault}
+use Rattle.compose_walk.specs.declared.fault.MakeFault.TheVariants.{BadFresh, TooManyFresh}
+
+-- the part that is refused, and why
+pub data NoAnswer : Type 0 where
+  unread : Unread → NoAnswer
+  no_only_table : NoTable → NoAnswer
+  no_fresh : MakeFault → NoAnswer
+
+-- ---- typing: the names, the keysyms of the words, the table
+
+pub record TypedParts : Type 0 where
+  pub names : KeysymNames
+  pub keys : List ℕ
+  pub table : List Definition
+
+abbrev pub given_words : List ℕ → List (List ℕ) → Result NamedParts NoAnswer
+given_words header words = or_because (λ why. unread (no_migration why)) (named header words)
+
+abbrev pub type_parts : List ℕ → List (List ℕ) → TableSources → Result TypedParts NoAnswer
+type_parts header words given = do
+  n ← given_words header words
+  table ← or_because no_only_table (first_table n.names given.sources given.rule)
+  Ok (record { names = n.names; keys = n.keys; table = table })
+
+-- ---- a migration: the names, the keysyms of the words, the old table, the new one
+
+abbrev pub migration_parts : GivenMigration → Result Parts NoAnswer
+migration_parts given = or_because (λ why. unread (no_migration why)) (migration_of given)
+
+-- the first demand that the fresh keysyms do not meet for the old table; or they are more than a certificate can have
+abbrev pub fresh_fault : List Definition → List ℕ → Option MakeFault
+fresh_fault old fresh = option_map_or (λ fault. Some (BadFresh fault)) (first_unmet (fresh_demands old fresh)) (if nat_lt 1048576 (length fresh) then Some TooManyFresh else None)
+
+-- the parts, where the fresh keysyms have no fault
+abbrev pub accepted : {P : Type 0} → List ℕ → List Definition → P → Result P NoAnswer
+accepted fresh old parts = option_map_or (λ fault. Err (no_fresh fault)) (fresh_fault old fresh) (Ok parts)
+
+-- what is explained: a migration, and its fresh keysyms
+pub record Explainable : Type 0 where
+  pub move : Parts
+  pub fresh : List ℕ
+
+abbrev pub explainable : Parts → List ℕ → Result Explainable NoAnswer
+explainable move fresh = accepted fresh move.old (record { move = move; fresh = fresh })
+
+-- the fresh keysyms are those of the words in rising order, each once
+abbrev pub explain_parts : GivenMigration → Result Explainable NoAnswer
+explain_parts given = do
+  move ← migration_parts given
+  explainable move (rising nat_cmp move.keys)
+
+-- what a certificate is made of
+pub record Needs : Type 0 where
+  pub move : Parts
+  pub repertoire : Repertoire
+  pub fresh : List ℕ
+
+abbrev pub makeable : Parts → Repertoire → List ℕ → Result Needs NoAnswer
+makeable move repertoire fresh = accepted fresh move.old (record { move = move; repertoire = repertoire; fresh = fresh })
+
+abbrev pub make_parts : GivenMigration → List ℕ → Result Needs NoAnswer
+make_parts given repertoire = do
+  move ← migration_parts given
+  r ← or_because (λ why. unread (no_repertoire why)) (repertoire_of repertoire)
+  makeable move r (rising nat_cmp move.keys)

@@ -1,0 +1,77 @@
+//! `make`: a certificate, or why there is none.
+ghost use Rattle.std.specs.Prelude.{◌≡◌, ◌++◌, string_bytes, codes, true, IfOk};
+ghost use Rattle.std.specs.Fmt.{digits};
+ghost use Rattle.keysym_core.specs.Printed.{at_least_four};
+ghost use Rattle.compose_migration.specs.Given.{given_of, parts};
+ghost use Rattle.compose_cert.specs.Spelling.{Spells};
+ghost use Rattle.compose_tool.specs.Parts.{makeable, make_parts};
+ghost use Rattle.compose_tool.specs.Refused.{Gives};
+ghost use Rattle.compose_tool.specs.Answers.{IsMadeText, one_line};
+
+use crate::answer::Answer;
+use crate::explaining::tell;
+use crate::parts::{in_rising_order, read_migration, read_repertoire};
+use crate::refusal::Refusal;
+use compose_cert::{Certificate, Repertoire};
+use compose_make::{Made, make};
+use compose_migration::{Migration, MigrationInput};
+use compose_tree::ComposeTable;
+use keysym_core::{Keysym, ShownChar};
+use std::alloc::{AllocError, Global};
+
+/// Makes the text of a certificate that the new table follows the old one and types what people need; or tells the shortest keys on
+/// which they differ, or the first character that can't be typed. The words are the fresh keysyms, which are sorted. The parts are
+/// read in the order names, words, old table, new table, repertoire, and then the fresh keysyms are looked at; the first that is
+/// refused decides. At the cost of reading them and of `make`.
+pub fn make_migration<T: ComposeTable>(
+    alloc: Global,
+    input: &MigrationInput<'_, '_>,
+    repertoire: &[u8],
+) -> Result<Answer, Refusal>
+    ensures { Gives IsMadeText result (make_parts (given_of input.entry.now) repertoire.now) }
+{
+    let migration: Migration<T> = read_migration(alloc, input)?;
+    let repertoire = read_repertoire(alloc, repertoire)?;
+    let fresh = in_rising_order(alloc, &migration.keys)?;
+    tell_made(alloc, &migration, &repertoire, &fresh)
+}
+
+/// Tells what is made of these tables.
+fn tell_made<T: ComposeTable>(
+    alloc: Global,
+    migration: &Migration<T>,
+    repertoire: &Repertoire,
+    fresh: &[Keysym],
+) -> Result<Answer, Refusal>
+    ensures { Gives IsMadeText result (makeable (parts T.definitions migration.now) repertoire.now fresh.now) }
+{
+    let names = &migration.names;
+    let made = make(
+        alloc,
+        &migration.old,
+        &migration.new,
+        names,
+        repertoire,
+        fresh,
+    )?;
+    match made {
+        Made::Made(certificate) => Ok(Answer::Yes(spell(alloc, &certificate)?)),
+        Made::Differs(least) => Ok(Answer::No(tell(alloc, names, &least)?)),
+        Made::Unreachable(character) => Ok(Answer::No(unreachable_line(alloc, character)?)),
+    }
+}
+
+/// The text of a certificate.
+fn spell(alloc: Global, certificate: &Certificate) -> Result<String, AllocError>
+    ensures { IfOk result (λ text. Spells (string_bytes text) certificate.now) }
+{
+    certificate.write_text(alloc).map_err(|_| AllocError)
+}
+
+/// The line of a character that no list of keys types.
+fn unreachable_line(alloc: Global, character: char) -> Result<String, AllocError>
+    ensures { IfOk result (λ text. string_bytes text ≡ one_line (codes "unreachable U+" ++ at_least_four (digits 16 true character))) }
+{
+    let shown = ShownChar(character);
+    format!(in alloc; "unreachable {shown}\n")
+}

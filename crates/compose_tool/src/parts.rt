@@ -1,0 +1,77 @@
+//! The parts of what a command is given, read in their order.
+ghost use Rattle.std.specs.Prelude.{◌≡◌, map, IfOk};
+ghost use Rattle.std.specs.Ordering.{nat_cmp};
+ghost use Rattle.compose_model.specs.Nodes.{rising};
+ghost use Rattle.compose_tree.specs.Given.{first_table};
+ghost use Rattle.compose_cert.specs.Repertoire.{repertoire_of};
+ghost use Rattle.compose_migration.specs.Migration.{or_because};
+ghost use Rattle.compose_migration.specs.Given.{given_of, named_parts, parts};
+ghost use Rattle.compose_check.specs.Input.{no_repertoire};
+ghost use Rattle.compose_tool.specs.Parts.{unread, no_only_table, given_words, migration_parts};
+ghost use Rattle.compose_tool.specs.Refused.{Gives};
+
+use crate::refusal::Refusal;
+use compose_cert::{Repertoire, RepertoireFault};
+use compose_migration::{Migration, MigrationInput, Named, TableInput};
+use compose_tree::{ComposeTable, TableFault, read_first_table};
+use keysym_core::{Keysym, Names};
+use std::alloc::{AllocError, Global};
+
+/// The names of a header, and the keysyms of words.
+pub fn read_named(alloc: Global, header: &[u8], words: &[&str]) -> Result<Named, Refusal>
+    ensures { Gives (λ said read. said ≡ named_parts read) result (given_words header.now (map (λ word. word.now) words.now)) }
+{
+    match Named::read(alloc, header, words) {
+        Ok(named) => Ok(named),
+        Err(fault) => Err(Refusal::from(fault)),
+    }
+}
+
+/// The one table that is given.
+pub fn read_only_table<T: ComposeTable>(
+    alloc: Global,
+    names: &Names,
+    input: &TableInput<'_>,
+) -> Result<T, Refusal>
+    ensures { Gives (λ said table. said ≡ T.definitions table) result (or_because no_only_table (first_table names.now input.entry.now.sources.now input.entry.now.rule)) }
+{
+    match read_first_table(alloc, names, input.sources, input.rule) {
+        Ok(table) => Ok(table),
+        Err(TableFault::NoMemory) => Err(Refusal::NoMemory),
+        Err(fault) => Err(Refusal::Table(fault)),
+    }
+}
+
+/// The names, the keysyms of the words, and both tables of a migration.
+pub fn read_migration<T: ComposeTable>(
+    alloc: Global,
+    input: &MigrationInput<'_, '_>,
+) -> Result<Migration<T>, Refusal>
+    ensures { Gives (λ said read. said ≡ parts T.definitions read) result (migration_parts (given_of input.entry.now)) }
+{
+    match Migration::read(alloc, input) {
+        Ok(migration) => Ok(migration),
+        Err(fault) => Err(Refusal::from(fault)),
+    }
+}
+
+/// The characters that people need, and the keys that they have.
+pub fn read_repertoire(alloc: Global, bytes: &[u8]) -> Result<Repertoire, Refusal>
+    ensures { Gives (λ said repertoire. said ≡ repertoire) result (or_because (λ why. unread (no_repertoire why)) (repertoire_of bytes.now)) }
+{
+    match Repertoire::read(alloc, bytes) {
+        Ok(repertoire) => Ok(repertoire),
+        Err(RepertoireFault::NoMemory) => Err(Refusal::NoMemory),
+        Err(fault) => Err(Refusal::Repertoire(fault)),
+    }
+}
+
+/// The keysyms in rising order, each once. O(n log n).
+pub fn in_rising_order(alloc: Global, keys: &[Keysym]) -> Result<Vec<Keysym>, AllocError>
+    ensures { IfOk result (λ fresh. fresh.items ≡ rising nat_cmp keys.now) }
+{
+    let mut fresh = Vec::from_slice(alloc, keys)?;
+    fresh.sort()?;
+    fresh.dedup();
+    Ok(fresh)
+}
