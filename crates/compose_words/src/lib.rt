@@ -1,0 +1,12 @@
+//! The words of the command line of `composecheck`, as requests.
+//!
+//! A command is a variant of [`Request`], a `Command` of clap in `commands`, and a line of `request_of`.
+#![tactic(auto)]
+
+mod commands;
+mod request;
+mod serve_command;
+mod serve_words;
+
+pub use request::{Request, TablePaths, read_request};
+pub use serve_words::ServeWords;

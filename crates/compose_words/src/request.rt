@@ -1,0 +1,166 @@
+//! What the command line asks for.
+ghost use Rattle.std.specs.Prelude.{◌≡◌, ◌==◌, map, IfOk};
+ghost use Rattle.std.specs.List.{slice_split};
+
+use crate::commands::command_line;
+use crate::serve_words::{ServeWords, serve_words};
+use clap::error::ErrorKind;
+use clap::{ArgMatches, Error};
+use std::alloc::{AllocError, Global};
+
+/// What the command line asks for: its words and paths, which are lent by it.
+#[derive(Drop)]
+pub enum Request<'a> {
+    /// Type keys with a table.
+    Type {
+        /// The path of a header of names.
+        names: Option<&'a str>,
+        /// The path of the table's manifest.
+        table: &'a str,
+        /// The names of the keysyms, at least one.
+        keys: Vec<&'a str>,
+    },
+    /// Check a certificate.
+    Check {
+        tables: TablePaths<'a>,
+        repertoire: &'a str,
+        certificate: &'a str,
+    },
+    /// Explain how two tables differ.
+    Explain {
+        tables: TablePaths<'a>,
+        /// The words of `--fresh` between commas.
+        fresh: Vec<&'a str>,
+        /// Whether all differences are asked for.
+        all: bool,
+    },
+    /// Make a certificate.
+    Make {
+        tables: TablePaths<'a>,
+        /// The words of `--fresh` between commas.
+        fresh: Vec<&'a str>,
+        repertoire: &'a str,
+    },
+    /// Serve typing sessions on a socket.
+    Serve(ServeWords<'a>),
+}
+
+/// The paths of what an old and a new table are read from.
+#[derive(Clone, Copy)]
+pub struct TablePaths<'a> {
+    /// The path of a header of names.
+    pub names: Option<&'a str>,
+    /// The path of the old table's manifest.
+    pub old: &'a str,
+    /// The path of the new table's manifest.
+    pub new: &'a str,
+}
+
+/// What these words ask for, of which the first is the program's name. Else clap's answer: the help or the version, why the words are
+/// refused, or that memory was refused. O(bytes of the words).
+pub fn read_request<'a>(alloc: Global, words: &'a [String]) -> Result<Request<'a>, Error> {
+    let matches = command_line(alloc)?.try_get_matches_from(words)?;
+    match request_of(alloc, &matches)? {
+        Some(request) => Ok(request),
+        None => Err(no_request(alloc)?),
+    }
+}
+
+/// What is said where a word is missing that clap has let pass.
+fn no_request(alloc: Global) -> Result<Error, AllocError> {
+    command_line(alloc)?.error(ErrorKind::MissingRequiredArgument, "a word is missing")
+}
+
+/// What the command that was found asks for, if it has its words.
+fn request_of<'a>(
+    alloc: Global,
+    matches: &ArgMatches<'a>,
+) -> Result<Option<Request<'a>>, AllocError> {
+    match matches.subcommand() {
+        Some(("type", given)) => type_request(alloc, given),
+        Some(("check", given)) => Ok(check_request(given)),
+        Some(("explain", given)) => explain_request(alloc, given),
+        Some(("make", given)) => make_request(alloc, given),
+        Some(("serve", given)) => Ok(serve_words(given).map(Request::Serve)),
+        _ => Ok(None),
+    }
+}
+
+/// The words of `type`.
+fn type_request<'a>(
+    alloc: Global,
+    given: &ArgMatches<'a>,
+) -> Result<Option<Request<'a>>, AllocError> {
+    let (Some(table), Some(keys)) = (given.get_str("TABLE"), given.get_strs("KEY")) else {
+        return Ok(None);
+    };
+    Ok(Some(Request::Type {
+        names: given.get_str("names"),
+        table,
+        keys: Vec::from_slice(alloc, keys)?,
+    }))
+}
+
+/// The words of `check`.
+fn check_request<'a>(given: &ArgMatches<'a>) -> Option<Request<'a>> {
+    Some(Request::Check {
+        tables: table_paths(given)?,
+        repertoire: given.get_str("REPERTOIRE")?,
+        certificate: given.get_str("CERTIFICATE")?,
+    })
+}
+
+/// The words of `explain`.
+fn explain_request<'a>(
+    alloc: Global,
+    given: &ArgMatches<'a>,
+) -> Result<Option<Request<'a>>, AllocError> {
+    let Some(tables) = table_paths(given) else {
+        return Ok(None);
+    };
+    Ok(Some(Request::Explain {
+        tables,
+        fresh: fresh_words(alloc, given)?,
+        all: given.get_flag("all"),
+    }))
+}
+
+/// The words of `make`.
+fn make_request<'a>(
+    alloc: Global,
+    given: &ArgMatches<'a>,
+) -> Result<Option<Request<'a>>, AllocError> {
+    let (Some(tables), Some(repertoire)) = (table_paths(given), given.get_str("REPERTOIRE")) else {
+        return Ok(None);
+    };
+    Ok(Some(Request::Make {
+        tables,
+        fresh: fresh_words(alloc, given)?,
+        repertoire,
+    }))
+}
+
+/// The paths of an old and a new table.
+fn table_paths<'a>(given: &ArgMatches<'a>) -> Option<TablePaths<'a>> {
+    Some(TablePaths {
+        names: given.get_str("names"),
+        old: given.get_str("OLD")?,
+        new: given.get_str("NEW")?,
+    })
+}
+
+/// The words of `--fresh` between commas; none where it is not given.
+fn fresh_words<'a>(alloc: Global, given: &ArgMatches<'a>) -> Result<Vec<&'a str>, AllocError> {
+    match given.get_str("fresh") {
+        Some(text) => words_between(alloc, text),
+        None => Ok(Vec::new(alloc)),
+    }
+}
+
+/// The words between commas. Nothing between two commas is a word too.
+fn words_between<'a>(alloc: Global, text: &'a str) -> Result<Vec<&'a str>, AllocError>
+    ensures { IfOk result (λ words. map (λ word. word.now) words.items ≡ slice_split (λ b. b == 44) text.now) }
+{
+    let words: Vec<&'a str> = text.split(',').collect(alloc)?;
+    Ok(words)
+}

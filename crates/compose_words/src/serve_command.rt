@@ -1,0 +1,59 @@
+//! The command `serve` as clap reads it.
+use crate::commands::{file, names_option};
+use clap::{Arg, ArgAction, Command, value_parser};
+use std::alloc::{AllocError, Global};
+
+/// An option that is there or not.
+fn flag<'a>(alloc: Global, name: &'a str, help: &'a str) -> Arg<'a> {
+    Arg::new(alloc, name)
+        .long(name)
+        .help(help)
+        .action(ArgAction::SetTrue)
+}
+
+/// The option for the mode of the socket's file.
+fn mode_option<'a>(alloc: Global) -> Arg<'a> {
+    Arg::new(alloc, "mode")
+        .long("mode")
+        .value_name("MODE")
+        .help("Who may connect: 600 the user, 660 the group too, 666 everyone")
+        .value_parser(["600", "660", "666"].as_slice())
+        .default_value("600")
+}
+
+/// The number of connections.
+fn connections<'a>(alloc: Global) -> Arg<'a> {
+    Arg::new(alloc, "CONNECTIONS")
+        .help("Ends after so many connections")
+        .required(true)
+        .value_parser(value_parser!(u16).range(1..))
+}
+
+/// The command that serves.
+pub fn serve_command<'a>(alloc: Global) -> Result<Command<'a>, AllocError> {
+    let command = Command::new(alloc, "serve")
+        .about("Serves typing sessions on a Unix socket, one connection after another")
+        .arg(names_option(alloc))?
+        .arg(mode_option(alloc))?
+        .arg(flag(alloc, "replace", "Replaces a socket that nobody listens on"))?
+        .arg(flag(alloc, "unlink", "Removes the socket's file at the end"))?;
+    serve_files(alloc, command)
+}
+
+/// Adds the files of the command that serves.
+fn serve_files<'a>(alloc: Global, command: Command<'a>) -> Result<Command<'a>, AllocError> {
+    command
+        .arg(file(alloc, "TABLE", "The manifest of the table"))?
+        .arg(file(
+            alloc,
+            "REPERTOIRE",
+            "The characters that people need, and their keys",
+        ))?
+        .arg(file(
+            alloc,
+            "CERTIFICATE",
+            "The certificate of the table against itself",
+        ))?
+        .arg(file(alloc, "SOCKET", "The path of the socket"))?
+        .arg(connections(alloc))
+}

@@ -1,0 +1,49 @@
+//! What `serve` asks for.
+use clap::ArgMatches;
+
+/// The words of `serve`.
+#[derive(Clone, Copy)]
+pub struct ServeWords<'a> {
+    /// The path of a header of names.
+    pub names: Option<&'a str>,
+    /// The path of the table's manifest.
+    pub table: &'a str,
+    /// The path of the repertoire.
+    pub repertoire: &'a str,
+    /// The path of the certificate of the table against itself.
+    pub certificate: &'a str,
+    /// The path of the socket.
+    pub socket: &'a str,
+    /// After how many connections it ends, at least 1.
+    pub connections: u16,
+    /// The mode of the socket's file.
+    pub mode: u32,
+    /// Whether a socket that nobody listens on is replaced.
+    pub replace: bool,
+    /// Whether the socket's file is removed at the end.
+    pub unlink: bool,
+}
+
+/// The words of `serve`, if they are all there.
+pub fn serve_words<'a>(given: &ArgMatches<'a>) -> Option<ServeWords<'a>> {
+    Some(ServeWords {
+        names: given.get_str("names"),
+        table: given.get_str("TABLE")?,
+        repertoire: given.get_str("REPERTOIRE")?,
+        certificate: given.get_str("CERTIFICATE")?,
+        socket: given.get_str("SOCKET")?,
+        connections: given.get_one::<u16>("CONNECTIONS")?,
+        mode: mode_of(given.get_str("mode")?),
+        replace: given.get_flag("replace"),
+        unlink: given.get_flag("unlink"),
+    })
+}
+
+/// The mode that a word of `--mode` says.
+fn mode_of(word: &str) -> u32 {
+    match word {
+        "666" => 0o666,
+        "660" => 0o660,
+        _ => 0o600,
+    }
+}
