@@ -1,0 +1,25 @@
+-- What a service that does not start says of how it begins.
+use Rattle.std.proofs.Common.{◌≡◌, ℕ, List}
+use Rattle.std.specs.Prelude.{Result, Ok, Err}
+use Rattle.keysym_core.specs.Names.{KeysymNames}
+use Rattle.compose_model.specs.Certificate.{Repertoire}
+use Rattle.compose_cert.specs.declared.CertFault.{CertFault}
+use Rattle.compose_cert.specs.declared.CertFault.TheVariants as cert_faults
+use Rattle.compose_service.specs.Start.{Begun, NoStart, without_certificate, StartGives, CertificateSaid}
+use Rattle.compose_service.specs.declared.service.StartFault.{StartFault}
+use Rattle.compose_service.specs.declared.service.StartFault.TheVariants as start_faults
+use Rattle.compose_serving.specs.Begin.{Start, AreRead, BeginGives, start_refused}
+
+-- a certificate's fault that is told is not memory
+certificate_said : (fault : CertFault) (said : Result Begun NoStart) → CertificateSaid fault said → said ≡ Err (without_certificate fault)
+certificate_said (cert_faults.NotText line) said h = h
+certificate_said cert_faults.TooLarge said h = h
+certificate_said cert_faults.NoMemory said h = absurd h
+
+-- a start that is refused is how the service begins
+pub refused : (header bytes : List ℕ) (start : Start) (names : KeysymNames) (repertoire : Repertoire) → AreRead header bytes names repertoire
+    → (fault : StartFault) → StartGives names repertoire (Err fault) (start names repertoire) → BeginGives header bytes start (Err (start_refused fault))
+refused header bytes start names repertoire read (start_faults.Table fault) h = (h.0, (names, repertoire, read, h.1), h.2)
+refused header bytes start names repertoire read (start_faults.Certificate fault) h = (names, repertoire, read, certificate_said fault (start names repertoire) h)
+refused header bytes start names repertoire read (start_faults.No fault) h = (names, repertoire, read, h)
+refused header bytes start names repertoire read start_faults.NoMemory h = tt

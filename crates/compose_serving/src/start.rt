@@ -1,0 +1,101 @@
+//! How a service begins.
+ghost use Rattle.std.specs.Prelude.{◌≡◌};
+ghost use Rattle.compose_tree.specs.Given.{first_table};
+ghost use Rattle.compose_cert.specs.Reading.{certificate_of};
+ghost use Rattle.compose_service.specs.Start.{started};
+ghost use Rattle.compose_serving.specs.Begin.{BeginGives, names_refused, repertoire_refused, start_refused};
+
+use compose_cert::{Repertoire, RepertoireFault};
+use compose_check::CheckFault;
+use compose_model::Rule;
+use compose_read::Sources;
+use compose_service::{Service, StartFault};
+use compose_tool::Refusal;
+use compose_tree::ComposeTable;
+use keysym_core::{NameFault, Names};
+use std::alloc::Global;
+
+/// What a service begins from, beside the sources of its table: the bytes of its files, and what is done with overlaps.
+#[derive(Clone, Copy)]
+pub struct BeginInput<'a> {
+    /// The header of names.
+    pub header: &'a [u8],
+    /// The repertoire.
+    pub repertoire: &'a [u8],
+    /// What is done with overlaps.
+    pub rule: Rule,
+    /// The certificate of the table against itself.
+    pub certificate: &'a [u8],
+}
+
+/// Why no service begins.
+#[derive(Debug, PartialEq, Eq, Drop)]
+pub enum BeginFault {
+    /// The certificate is not valid for the table against itself: the first condition that it does not meet.
+    Invalid(CheckFault),
+    /// A part is refused, or memory was.
+    Refused(Refusal),
+}
+
+/// A service over the table of the sources, the first of which is the root. The names are read first, then the repertoire, the table
+/// and the certificate, which is then checked for the table against itself; the first part that is refused decides. At the cost of
+/// reading these, and of `check`.
+pub fn begin<T: ComposeTable>(
+    alloc: Global,
+    input: &BeginInput<'_>,
+    sources: Sources,
+) -> Result<Service<T>, BeginFault>
+    ensures { BeginGives input.entry.now.header.now input.entry.now.repertoire.now (λ names repertoire. started names repertoire (first_table names sources input.entry.now.rule) (certificate_of input.entry.now.certificate.now)) result }
+{
+    let names = match Names::read(alloc, input.header) {
+        Ok(names) => names,
+        Err(fault) => return Err(BeginFault::Refused(of_names(fault))),
+    };
+    let repertoire = match Repertoire::read(alloc, input.repertoire) {
+        Ok(repertoire) => repertoire,
+        Err(fault) => return Err(BeginFault::Refused(of_repertoire(fault))),
+    };
+    match Service::start(
+        alloc,
+        names,
+        repertoire,
+        sources,
+        input.rule,
+        input.certificate,
+    ) {
+        Ok(service) => Ok(service),
+        Err(fault) => Err(of_start(fault)),
+    }
+}
+
+/// The refusal of the names.
+fn of_names(fault: NameFault) -> Refusal
+    ensures { result ≡ names_refused fault }
+{
+    match fault {
+        NameFault::NoMemory => Refusal::NoMemory,
+        other => Refusal::Names(other),
+    }
+}
+
+/// The refusal of the repertoire.
+fn of_repertoire(fault: RepertoireFault) -> Refusal
+    ensures { result ≡ repertoire_refused fault }
+{
+    match fault {
+        RepertoireFault::NoMemory => Refusal::NoMemory,
+        other => Refusal::Repertoire(other),
+    }
+}
+
+/// Why no service starts.
+fn of_start(fault: StartFault) -> BeginFault
+    ensures { result ≡ start_refused fault }
+{
+    match fault {
+        StartFault::No(fault) => BeginFault::Invalid(fault),
+        StartFault::Table(fault) => BeginFault::Refused(Refusal::Table(fault)),
+        StartFault::Certificate(fault) => BeginFault::Refused(Refusal::Certificate(fault)),
+        StartFault::NoMemory => BeginFault::Refused(Refusal::NoMemory),
+    }
+}
