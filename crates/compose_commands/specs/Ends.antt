@@ -1,49 +1,25 @@
--- How a run ends by its answer, and with which exit status (this project's profile).
-use Rattle.std.specs.Prelude.{ℕ, Result, Ok, Err}
+-- How a run ends (this project's profile): as the command answered, unless output can't be written, which is refused.
+use Rattle.std.specs.Prelude.{◌≡◌, ◌≢◌, Result, Ok, Err}
 use Rattle.clap.specs.declared.error.kind.ErrorKind.{ErrorKind}
 use Rattle.clap.specs.declared.error.kind.ErrorKind.TheVariants as kinds
-use Rattle.compose_check.specs.declared.verdict.Verdict.{Verdict}
-use Rattle.compose_check.specs.declared.verdict.Verdict.TheVariants as verdicts
-use Rattle.compose_tool.specs.declared.migration.Explained.{Explained}
-use Rattle.compose_tool.specs.declared.migration.Explained.TheVariants as explanations
-use Rattle.compose_tool.specs.declared.migration.MadeText.{MadeText}
-use Rattle.compose_tool.specs.declared.migration.MadeText.TheVariants as texts
-use Rattle.compose_commands.specs.declared.outcome.Outcome.{Outcome}
-use Rattle.compose_commands.specs.declared.outcome.Outcome.TheVariants.{Yes, No, Refused, NoMemory}
-use Rattle.compose_commands.specs.declared.refusal.Refusal.{Refusal}
-use Rattle.compose_commands.specs.declared.refusal.Refusal.TheVariants as refusals
+use Rattle.compose_tool.specs.Ends.{end_of}
+use Rattle.compose_tool.specs.declared.answer.Answer.{Answer}
+use Rattle.compose_tool.specs.declared.answer.Ended.{Ended}
+use Rattle.compose_tool.specs.declared.answer.Ended.TheVariants.{Yes, No, Refused, NoMemory}
+use Rattle.compose_tool.specs.declared.refusal.Refusal.{Refusal}
 
-abbrev pub status_of : Outcome → ℕ
-status_of Yes = 0
-status_of No = 1
-status_of Refused = 2
-status_of NoMemory = 3
+-- the run ends so, unless what it has to print can't be written, which is refused
+abbrev pub IsWritten : Ended → Ended → Type 0
+IsWritten ended end = end ≢ Refused → end ≡ ended
 
--- `check`: yes where the certificate shows that the new table follows the old one
-abbrev pub check_ends : Verdict → Outcome
-check_ends verdicts.Yes = Yes
-check_ends (verdicts.No _) = No
-
--- `explain`: yes where the new table follows the old one
-abbrev pub explain_ends : Explained → Outcome
-explain_ends explanations.Follows = Yes
-explain_ends (explanations.Differs _) = No
-
--- `make`: yes where a certificate is made
-abbrev pub make_ends : MadeText → Outcome
-make_ends (texts.Certificate _) = Yes
-make_ends (texts.Differs _) = No
-make_ends (texts.Unreachable _) = No
+-- an answer is to be written; a refusal ends as it does, whether its line can be written or not
+abbrev pub AnswerEnds : Result Answer Refusal → Ended → Type 0
+AnswerEnds (Ok answer) end = IsWritten (end_of (Ok answer)) end
+AnswerEnds (Err refusal) end = end ≡ end_of (Err refusal)
 
 -- words that are no command: yes where they ask for help or the version
-abbrev pub words_end : ErrorKind → Outcome
-words_end kinds.DisplayHelp = Yes
-words_end kinds.DisplayVersion = Yes
-words_end kinds.OutOfMemory = NoMemory
-words_end _ = Refused
-
--- any command: what it answered, or why there is no answer
-abbrev pub command_ends : Result Outcome Refusal → Outcome
-command_ends (Ok outcome) = outcome
-command_ends (Err refusals.NoMemory) = NoMemory
-command_ends (Err _) = Refused
+abbrev pub WordsEnd : ErrorKind → Ended → Type 0
+WordsEnd kinds.DisplayHelp end = IsWritten Yes end
+WordsEnd kinds.DisplayVersion end = IsWritten Yes end
+WordsEnd kinds.OutOfMemory end = end ≡ NoMemory
+WordsEnd kind end = end ≡ Refused

@@ -1,90 +1,102 @@
-//! The commands by their names, and how a run ends.
-ghost use Rattle.std.specs.Prelude.{◌≡◌, ◌≤◌, IfOk};
-ghost use Rattle.std.specs.Process.{exit_status};
-ghost use Rattle.clap.specs.Words.{kind_of};
-ghost use Rattle.compose_commands.specs.Ends.{words_end, command_ends};
-
-use crate::outcome::Outcome;
-use crate::refusal::Refusal;
-use crate::{checking, explaining, making, typing, words};
-use clap::ArgMatches;
-use clap::error::ErrorKind;
+//! The commands. Each reads its files in their order, and prints what is answered on their bytes. An error is the end of a run whose
+//! refusal was told.
+use crate::files::{MoveFiles, TableFiles, read_file, read_header};
+use crate::report::report;
+use crate::serving::serve_files;
+use compose_check::CheckInput;
+use compose_tool::{
+    Ended, check_migration, explain_all_migration, explain_migration, make_migration, type_keys,
+};
 use compose_tree::ComposeTable;
-use std::process::ExitCode;
+use compose_words::{Request, TablePaths};
+use std::net::Net;
 use std::rt::{Env, Files};
-use std::{env, io};
 
-/// Does what the words of the command line say, with tables in the form `T`, and gives the exit status: 0 where the answer is yes,
-/// made, follows or typed, 1 where it is no, differs or unreachable, 2 where the words or the input are refused or the output can't
-/// be written, 3 for want of memory, and where the words or the reason of a refusal can't be read or printed. The answer goes to
-/// standard output, why there is none to standard error. At the cost of the command over its files.
-pub fn run<T: ComposeTable>(rt: &(impl Env + Files + Print + Eprint + AllocGlobal)) -> ExitCode
-    ensures { exit_status result ≤ 3 }
-{
-    let outcome = run_given::<T>(rt).unwrap_or(Outcome::NoMemory);
-    ExitCode::from(outcome.status())
-}
-
-/// Does what the words of the command line say.
-fn run_given<T: ComposeTable>(
-    rt: &(impl Env + Files + Print + Eprint + AllocGlobal),
-) -> io::Result<Outcome> {
-    let given = read_words(rt)?;
-    let command = words::command_line(rt.alloc())?;
-    match command.try_get_matches_from(given.as_slice()) {
-        Ok(matches) => finish(rt, dispatch::<T>(rt, &matches)),
-        Err(error) => answer_words(rt, &error),
+/// Does what is asked for.
+pub fn answer<T: ComposeTable>(
+    rt: &(impl Env + Files + Net + Print + Eprint + AllocGlobal),
+    process_id: u32,
+    request: &Request<'_>,
+) -> Result<Ended, Ended> {
+    match request {
+        Request::Type { names, table, keys } => type_files::<T>(rt, *names, *table, keys),
+        Request::Check {
+            tables,
+            repertoire,
+            certificate,
+        } => check_files::<T>(rt, tables, *repertoire, *certificate),
+        Request::Explain { tables, fresh, all } => explain_files::<T>(rt, tables, fresh, *all),
+        Request::Make {
+            tables,
+            fresh,
+            repertoire,
+        } => make_files::<T>(rt, tables, fresh, *repertoire),
+        Request::Serve(words) => serve_files::<T>(rt, process_id, words),
     }
 }
 
-/// The words of the command line, the program's name among them.
-fn read_words(rt: &(impl Env + AllocGlobal)) -> io::Result<Vec<String>> {
-    Ok(env::args(rt)?.collect(rt.alloc())?)
+/// Types keys with a table.
+fn type_files<T: ComposeTable>(
+    rt: &(impl Files + Print + Eprint + AllocGlobal),
+    names: Option<&str>,
+    table: &str,
+    keys: &[&str],
+) -> Result<Ended, Ended> {
+    let header = read_header(rt, names)?;
+    let files = TableFiles::read(rt, "table", table)?;
+    let answered = type_keys::<T>(rt.alloc(), &header, keys, &files.input());
+    Ok(report(rt, &answered, keys))
 }
 
-/// Prints the help that the words ask for, or why they are refused.
-fn answer_words(rt: &(impl Print + Eprint), error: &clap::Error) -> io::Result<Outcome>
-    ensures { IfOk result (λ outcome. outcome ≡ words_end (kind_of error.now)) }
-{
-    match error.kind() {
-        ErrorKind::OutOfMemory => finish(rt, Err(Refusal::NoMemory)),
-        ErrorKind::DisplayHelp | ErrorKind::DisplayVersion => {
-            error.print(rt)?;
-            Ok(Outcome::Yes)
-        }
-        _ => {
-            error.print(rt)?;
-            Ok(Outcome::Refused)
-        }
-    }
+/// Checks a certificate.
+fn check_files<T: ComposeTable>(
+    rt: &(impl Files + Print + Eprint + AllocGlobal),
+    tables: &TablePaths<'_>,
+    repertoire: &str,
+    certificate: &str,
+) -> Result<Ended, Ended> {
+    let files = MoveFiles::read(rt, tables)?;
+    let repertoire = read_file(rt, repertoire)?;
+    let certificate = read_file(rt, certificate)?;
+    let (old, new) = (files.old.input(), files.new.input());
+    let input = CheckInput {
+        header: &files.header,
+        old: old.sources,
+        new: new.sources,
+        old_rule: old.rule,
+        new_rule: new.rule,
+        repertoire: &repertoire,
+        certificate: &certificate,
+    };
+    Ok(report(rt, &check_migration::<T>(rt.alloc(), &input), &[]))
 }
 
-/// Runs the command that was named.
-fn dispatch<T: ComposeTable>(
-    rt: &(impl Files + Print + AllocGlobal),
-    matches: &ArgMatches<'_>,
-) -> Result<Outcome, Refusal> {
-    match matches.subcommand() {
-        Some(("type", given)) => typing::type_keys::<T>(rt, given),
-        Some(("check", given)) => checking::check::<T>(rt, given),
-        Some(("explain", given)) => explaining::explain::<T>(rt, given),
-        Some(("make", given)) => making::make::<T>(rt, given),
-        _ => Ok(Outcome::Refused),
-    }
+/// Explains how two tables differ.
+fn explain_files<T: ComposeTable>(
+    rt: &(impl Files + Print + Eprint + AllocGlobal),
+    tables: &TablePaths<'_>,
+    fresh: &[&str],
+    all: bool,
+) -> Result<Ended, Ended> {
+    let files = MoveFiles::read(rt, tables)?;
+    let input = files.input(fresh);
+    let answered = if all {
+        explain_all_migration::<T>(rt.alloc(), &input)
+    } else {
+        explain_migration::<T>(rt.alloc(), &input)
+    };
+    Ok(report(rt, &answered, fresh))
 }
 
-/// Prints why there is no answer, if there is none.
-fn finish(rt: &impl Eprint, ended: Result<Outcome, Refusal>) -> io::Result<Outcome>
-    ensures { IfOk result (λ outcome. outcome ≡ command_ends ended) }
-{
-    match ended {
-        Ok(outcome) => Ok(outcome),
-        Err(refusal) => {
-            eprintln!(rt; "{refusal}")?;
-            Ok(match refusal {
-                Refusal::NoMemory => Outcome::NoMemory,
-                _ => Outcome::Refused,
-            })
-        }
-    }
+/// Makes a certificate.
+fn make_files<T: ComposeTable>(
+    rt: &(impl Files + Print + Eprint + AllocGlobal),
+    tables: &TablePaths<'_>,
+    fresh: &[&str],
+    repertoire: &str,
+) -> Result<Ended, Ended> {
+    let files = MoveFiles::read(rt, tables)?;
+    let repertoire = read_file(rt, repertoire)?;
+    let answered = make_migration::<T>(rt.alloc(), &files.input(fresh), &repertoire);
+    Ok(report(rt, &answered, fresh))
 }

@@ -1,21 +1,17 @@
-//! The commands of `composecheck` over any form of a table: their words, files, printing and exit statuses. What they do over values
-//! stands in the crates below.
+//! The commands of `composecheck` over any form of a table: files, printing and exit statuses. The words of the command line stand in
+//! `compose_words`, what a command answers on the bytes that it is given in `compose_tool`.
 //!
 //! ```text
 //! fn main(rt: HostRuntime) -> ExitCode {
-//!     run::<PackedTable>(&rt)
+//!     run::<PackedTable>(&rt, process::id(rt.process()))
 //! }
 //! ```
 #![tactic(auto)]
 
-mod checking;
 mod commands;
-mod explaining;
-mod inputs;
-mod making;
-mod outcome;
-mod refusal;
-mod typing;
-mod words;
+mod files;
+mod program;
+mod report;
+mod serving;
 
-pub use commands::run;
+pub use program::run;

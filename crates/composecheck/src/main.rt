@@ -3,8 +3,9 @@
 
 use compose_commands::run;
 use compose_tree::PackedTable;
+use std::process;
 use std::process::ExitCode;
 
 fn main(rt: HostRuntime) -> ExitCode {
-    run::<PackedTable>(&rt)
+    run::<PackedTable>(&rt, process::id(rt.process()))
 }

@@ -4,8 +4,9 @@
 
 use compose_commands::run;
 use compose_tree::ListTable;
+use std::process;
 use std::process::ExitCode;
 
 fn main(rt: HostRuntime) -> ExitCode {
-    run::<ListTable>(&rt)
+    run::<ListTable>(&rt, process::id(rt.process()))
 }

@@ -1,0 +1,125 @@
+//! Files, and what they hold. An error is the end of a run whose refusal was told.
+use crate::report::{no_memory, refused};
+use compose_migration::{MigrationInput, TableInput};
+use compose_model::Rule;
+use compose_read::{SourceFault, Sources};
+use compose_tool::{Ended, Entry, Manifest, ManifestFault, read_manifest};
+use compose_words::TablePaths;
+use std::rt::Files;
+use std::{fs, io};
+
+/// The bytes of a file.
+pub fn read_file(rt: &(impl Files + Eprint + AllocGlobal), path: &str) -> Result<Vec<u8>, Ended> {
+    match fs::read(rt, path) {
+        Ok(bytes) => Ok(bytes),
+        Err(error) if error.kind() == io::ErrorKind::OutOfMemory => Err(no_memory(rt)),
+        Err(_) => Err(refused(eprintln!(rt; "refused: file: {path}"))),
+    }
+}
+
+/// The bytes of the file of names; none where no file is given.
+pub fn read_header(
+    rt: &(impl Files + Eprint + AllocGlobal),
+    path: Option<&str>,
+) -> Result<Vec<u8>, Ended> {
+    match path {
+        Some(path) => read_file(rt, path),
+        None => Ok(Vec::new(rt.alloc())),
+    }
+}
+
+/// The sources of a table, and what is done with its overlaps.
+#[derive(Drop)]
+pub struct TableFiles {
+    sources: Sources,
+    rule: Rule,
+}
+
+impl TableFiles {
+    /// Reads a manifest, and the files that it lists. A refusal of the sources is told of this part.
+    pub fn read(
+        rt: &(impl Files + Eprint + AllocGlobal),
+        part: &str,
+        path: &str,
+    ) -> Result<TableFiles, Ended> {
+        let manifest = read_listing(rt, path)?;
+        let sources = read_sources(rt, part, manifest.entries())?;
+        Ok(TableFiles {
+            sources,
+            rule: manifest.rule(),
+        })
+    }
+
+    /// The sources, and what is done with their overlaps.
+    pub fn into_parts(self) -> (Sources, Rule) {
+        let TableFiles { sources, rule } = self;
+        (sources, rule)
+    }
+
+    /// The table that they are to give.
+    pub fn input(&self) -> TableInput<'_> {
+        TableInput {
+            sources: &self.sources,
+            rule: self.rule,
+        }
+    }
+}
+
+/// Reads a manifest.
+fn read_listing(rt: &(impl Files + Eprint + AllocGlobal), path: &str) -> Result<Manifest, Ended> {
+    let bytes = read_file(rt, path)?;
+    match read_manifest(rt.alloc(), &bytes) {
+        Ok(manifest) => Ok(manifest),
+        Err(ManifestFault::NoMemory) => Err(no_memory(rt)),
+        Err(fault) => Err(refused(eprintln!(rt; "refused: manifest: {fault}"))),
+    }
+}
+
+/// Reads the files of these entries.
+fn read_sources(
+    rt: &(impl Files + Eprint + AllocGlobal),
+    part: &str,
+    entries: &[Entry],
+) -> Result<Sources, Ended> {
+    let mut sources = Sources::new(rt.alloc());
+    for entry in entries {
+        let bytes = read_file(rt, &entry.path)?;
+        match sources.add(&entry.name, bytes) {
+            Ok(()) => {}
+            Err(SourceFault::NoMemory) => return Err(no_memory(rt)),
+            Err(fault) => return Err(refused(eprintln!(rt; "refused: {part}: {fault}"))),
+        }
+    }
+    Ok(sources)
+}
+
+/// The files of a move from an old table to a new one.
+#[derive(Drop)]
+pub struct MoveFiles {
+    pub header: Vec<u8>,
+    pub old: TableFiles,
+    pub new: TableFiles,
+}
+
+impl MoveFiles {
+    /// Reads the file of names, and the files of both tables.
+    pub fn read(
+        rt: &(impl Files + Eprint + AllocGlobal),
+        paths: &TablePaths<'_>,
+    ) -> Result<MoveFiles, Ended> {
+        let header = read_header(rt, paths.names)?;
+        let old = TableFiles::read(rt, "old", paths.old)?;
+        let new = TableFiles::read(rt, "new", paths.new)?;
+        Ok(MoveFiles { header, old, new })
+    }
+
+    /// The migration that they are to give, with these words as keysyms.
+    pub fn input<'a, 'w>(&'a self, words: &'a [&'w str]) -> MigrationInput<'a, 'w> {
+        MigrationInput {
+            header: &self.header,
+            words,
+            old: self.old.input(),
+            new: self.new.input(),
+        }
+    }
+}

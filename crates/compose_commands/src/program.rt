@@ -1,0 +1,53 @@
+//! A run of the program.
+ghost use Rattle.std.specs.Prelude.{◌≤◌};
+ghost use Rattle.std.specs.Process.{exit_status};
+
+use crate::commands::answer;
+use crate::report::{no_memory, refused, report_words};
+use compose_tool::Ended;
+use compose_tree::ComposeTable;
+use compose_words::read_request;
+use std::net::Net;
+use std::process::ExitCode;
+use std::rt::{Env, Files};
+use std::{env, io};
+
+/// Does what the words of the command line say, with tables in the form `T`, and gives the exit status: 0 where the answer is yes,
+/// made, follows, typed or served, 1 where it is no, differs or unreachable, 2 where the words or the input are refused or the output can't
+/// be written, 3 where memory was refused. The answer goes to standard output, why there is none to standard error. At the cost of the
+/// command over its files.
+pub fn run<T: ComposeTable>(
+    rt: &(impl Env + Files + Net + Print + Eprint + AllocGlobal),
+    process_id: u32,
+) -> ExitCode
+    ensures { exit_status result ≤ 3 }
+{
+    let ended = match read_words(rt) {
+        Ok(words) => answer_words::<T>(rt, process_id, &words),
+        Err(ended) => ended,
+    };
+    ExitCode::from(ended.status())
+}
+
+/// The words of the command line, the program's name among them.
+fn read_words(rt: &(impl Env + Eprint + AllocGlobal)) -> Result<Vec<String>, Ended> {
+    match env::args(rt) {
+        Ok(words) => words.collect(rt.alloc()).map_err(|_| no_memory(rt)),
+        Err(error) if error.kind() == io::ErrorKind::InvalidData => {
+            Err(refused(eprintln!(rt; "refused: word: not UTF-8")))
+        }
+        Err(_) => Err(no_memory(rt)),
+    }
+}
+
+/// Does what the words of the command line say.
+fn answer_words<T: ComposeTable>(
+    rt: &(impl Env + Files + Net + Print + Eprint + AllocGlobal),
+    process_id: u32,
+    words: &[String],
+) -> Ended {
+    match read_request(rt.alloc(), words) {
+        Ok(request) => answer::<T>(rt, process_id, &request).unwrap_or_else(|ended| ended),
+        Err(error) => report_words(rt, &error),
+    }
+}

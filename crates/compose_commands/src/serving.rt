@@ -1,0 +1,112 @@
+//! `serve`: a service on a socket. An error is the end of a run whose refusal was told.
+use crate::files::{TableFiles, read_file, read_header};
+use crate::report::{no_memory, refused, report, written};
+use compose_serve::{Device, serve};
+use compose_service::Service;
+use compose_serving::{BeginFault, BeginInput, begin, connection_line};
+use compose_socket::{SocketFault, SocketFile, listener_of_systemd};
+use compose_tool::{Answer, Ended};
+use compose_tree::ComposeTable;
+use compose_words::ServeWords;
+use std::fs;
+use std::net::Net;
+use std::os::unix::net::{UnixListener, UnixStream};
+use std::rt::{Env, Files};
+
+/// Serves typing sessions on a socket, one connection after another.
+pub fn serve_files<T: ComposeTable>(
+    rt: &(impl Env + Files + Net + Print + Eprint + AllocGlobal),
+    process_id: u32,
+    words: &ServeWords<'_>,
+) -> Result<Ended, Ended> {
+    let mut service = begin_files::<T>(rt, words)?;
+    let listener = bind(rt, process_id, words)?;
+    written(rt, println!(rt; "listening"), Ended::Yes);
+    let ended = serve_connections(rt, &listener, &mut service, words)?;
+    if words.unlink {
+        let _ = fs::remove_file(rt, words.socket);
+    }
+    Ok(ended)
+}
+
+/// The service that begins with the files.
+fn begin_files<T: ComposeTable>(
+    rt: &(impl Files + Print + Eprint + AllocGlobal),
+    words: &ServeWords<'_>,
+) -> Result<Service<T>, Ended> {
+    let header = read_header(rt, words.names)?;
+    let table = TableFiles::read(rt, "table", words.table)?;
+    let repertoire = read_file(rt, words.repertoire)?;
+    let certificate = read_file(rt, words.certificate)?;
+    let (sources, rule) = table.into_parts();
+    let input = BeginInput {
+        header: &header,
+        repertoire: &repertoire,
+        rule,
+        certificate: &certificate,
+    };
+    match begin::<T>(rt.alloc(), &input, sources) {
+        Ok(service) => Ok(service),
+        Err(BeginFault::Invalid(fault)) => Err(report(rt, &Ok(Answer::Invalid(fault)), &[])),
+        Err(BeginFault::Refused(refusal)) => Err(report(rt, &Err(refusal), &[])),
+    }
+}
+
+/// The listener that systemd hands over, or else one on a new socket file.
+fn bind(
+    rt: &(impl Env + Files + Net + Eprint + AllocGlobal),
+    process_id: u32,
+    words: &ServeWords<'_>,
+) -> Result<UnixListener, Ended> {
+    if let Some(listener) = listener_of_systemd(rt, process_id) {
+        return Ok(listener);
+    }
+    let file = SocketFile {
+        path: words.socket,
+        mode: words.mode,
+        replace: words.replace,
+    };
+    match file.bind(rt, process_id) {
+        Ok(listener) => Ok(listener),
+        Err(SocketFault::NoMemory) => Err(no_memory(rt)),
+        Err(_) => Err(refused(eprintln!(rt; "refused: socket: {}", words.socket))),
+    }
+}
+
+/// Serves as many connections as are asked for, and prints how each ended.
+fn serve_connections<T: ComposeTable>(
+    rt: &(impl Print + Eprint + AllocGlobal),
+    listener: &UnixListener,
+    service: &mut Service<T>,
+    words: &ServeWords<'_>,
+) -> Result<Ended, Ended> {
+    for number in 1..=u32::from(words.connections) {
+        match listener.accept() {
+            Ok((stream, _)) => serve_connection(rt, number, &stream, service)?,
+            Err(_) => return Err(refused(eprintln!(rt; "refused: socket: {}", words.socket))),
+        }
+    }
+    Ok(Ended::Yes)
+}
+
+/// Serves one connection, and prints how it ended.
+fn serve_connection<T: ComposeTable>(
+    rt: &(impl Print + Eprint + AllocGlobal),
+    number: u32,
+    stream: &UnixStream,
+    service: &mut Service<T>,
+) -> Result<(), Ended> {
+    let ended = serve(
+        service,
+        rt.alloc(),
+        &mut Device::new(stream),
+        &mut Device::new(stream),
+    );
+    let Ok(line) = connection_line(rt.alloc(), number, ended) else {
+        return Err(no_memory(rt));
+    };
+    match written(rt, print!(rt; "{line}"), Ended::Yes) {
+        Ended::Yes => Ok(()),
+        other => Err(other),
+    }
+}
