@@ -1,16 +1,17 @@
 #!/usr/bin/env python3
-"""refusals.py PROGRAM: some cases of tests/cases again, with each allocation of a run refused in turn.
+"""refusals.py PROGRAM: some cases of tests/cases again, with each allocation of a run refused in turn, and some with a stream that
+can't be written.
 
 A library that is preloaded (tests/refuse.c) refuses them. A run gives the same answer as with ample memory, where it can do
-without, or else it ends with status 3, prints nothing to standard output, and to standard error nothing but that memory is
-out. A case is one test. The last line is `N passed, M failed`."""
+without, or else it ends with status 3, prints nothing to standard output, and to standard error nothing but `out of memory`.
+A case is one test. Output or help that can't be written is refused, with status 2, and a refusal keeps its status. The last line is `N passed, M failed`."""
 import concurrent.futures
 import os
 import subprocess
 import sys
 import tempfile
 
-from run import CASES, prepare, read
+from run import Case
 
 CLANG = "/opt/rattle/toolchain/bin/clang"
 SOURCE = os.path.join(os.path.dirname(os.path.abspath(__file__)), "refuse.c")
@@ -30,7 +31,21 @@ NAMES = [
     "words-help-for-type",
     "words-missing-files",
 ]
-OUT_OF_MEMORY = [(3, b"", b"out of memory\n"), (3, b"", b"")]
+OUT_OF_MEMORY = (3, b"", b"out of memory\n")
+
+
+# A case, the stream that can't be written, and the status and standard error of the run.
+FULL = [
+    ("make-fresh-dead-key", "stdout", 2, b"refused: output\n"),
+    ("explain-cancels", "stdout", 2, b"refused: output\n"),
+    ("check-key-types-itself", "stdout", 2, b"refused: output\n"),
+    ("words-help-for-type", "stdout", 2, b"refused: output\n"),
+    ("words-version", "stdout", 2, b"refused: output\n"),
+    ("overlap-refused", "stderr", 2, None),
+    ("words-missing-files", "stderr", 2, None),
+    ("missing-manifest", "stderr", 2, None),
+    ("words-not-utf8", "stderr", 2, None),
+]
 
 
 def compile_library(folder):
@@ -59,15 +74,25 @@ def answer(command, folder, library, **words):
 
 def refuse_each(program, library, name):
     """How many allocations the case asks for, and what is answered wrongly where one is refused, with its number."""
-    case = os.path.join(CASES, name)
-    command = [program] + read(os.path.join(case, "args")).decode().splitlines()
+    case = Case(name)
+    command = [program] + case.args
     with tempfile.TemporaryDirectory() as folder, tempfile.TemporaryFile() as count:
-        prepare(case, folder)
+        case.prepare(folder)
         right = answer(command, folder, library, COUNT_TO=count.fileno())
         count.seek(0)
         allocations = int(count.read())
         answers = [(number, answer(command, folder, library, REFUSE=number)) for number in range(1, allocations + 1)]
-    return allocations, [(number, got) for number, got in answers if got not in [right] + OUT_OF_MEMORY]
+    return allocations, [(number, got) for number, got in answers if got not in [right, OUT_OF_MEMORY]]
+
+
+def write_to_full(program, name, stream):
+    """The status of a run of the case whose stream can't be written, and what it prints to standard error, if that can be."""
+    case = Case(name)
+    with tempfile.TemporaryDirectory() as folder, open("/dev/full", "wb") as full:
+        case.prepare(folder)
+        streams = {"stdout": subprocess.PIPE, "stderr": subprocess.PIPE} | {stream: full}
+        ran = subprocess.run(["composecheck"] + case.args, executable=program, cwd=folder, stdin=subprocess.DEVNULL, timeout=60, **streams)
+    return ran.returncode, ran.stderr
 
 
 def main():
@@ -81,7 +106,12 @@ def main():
                 print(f"FAILED {os.path.basename(program)}: {name}, of whose {allocations} allocations one is refused")
                 for number, got in wrong[:5]:
                     print(f"    {number}: got {got!r:.300}")
-    print(f"{len(NAMES) - failed} passed, {failed} failed")
+    for name, stream, status, stderr in FULL:
+        got = write_to_full(program, name, stream)
+        if got != (status, stderr):
+            failed += 1
+            print(f"FAILED {os.path.basename(program)}: {name}, whose {stream} can't be written: got {got!r}")
+    print(f"{len(NAMES) + len(FULL) - failed} passed, {failed} failed")
     return 1 if failed else 0
 
 

@@ -1,58 +1,70 @@
 #!/usr/bin/env python3
 """run.py PROGRAM [WORD]: runs the program, as `composecheck`, on the cases of tests/cases, or on those with the word in their name.
 
-A case is a folder. Its file `args` has the arguments, one a line; `files` is a folder that is copied to where the
-program runs (or `files.py` a script that writes the files there); `stdout`, `stderr` and `status` are what is expected,
-nothing and 0 where they are missing. The last line is `N passed, M failed`."""
+A case is one text file, NAME.case, whose form tests/README.md says. The last line is `N passed, M failed`."""
 import concurrent.futures
 import os
-import shutil
+import re
+import shlex
 import subprocess
 import sys
 import tempfile
 
 CASES = os.path.join(os.path.dirname(os.path.abspath(__file__)), "cases")
+SECTION = re.compile(rb"^-- (.+?)( without a last newline)? --\n", re.MULTILINE)
+EXPECTED = ["stdout", "stderr", "status"]
 
 
-def read(path):
-    """The bytes of a file, or none where it is missing."""
-    if not os.path.exists(path):
-        return b""
-    with open(path, "rb") as file:
-        return file.read()
+class Case:
+    """The arguments, the files by their paths (`files.py` is a script that writes some), and what is expected of a run."""
+
+    def __init__(self, name):
+        with open(os.path.join(CASES, name + ".case"), "rb") as file:
+            command, *parts = SECTION.split(file.read())
+        words = [os.fsencode(word) for word in shlex.split(os.fsdecode(command))]
+        assert words[0] == b"composecheck", name
+        self.args = words[1:]
+        sections = {}
+        for section, unended, text in zip(parts[0::3], parts[1::3], parts[2::3]):
+            sections[section.decode()] = text[:-1] if unended else text
+        self.expected = {
+            "stdout": sections.pop("stdout", b""),
+            "stderr": sections.pop("stderr", b""),
+            "status": int(sections.pop("status", b"0")),
+        }
+        self.files = sections
+
+    def prepare(self, folder):
+        """Puts the files of the case into the folder."""
+        for path, text in self.files.items():
+            with open(os.path.join(folder, path), "wb") as file:
+                file.write(text)
+        if "files.py" in self.files:
+            subprocess.run([sys.executable, "files.py"], cwd=folder, check=True)
 
 
-def prepare(case, folder):
-    """Puts the files of the case into the folder."""
-    if os.path.isdir(os.path.join(case, "files")):
-        shutil.copytree(os.path.join(case, "files"), folder, dirs_exist_ok=True)
-    script = os.path.join(case, "files.py")
-    if os.path.exists(script):
-        subprocess.run([sys.executable, script], cwd=folder, check=True)
+def case_names(word=""):
+    """The names of the cases that have the word."""
+    names = [name.removesuffix(".case") for name in sorted(os.listdir(CASES))]
+    return [name for name in names if word in name]
 
 
 def run(program, name):
     """What differs from what the case expects."""
-    case = os.path.join(CASES, name)
-    args = read(os.path.join(case, "args")).decode().splitlines()
-    expected = {
-        "stdout": read(os.path.join(case, "stdout")),
-        "stderr": read(os.path.join(case, "stderr")),
-        "status": int(read(os.path.join(case, "status")) or b"0"),
-    }
+    case = Case(name)
     with tempfile.TemporaryDirectory() as folder:
-        prepare(case, folder)
+        case.prepare(folder)
         ran = subprocess.run(
-            ["composecheck"] + args, executable=program, cwd=folder, stdin=subprocess.DEVNULL, capture_output=True, timeout=300
+            [b"composecheck"] + case.args, executable=program, cwd=folder, stdin=subprocess.DEVNULL, capture_output=True, timeout=300
         )
     got = {"stdout": ran.stdout, "stderr": ran.stderr, "status": ran.returncode}
-    return [f"{part}: got {got[part]!r:.400}, expected {expected[part]!r:.400}" for part in got if got[part] != expected[part]]
+    wanted = case.expected
+    return [f"{part}: got {got[part]!r:.400}, expected {wanted[part]!r:.400}" for part in EXPECTED if got[part] != wanted[part]]
 
 
 def main():
     program = os.path.abspath(sys.argv[1])
-    word = sys.argv[2] if len(sys.argv) > 2 else ""
-    names = [name for name in sorted(os.listdir(CASES)) if word in name]
+    names = case_names(sys.argv[2] if len(sys.argv) > 2 else "")
     failed = 0
     with concurrent.futures.ThreadPoolExecutor(os.cpu_count()) as pool:
         for name, differences in zip(names, pool.map(lambda name: run(program, name), names)):

@@ -1,9 +1,8 @@
-//! What the checker says of the worked migrations, over each form of a table.
+//! What the checker says of the worked migrations, over a table of each form.
 use crate::rows::{CHECKED, Row};
-use crate::tables::{one_source, table};
+use crate::tables::table;
 use compose_cert::{Certificate, Repertoire};
-use compose_check::{CheckInput, Verdict, check, check_bytes};
-use compose_model::Rule;
+use compose_check::{Verdict, check};
 use compose_tree::{ComposeTable, ListTable, PackedTable};
 use keysym_core::Names;
 use std::alloc::Global;
@@ -38,21 +37,6 @@ fn verdict_over<T: ComposeTable, U: ComposeTable>(
     printed(alloc, check(old, new, names, &repertoire, &certificate))
 }
 
-/// The verdict on the bytes of a row.
-fn verdict_on_bytes<T: ComposeTable>(alloc: Global, row: &Row) -> Result<String, Fail> {
-    let (old, new) = (one_source(alloc, row.old)?, one_source(alloc, row.new)?);
-    let input = CheckInput {
-        header: b"",
-        old: &old,
-        new: &new,
-        old_rule: Rule::Refuse,
-        new_rule: Rule::Refuse,
-        repertoire: row.repertoire.as_bytes(),
-        certificate: row.certificate.as_bytes(),
-    };
-    printed(alloc, check_bytes::<T>(alloc, &input)?)
-}
-
 /// The first row on which the verdict is another one.
 fn first_wrong<T: ComposeTable, U: ComposeTable>(
     alloc: Global,
@@ -66,29 +50,6 @@ fn first_wrong<T: ComposeTable, U: ComposeTable>(
     Ok(None)
 }
 
-/// The first row on whose bytes the verdict is another one.
-fn first_wrong_bytes(alloc: Global, rows: &[Row]) -> Result<Option<&'static str>, Fail> {
-    for row in rows {
-        if verdict_on_bytes::<PackedTable>(alloc, row)?.as_str() != row.says {
-            return Ok(Some(row.name));
-        }
-    }
-    Ok(None)
-}
-
-#[test]
-fn verdicts_over_both_tables(rt: HostRuntime) -> Result<(), Fail> {
-    assert_eq!(rt;
-        first_wrong::<ListTable, ListTable>(rt.alloc(), &CHECKED)?,
-        None
-    );
-    assert_eq!(rt;
-        first_wrong::<PackedTable, PackedTable>(rt.alloc(), &CHECKED)?,
-        None
-    );
-    Ok(())
-}
-
 #[test]
 fn verdicts_over_one_of_each(rt: HostRuntime) -> Result<(), Fail> {
     assert_eq!(rt;
@@ -99,11 +60,5 @@ fn verdicts_over_one_of_each(rt: HostRuntime) -> Result<(), Fail> {
         first_wrong::<PackedTable, ListTable>(rt.alloc(), &CHECKED)?,
         None
     );
-    Ok(())
-}
-
-#[test]
-fn verdicts_on_bytes(rt: HostRuntime) -> Result<(), Fail> {
-    assert_eq!(rt; first_wrong_bytes(rt.alloc(), &CHECKED)?, None);
     Ok(())
 }

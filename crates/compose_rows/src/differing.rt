@@ -1,4 +1,4 @@
-//! All differences of the worked tables, over each form of a table.
+//! All differences of the worked tables, over a table of each form.
 use crate::rows::{ALL_EXPLAINED, Explained};
 use crate::tables::table;
 use compose_tree::{ComposeTable, ListTable, PackedTable};
@@ -30,19 +30,6 @@ fn first_wrong<T: ComposeTable, U: ComposeTable>(
         }
     }
     Ok(None)
-}
-
-#[test]
-fn differences_over_both_tables(rt: HostRuntime) -> Result<(), Fail> {
-    assert_eq!(rt;
-        first_wrong::<ListTable, ListTable>(rt.alloc(), &ALL_EXPLAINED)?,
-        None
-    );
-    assert_eq!(rt;
-        first_wrong::<PackedTable, PackedTable>(rt.alloc(), &ALL_EXPLAINED)?,
-        None
-    );
-    Ok(())
 }
 
 #[test]

@@ -1,4 +1,4 @@
-//! The shortest keys on which the worked tables differ, over each form of a table.
+//! The shortest keys on which the worked tables differ, over a table of each form.
 use crate::rows::{EXPLAINED, Explained};
 use crate::tables::table;
 use compose_tree::{ComposeTable, ListTable, PackedTable};
@@ -42,19 +42,6 @@ fn first_wrong<T: ComposeTable, U: ComposeTable>(
         }
     }
     Ok(None)
-}
-
-#[test]
-fn evidence_over_both_tables(rt: HostRuntime) -> Result<(), Fail> {
-    assert_eq!(rt;
-        first_wrong::<ListTable, ListTable>(rt.alloc(), &EXPLAINED)?,
-        None
-    );
-    assert_eq!(rt;
-        first_wrong::<PackedTable, PackedTable>(rt.alloc(), &EXPLAINED)?,
-        None
-    );
-    Ok(())
 }
 
 #[test]

@@ -2,8 +2,9 @@
 use crate::tables::table;
 use compose_cert::{CertFault, RepertoireFault};
 use compose_check::{CheckFault, InputFault, check_fresh};
-use compose_read::ReadFault;
-use compose_tool::{KeyFault, MigrationFault, TypeFault};
+use compose_migration::{KeyFault, MigrationFault, Side};
+use compose_read::{ReadFault, SettleFault, SourceFault};
+use compose_tool::TypeFault;
 use compose_tree::{BuildFault, ComposeTable, ListTable, PackedTable, TableFault};
 use compose_walk::MakeFault;
 use keysym_core::{Keysym, NameFault, Names};
@@ -114,22 +115,25 @@ fn faults_of_inputs(rt: HostRuntime) -> Result<(), Fail> {
 fn faults_of_migrations(rt: HostRuntime) -> Result<(), Fail> {
     let faults = [
         (
-            MigrationFault::Old(TableFault::Read(ReadFault::MissingRoot)),
-            "1 Old: 1 Read: 1 MissingRoot",
+            MigrationFault::Names(NameFault::TooManyNames),
+            "1 Names: 5 TooManyNames",
+        ),
+        (MigrationFault::Key { index: 3 }, "2 Key index=3"),
+        (
+            MigrationFault::Table {
+                side: Side::Old,
+                fault: TableFault::Read(ReadFault::MissingRoot),
+            },
+            "3 Table side=old: 1 Read: 1 MissingRoot",
         ),
         (
-            MigrationFault::New(TableFault::Build(BuildFault::TooManyNodes)),
-            "2 New: 3 Build: 1 TooManyNodes",
+            MigrationFault::Table {
+                side: Side::New,
+                fault: TableFault::Build(BuildFault::TooManyNodes),
+            },
+            "3 Table side=new: 3 Build: 1 TooManyNodes",
         ),
-        (
-            MigrationFault::Repertoire(RepertoireFault::TooMany),
-            "3 Repertoire: 3 TooMany",
-        ),
-        (
-            MigrationFault::Fresh(MakeFault::TooManyFresh),
-            "4 Fresh: 3 TooManyFresh",
-        ),
-        (MigrationFault::NoMemory, "5 NoMemory"),
+        (MigrationFault::NoMemory, "4 NoMemory"),
     ];
     assert_eq!(rt; first_wrong(rt.alloc(), &faults)?, None);
     Ok(())
@@ -191,5 +195,26 @@ fn faults_of_fresh_keysyms(rt: HostRuntime) -> Result<(), Fail> {
         assert_eq!(rt; fault_of_fresh::<ListTable>(rt.alloc(), fresh)?, *fault);
         assert_eq!(rt; fault_of_fresh::<PackedTable>(rt.alloc(), fresh)?, *fault);
     }
+    Ok(())
+}
+
+#[test]
+fn memory_that_is_refused(rt: HostRuntime) -> Result<(), Fail> {
+    assert_eq!(rt;
+        first_wrong(rt.alloc(), &[(NameFault::NoMemory, "6 NoMemory")])?,
+        None
+    );
+    assert_eq!(rt;
+        first_wrong(rt.alloc(), &[(ReadFault::NoMemory, "10 NoMemory")])?,
+        None
+    );
+    assert_eq!(rt;
+        first_wrong(rt.alloc(), &[(SettleFault::NoMemory, "2 NoMemory")])?,
+        None
+    );
+    assert_eq!(rt;
+        first_wrong(rt.alloc(), &[(SourceFault::NoMemory, "3 NoMemory")])?,
+        None
+    );
     Ok(())
 }

@@ -1,4 +1,5 @@
-//! The worked examples that cross crates, run on both forms of a table and on one of each.
+//! What no case of tests/cases can show: an old and a new table of different forms, loads of a state, and printed faults that no command
+//! prints.
 #![tactic(auto)]
 
 #[cfg(test)]
@@ -17,9 +18,5 @@ mod making;
 mod rows;
 #[cfg(test)]
 mod tables;
-#[cfg(test)]
-mod tools;
-#[cfg(test)]
-mod typing;
 #[cfg(test)]
 mod typings;

@@ -1,13 +1,4 @@
-//! Typed keys and migrations, with the answers that were worked out by hand.
-
-/// Keys typed with the table of one source, and the lines that are printed.
-pub struct Typed {
-    pub name: &'static str,
-    pub manifest: &'static str,
-    pub table: &'static str,
-    pub keys: &'static str,
-    pub prints: &'static str,
-}
+//! Migrations, with the answers that were worked out by hand. What a case of tests/cases shows is not here.
 
 /// Two tables of one source each, and what is printed of the keys on which they differ.
 pub struct Explained {
@@ -38,203 +29,7 @@ pub struct Row {
 }
 
 #[rattlefmt::skip]
-pub static TYPED: [Typed; 16] = [
-    Typed {
-        name: "cancelling-key-is-swallowed",
-        manifest: "root\ttable.compose\n",
-        table: "<Multi_key> <apostrophe> <e> : \"é\" eacute # e acute\n",
-        keys: "Multi_key x e",
-        prints: "composing \"\"\ncancelled \"\"\nnothing \"e\"\n",
-    },
-    Typed {
-        name: "composes-e-acute",
-        manifest: "root\ttable.compose\n",
-        table: "<Multi_key> <apostrophe> <e> : \"é\" eacute # e acute\n",
-        keys: "Multi_key apostrophe e",
-        prints: "composing \"\"\ncomposing \"\"\ncomposed \"é\"\n",
-    },
-    Typed {
-        name: "events-32",
-        manifest: "root\ttable.compose\n",
-        table: "<a> <a> <a> <a> <a> <a> <a> <a> <a> <a> <a> <a> <a> <a> <a> <a> <a> <a> <a> <a> <a> <a> <a> <a> <a> <a> <a> <a> <a> <a> <a> <a> : \"x\"\n",
-        keys: "a",
-        prints: "composing \"\"\n",
-    },
-    Typed {
-        name: "key-forms",
-        manifest: "root\ttable.compose\n",
-        table: "<0xe9> : \"1\"\n<0x1000101> : \"2\"\n<0x101f600> : \"3\"\n<0x1fffffff> : \"4\"\n",
-        keys: "U00E9 U0101 U1F600 0x1fffffff",
-        prints: "composed \"1\"\ncomposed \"2\"\ncomposed \"3\"\ncomposed \"4\"\n",
-    },
-    Typed {
-        name: "keys-without-a-sequence",
-        manifest: "root\ttable.compose\n",
-        table: "",
-        keys: "a dead_acute",
-        prints: "nothing \"a\"\nnothing \"\"\n",
-    },
-    Typed {
-        name: "overlap-longest",
-        manifest: "overlap longest\nroot\ttable.compose\n",
-        table: "<a> <b> : \"x\"\n<a> : \"y\"\n",
-        keys: "a b a c",
-        prints: "composing \"\"\ncomposed \"x\"\ncomposing \"\"\ncancelled \"\"\n",
-    },
-    Typed {
-        name: "overlap-longest-of-three",
-        manifest: "overlap longest\nroot\ttable.compose\n",
-        table: "<a> : \"1\"\n<a> <b> <c> : \"2\"\n<a> <b> : \"3\"\n<a> <b> <c> : \"4\"\n",
-        keys: "a b c",
-        prints: "composing \"\"\ncomposing \"\"\ncomposed \"4\"\n",
-    },
-    Typed {
-        name: "shift-inside-a-sequence",
-        manifest: "root\ttable.compose\n",
-        table: "<Multi_key> <apostrophe> <e> : \"é\" eacute # e acute\n",
-        keys: "Multi_key Shift_L apostrophe e",
-        prints: "composing \"\"\nignored \"\"\ncomposing \"\"\ncomposed \"é\"\n",
-    },
-    Typed {
-        name: "text-four-octal-digits",
-        manifest: "root\ttable.compose\n",
-        table: "<a> : \"\\1234\"\n",
-        keys: "a",
-        prints: "composed \"S4\"\n",
-    },
-    Typed {
-        name: "text-hexadecimal",
-        manifest: "root\ttable.compose\n",
-        table: "<a> : \"\\xc3\\xa9\"\n",
-        keys: "a",
-        prints: "composed \"é\"\n",
-    },
-    Typed {
-        name: "text-newline-escape",
-        manifest: "root\ttable.compose\n",
-        table: "<a> : \"a\\n\"\n",
-        keys: "a",
-        prints: "composed \"a\\012\"\n",
-    },
-    Typed {
-        name: "text-octal",
-        manifest: "root\ttable.compose\n",
-        table: "<a> : \"\\303\\251\"\n",
-        keys: "a",
-        prints: "composed \"é\"\n",
-    },
-    Typed {
-        name: "text-of-255-bytes",
-        manifest: "root\ttable.compose\n",
-        table: "<a> : \"aaaaaaaaaaaaaaaaaaaaaaaaaaaaaaaaaaaaaaaaaaaaaaaaaaaaaaaaaaaaaaaaaaaaaaaaaaaaaaaaaaaaaaaaaaaaaaaaaaaaaaaaaaaaaaaaaaaaaaaaaaaaaaaaaaaaaaaaaaaaaaaaaaaaaaaaaaaaaaaaaaaaaaaaaaaaaaaaaaaaaaaaaaaaaaaaaaaaaaaaaaaaaaaaaaaaaaaaaaaaaaaaaaaaaaaaaaaaaaaaaaaaaaaaaaaaaaa\"\n",
-        keys: "a",
-        prints: "composed \"aaaaaaaaaaaaaaaaaaaaaaaaaaaaaaaaaaaaaaaaaaaaaaaaaaaaaaaaaaaaaaaaaaaaaaaaaaaaaaaaaaaaaaaaaaaaaaaaaaaaaaaaaaaaaaaaaaaaaaaaaaaaaaaaaaaaaaaaaaaaaaaaaaaaaaaaaaaaaaaaaaaaaaaaaaaaaaaaaaaaaaaaaaaaaaaaaaaaaaaaaaaaaaaaaaaaaaaaaaaaaaaaaaaaaaaaaaaaaaaaaaaaaaaaaaaaaaa\"\n",
-    },
-    Typed {
-        name: "text-plain",
-        manifest: "root\ttable.compose\n",
-        table: "<a> : \"é\"\n",
-        keys: "a",
-        prints: "composed \"é\"\n",
-    },
-    Typed {
-        name: "text-quote",
-        manifest: "root\ttable.compose\n",
-        table: "<a> : \"a\\\"b\"\n",
-        keys: "a",
-        prints: "composed \"a\\\"b\"\n",
-    },
-    Typed {
-        name: "text-three-hexadecimal-digits",
-        manifest: "root\ttable.compose\n",
-        table: "<a> : \"\\x414\"\n",
-        keys: "a",
-        prints: "composed \"A4\"\n",
-    },
-];
-
-#[rattlefmt::skip]
-pub static CHECKED: [Row; 27] = [
-    Row {
-        name: "check-bound-3",
-        old: "<Multi_key> <apostrophe> <e> : \"é\" eacute # e acute\n<dead_acute> <e> : \"é\"\n",
-        new: "<Multi_key> <apostrophe> <e> : \"é\" eacute # e acute\n<dead_acute> <e> : \"é\"\n<Multi_key> <apostrophe> <a> : \"á\"\n",
-        repertoire: "keys 0x20 0x7e\nkeys 0xfe51 0xfe51\nkeys 0xff20 0xff20\nU+00E1\nU+00E9\n",
-        certificate: "compose-certificate 1\nbound 3\npairs 4\n0 0\n1 1\n2 2\n3 3\ntypings 2\nU+00E1 ff20 27 61\nU+00E9 fe51 65\n",
-        says: "yes",
-    },
-    Row {
-        name: "check-bound-4",
-        old: "<Multi_key> <apostrophe> <e> : \"é\" eacute # e acute\n<dead_acute> <e> : \"é\"\n",
-        new: "<Multi_key> <apostrophe> <e> : \"é\" eacute # e acute\n<dead_acute> <e> : \"é\"\n<Multi_key> <apostrophe> <a> : \"á\"\n",
-        repertoire: "keys 0x20 0x7e\nkeys 0xfe51 0xfe51\nkeys 0xff20 0xff20\nU+00E1\nU+00E9\n",
-        certificate: "compose-certificate 1\nbound 4\npairs 4\n0 0\n1 1\n2 2\n3 3\ntypings 2\nU+00E1 ff20 27 61\nU+00E9 fe51 65\n",
-        says: "yes",
-    },
-    Row {
-        name: "check-bound-5",
-        old: "<Multi_key> <apostrophe> <e> : \"é\" eacute # e acute\n<dead_acute> <e> : \"é\"\n",
-        new: "<Multi_key> <apostrophe> <e> : \"é\" eacute # e acute\n<dead_acute> <e> : \"é\"\n<Multi_key> <apostrophe> <a> : \"á\"\n",
-        repertoire: "keys 0x20 0x7e\nkeys 0xfe51 0xfe51\nkeys 0xff20 0xff20\nU+00E1\nU+00E9\n",
-        certificate: "compose-certificate 1\nbound 5\npairs 4\n0 0\n1 1\n2 2\n3 3\ntypings 2\nU+00E1 ff20 27 61\nU+00E9 fe51 65\n",
-        says: "yes",
-    },
-    Row {
-        name: "check-bound-6",
-        old: "<Multi_key> <apostrophe> <e> : \"é\" eacute # e acute\n<dead_acute> <e> : \"é\"\n",
-        new: "<Multi_key> <apostrophe> <e> : \"é\" eacute # e acute\n<dead_acute> <e> : \"é\"\n<Multi_key> <apostrophe> <a> : \"á\"\n",
-        repertoire: "keys 0x20 0x7e\nkeys 0xfe51 0xfe51\nkeys 0xff20 0xff20\nU+00E1\nU+00E9\n",
-        certificate: "compose-certificate 1\nbound 6\npairs 4\n0 0\n1 1\n2 2\n3 3\ntypings 2\nU+00E1 ff20 27 61\nU+00E9 fe51 65\n",
-        says: "yes",
-    },
-    Row {
-        name: "check-bound-7",
-        old: "<Multi_key> <apostrophe> <e> : \"é\" eacute # e acute\n<dead_acute> <e> : \"é\"\n",
-        new: "<Multi_key> <apostrophe> <e> : \"é\" eacute # e acute\n<dead_acute> <e> : \"é\"\n<Multi_key> <apostrophe> <a> : \"á\"\n",
-        repertoire: "keys 0x20 0x7e\nkeys 0xfe51 0xfe51\nkeys 0xff20 0xff20\nU+00E1\nU+00E9\n",
-        certificate: "compose-certificate 1\nbound 7\npairs 4\n0 0\n1 1\n2 2\n3 3\ntypings 2\nU+00E1 ff20 27 61\nU+00E9 fe51 65\n",
-        says: "yes",
-    },
-    Row {
-        name: "check-bound-8",
-        old: "<Multi_key> <apostrophe> <e> : \"é\" eacute # e acute\n<dead_acute> <e> : \"é\"\n",
-        new: "<Multi_key> <apostrophe> <e> : \"é\" eacute # e acute\n<dead_acute> <e> : \"é\"\n<Multi_key> <apostrophe> <a> : \"á\"\n",
-        repertoire: "keys 0x20 0x7e\nkeys 0xfe51 0xfe51\nkeys 0xff20 0xff20\nU+00E1\nU+00E9\n",
-        certificate: "compose-certificate 1\nbound 8\npairs 4\n0 0\n1 1\n2 2\n3 3\ntypings 2\nU+00E1 ff20 27 61\nU+00E9 fe51 65\n",
-        says: "yes",
-    },
-    Row {
-        name: "check-bound-9",
-        old: "<Multi_key> <apostrophe> <e> : \"é\" eacute # e acute\n<dead_acute> <e> : \"é\"\n",
-        new: "<Multi_key> <apostrophe> <e> : \"é\" eacute # e acute\n<dead_acute> <e> : \"é\"\n<Multi_key> <apostrophe> <a> : \"á\"\n",
-        repertoire: "keys 0x20 0x7e\nkeys 0xfe51 0xfe51\nkeys 0xff20 0xff20\nU+00E1\nU+00E9\n",
-        certificate: "compose-certificate 1\nbound 9\npairs 4\n0 0\n1 1\n2 2\n3 3\ntypings 2\nU+00E1 ff20 27 61\nU+00E9 fe51 65\n",
-        says: "yes",
-    },
-    Row {
-        name: "check-bound-exceeded",
-        old: "<Multi_key> <apostrophe> <e> : \"é\" eacute # e acute\n<dead_acute> <e> : \"é\"\n",
-        new: "<Multi_key> <apostrophe> <e> : \"é\" eacute # e acute\n<dead_acute> <e> : \"é\"\n<Multi_key> <apostrophe> <a> : \"á\"\n",
-        repertoire: "keys 0x20 0x7e\nkeys 0xfe51 0xfe51\nkeys 0xff20 0xff20\nU+00E1\nU+00E9\n",
-        certificate: "compose-certificate 1\nbound 1\npairs 4\n0 0\n1 1\n2 2\n3 3\ntypings 2\nU+00E1 ff20 27 61\nU+00E9 fe51 65\n",
-        says: "no: 9 BoundExceeded node=3",
-    },
-    Row {
-        name: "check-cancels",
-        old: "<dead_grave> <dead_acute> <c> : \"c\"\n",
-        new: "<dead_grave> <d> : \"y\"\n",
-        repertoire: "",
-        certificate: "compose-certificate 1\nbound 1\npairs 2\n0 0\n1 1\ntypings 0\n",
-        says: "no: 6 Cancels pair=1 keysym=0xfe51",
-    },
-    Row {
-        name: "check-dropped-sequence",
-        old: "<dead_grave> <dead_acute> <e> : \"x\"\n<dead_acute> <e> : \"x\"\n",
-        new: "<dead_acute> <e> : \"x\"\n",
-        repertoire: "",
-        certificate: "compose-certificate 1\nbound 1\npairs 4\n0 0\n1 0\n2 1\n3 1\ntypings 0\n",
-        says: "yes",
-    },
+pub static CHECKED: [Row; 2] = [
     Row {
         name: "check-fresh-dead-key",
         old: "<Multi_key> <apostrophe> <e> : \"é\" eacute # e acute\n",
@@ -244,62 +39,6 @@ pub static CHECKED: [Row; 27] = [
         says: "yes",
     },
     Row {
-        name: "check-fresh-ignored",
-        old: "<Multi_key> <apostrophe> <e> : \"é\" eacute # e acute\n",
-        new: "<Multi_key> <apostrophe> <e> : \"é\" eacute # e acute\n<dead_caron> <c> : \"č\"\n",
-        repertoire: "",
-        certificate: "compose-certificate 2\nbound 2\npairs 3\n0 0\n1 2\n2 3\ntypings 0\nfresh 1\nffe1\n",
-        says: "no: 14 FreshIgnored keysym=0xffe1",
-    },
-    Row {
-        name: "check-fresh-not-rising",
-        old: "<Multi_key> <apostrophe> <e> : \"é\" eacute # e acute\n",
-        new: "<Multi_key> <apostrophe> <e> : \"é\" eacute # e acute\n<dead_caron> <c> : \"č\"\n",
-        repertoire: "",
-        certificate: "compose-certificate 2\nbound 2\npairs 3\n0 0\n1 2\n2 3\ntypings 0\nfresh 2\nfe5a\nfe5a\n",
-        says: "no: 13 FreshNotRising",
-    },
-    Row {
-        name: "check-fresh-used",
-        old: "<Multi_key> <apostrophe> <e> : \"é\" eacute # e acute\n",
-        new: "<Multi_key> <apostrophe> <e> : \"é\" eacute # e acute\n<dead_caron> <c> : \"č\"\n",
-        repertoire: "",
-        certificate: "compose-certificate 2\nbound 2\npairs 3\n0 0\n1 2\n2 3\ntypings 0\nfresh 1\nff20\n",
-        says: "no: 15 FreshUsed keysym=0xff20",
-    },
-    Row {
-        name: "check-greatest-bound",
-        old: "<dead_grave> <dead_acute> <e> : \"x\"\n<dead_acute> <e> : \"x\"\n",
-        new: "<dead_acute> <e> : \"x\"\n",
-        repertoire: "",
-        certificate: "compose-certificate 1\nbound 4294967295\npairs 4\n0 0\n1 0\n2 1\n3 1\ntypings 0\n",
-        says: "yes",
-    },
-    Row {
-        name: "check-key-types-itself",
-        old: "<a> : \"a\"\n",
-        new: "",
-        repertoire: "",
-        certificate: "compose-certificate 1\nbound 0\npairs 1\n0 0\ntypings 0\n",
-        says: "yes",
-    },
-    Row {
-        name: "check-new-start",
-        old: "<Multi_key> <apostrophe> <e> : \"é\" eacute # e acute\n",
-        new: "<Multi_key> <apostrophe> <e> : \"é\" eacute # e acute\n<dead_caron> <c> : \"č\"\n",
-        repertoire: "",
-        certificate: "compose-certificate 1\nbound 2\npairs 3\n0 0\n1 2\n2 3\ntypings 0\n",
-        says: "no: 5 NewStart keysym=0xfe5a",
-    },
-    Row {
-        name: "check-node-out-of-range",
-        old: "<Multi_key> <apostrophe> <e> : \"é\" eacute # e acute\n<dead_acute> <e> : \"é\"\n",
-        new: "<Multi_key> <apostrophe> <e> : \"é\" eacute # e acute\n<dead_acute> <e> : \"é\"\n<Multi_key> <apostrophe> <a> : \"á\"\n",
-        repertoire: "keys 0x20 0x7e\nkeys 0xfe51 0xfe51\nkeys 0xff20 0xff20\nU+00E1\nU+00E9\n",
-        certificate: "compose-certificate 1\nbound 2\npairs 4\n0 0\n1 1\n2 2\n3 4\ntypings 2\nU+00E1 ff20 27 61\nU+00E9 fe51 65\n",
-        says: "no: 2 NodeOutOfRange",
-    },
-    Row {
         name: "check-pair-missing",
         old: "<Multi_key> <apostrophe> <e> : \"é\" eacute # e acute\n<dead_acute> <e> : \"é\"\n",
         new: "<Multi_key> <apostrophe> <e> : \"é\" eacute # e acute\n<dead_acute> <e> : \"é\"\n<Multi_key> <apostrophe> <a> : \"á\"\n",
@@ -307,74 +46,10 @@ pub static CHECKED: [Row; 27] = [
         certificate: "compose-certificate 1\nbound 2\npairs 3\n0 0\n1 1\n2 2\ntypings 2\nU+00E1 ff20 27 61\nU+00E9 fe51 65\n",
         says: "no: 8 PairMissing pair=2 keysym=0x27",
     },
-    Row {
-        name: "check-pairs-not-rising",
-        old: "<Multi_key> <apostrophe> <e> : \"é\" eacute # e acute\n<dead_acute> <e> : \"é\"\n",
-        new: "<Multi_key> <apostrophe> <e> : \"é\" eacute # e acute\n<dead_acute> <e> : \"é\"\n<Multi_key> <apostrophe> <a> : \"á\"\n",
-        repertoire: "keys 0x20 0x7e\nkeys 0xfe51 0xfe51\nkeys 0xff20 0xff20\nU+00E1\nU+00E9\n",
-        certificate: "compose-certificate 1\nbound 2\npairs 4\n0 0\n2 2\n1 1\n3 3\ntypings 2\nU+00E1 ff20 27 61\nU+00E9 fe51 65\n",
-        says: "no: 1 PairsNotRising",
-    },
-    Row {
-        name: "check-rest-broken",
-        old: "<Multi_key> <apostrophe> <e> : \"é\" eacute # e acute\n<dead_acute> <e> : \"é\"\n",
-        new: "<Multi_key> <apostrophe> <e> : \"é\" eacute # e acute\n<dead_acute> <e> : \"é\"\n<Multi_key> <apostrophe> <a> : \"á\"\n",
-        repertoire: "keys 0x20 0x7e\nkeys 0xfe51 0xfe51\nkeys 0xff20 0xff20\nU+00E1\nU+00E9\n",
-        certificate: "compose-certificate 1\nbound 2\npairs 5\n0 0\n0 1\n1 1\n2 2\n3 3\ntypings 2\nU+00E1 ff20 27 61\nU+00E9 fe51 65\n",
-        says: "no: 4 RestBroken",
-    },
-    Row {
-        name: "check-root-pair-missing",
-        old: "<Multi_key> <apostrophe> <e> : \"é\" eacute # e acute\n<dead_acute> <e> : \"é\"\n",
-        new: "<Multi_key> <apostrophe> <e> : \"é\" eacute # e acute\n<dead_acute> <e> : \"é\"\n<Multi_key> <apostrophe> <a> : \"á\"\n",
-        repertoire: "keys 0x20 0x7e\nkeys 0xfe51 0xfe51\nkeys 0xff20 0xff20\nU+00E1\nU+00E9\n",
-        certificate: "compose-certificate 1\nbound 2\npairs 3\n1 1\n2 2\n3 3\ntypings 2\nU+00E1 ff20 27 61\nU+00E9 fe51 65\n",
-        says: "no: 3 RootPairMissing",
-    },
-    Row {
-        name: "check-text-differs",
-        old: "<Multi_key> <apostrophe> <e> : \"é\" eacute # e acute\n<dead_acute> <e> : \"é\"\n",
-        new: "<Multi_key> <apostrophe> <e> : \"é\" eacute # e acute\n<Multi_key> <apostrophe> <a> : \"á\"\n",
-        repertoire: "",
-        certificate: "compose-certificate 1\nbound 2\npairs 4\n0 0\n1 0\n2 1\n3 2\ntypings 0\n",
-        says: "no: 7 TextDiffers pair=1 keysym=0x65",
-    },
-    Row {
-        name: "check-two-characters",
-        old: "<Multi_key> <apostrophe> <e> : \"é\" eacute # e acute\n<dead_acute> <e> : \"é\"\n",
-        new: "<Multi_key> <apostrophe> <e> : \"é\" eacute # e acute\n<dead_acute> <e> : \"é\"\n<Multi_key> <apostrophe> <a> : \"á\"\n",
-        repertoire: "keys 0x20 0x7e\nkeys 0xfe51 0xfe51\nkeys 0xff20 0xff20\nU+00E1\nU+00E9\n",
-        certificate: "compose-certificate 1\nbound 2\npairs 4\n0 0\n1 1\n2 2\n3 3\ntypings 2\nU+00E1 ff20 27 61\nU+00E9 fe51 65\n",
-        says: "yes",
-    },
-    Row {
-        name: "check-typing-missing",
-        old: "<Multi_key> <apostrophe> <e> : \"é\" eacute # e acute\n<dead_acute> <e> : \"é\"\n",
-        new: "<Multi_key> <apostrophe> <e> : \"é\" eacute # e acute\n<dead_acute> <e> : \"é\"\n<Multi_key> <apostrophe> <a> : \"á\"\n",
-        repertoire: "keys 0x20 0x7e\nkeys 0xfe51 0xfe51\nkeys 0xff20 0xff20\nU+00E1\nU+00E9\n",
-        certificate: "compose-certificate 1\nbound 2\npairs 4\n0 0\n1 1\n2 2\n3 3\ntypings 1\nU+00E9 fe51 65\n",
-        says: "no: 10 TypingMissing char=U+00E1",
-    },
-    Row {
-        name: "check-typing-unasked",
-        old: "<Multi_key> <apostrophe> <e> : \"é\" eacute # e acute\n<dead_acute> <e> : \"é\"\n",
-        new: "<Multi_key> <apostrophe> <e> : \"é\" eacute # e acute\n<dead_acute> <e> : \"é\"\n<Multi_key> <apostrophe> <a> : \"á\"\n",
-        repertoire: "keys 0x20 0x7e\nkeys 0xfe51 0xfe51\nkeys 0xff20 0xff20\nU+00E1\nU+00E9\n",
-        certificate: "compose-certificate 1\nbound 2\npairs 4\n0 0\n1 1\n2 2\n3 3\ntypings 3\nU+00E1 ff20 27 61\nU+00E9 fe51 65\nU+00EA 61\n",
-        says: "no: 12 TypingUnasked char=U+00EA",
-    },
-    Row {
-        name: "check-typing-wrong",
-        old: "<Multi_key> <apostrophe> <e> : \"é\" eacute # e acute\n<dead_acute> <e> : \"é\"\n",
-        new: "<Multi_key> <apostrophe> <e> : \"é\" eacute # e acute\n<dead_acute> <e> : \"é\"\n<Multi_key> <apostrophe> <a> : \"á\"\n",
-        repertoire: "keys 0x20 0x7e\nkeys 0xfe51 0xfe51\nkeys 0xff20 0xff20\nU+00E1\nU+00E9\n",
-        certificate: "compose-certificate 1\nbound 2\npairs 4\n0 0\n1 1\n2 2\n3 3\ntypings 2\nU+00E1 ff20 27 61\nU+00E9 78 fe51 65\n",
-        says: "no: 11 TypingWrong char=U+00E9",
-    },
 ];
 
 #[rattlefmt::skip]
-pub static EXPLAINED: [Explained; 10] = [
+pub static EXPLAINED: [Explained; 2] = [
     Explained {
         name: "explain-cancels",
         old: "<dead_grave> <dead_acute> <c> : \"c\"\n",
@@ -382,58 +57,10 @@ pub static EXPLAINED: [Explained; 10] = [
         prints: "keys dead_grave dead_acute\nkind cancelled\nold \"\"\nnew \"\"\n",
     },
     Explained {
-        name: "explain-dropped-sequence",
-        old: "<dead_grave> <dead_acute> <e> : \"x\"\n<dead_acute> <e> : \"x\"\n",
-        new: "<dead_acute> <e> : \"x\"\n",
-        prints: "follows\n",
-    },
-    Explained {
-        name: "explain-least-of-the-shortest",
-        old: "<dead_grave> <a> : \"x\"\n<dead_circumflex> : \"z\"\n<dead_acute> : \"y\"\n",
-        new: "",
-        prints: "keys dead_acute\nkind text\nold \"y\"\nnew \"\"\n",
-    },
-    Explained {
         name: "explain-new-start",
         old: "<Multi_key> <apostrophe> <e> : \"é\" eacute # e acute\n",
         new: "<Multi_key> <apostrophe> <e> : \"é\" eacute # e acute\n<dead_caron> <c> : \"č\"\n",
         prints: "keys dead_caron\nkind waiting\nold \"\"\nnew \"\"\n",
-    },
-    Explained {
-        name: "explain-text-differs",
-        old: "<Multi_key> <apostrophe> <e> : \"é\" eacute # e acute\n<dead_acute> <e> : \"é\"\n",
-        new: "<Multi_key> <apostrophe> <e> : \"é\" eacute # e acute\n<Multi_key> <apostrophe> <a> : \"á\"\n",
-        prints: "keys dead_acute e\nkind text\nold \"é\"\nnew \"e\"\n",
-    },
-    Explained {
-        name: "prints-a-character-form",
-        old: "",
-        new: "<0x1000101> <a> : \"x\"\n",
-        prints: "keys U0101\nkind text\nold \"ā\"\nnew \"\"\n",
-    },
-    Explained {
-        name: "prints-a-name",
-        old: "",
-        new: "<0x20> <a> : \"x\"\n",
-        prints: "keys space\nkind text\nold \" \"\nnew \"\"\n",
-    },
-    Explained {
-        name: "prints-a-number-form",
-        old: "",
-        new: "<0x100d800> <a> : \"x\"\n",
-        prints: "keys 0x100d800\nkind waiting\nold \"\"\nnew \"\"\n",
-    },
-    Explained {
-        name: "prints-no-symbol",
-        old: "",
-        new: "<0x0> <a> : \"x\"\n",
-        prints: "keys NoSymbol\nkind waiting\nold \"\"\nnew \"\"\n",
-    },
-    Explained {
-        name: "prints-the-first-name",
-        old: "",
-        new: "<0x27> <a> : \"x\"\n",
-        prints: "keys apostrophe\nkind text\nold \"'\"\nnew \"\"\n",
     },
 ];
 
@@ -472,15 +99,7 @@ pub static ALL_EXPLAINED: [Explained; 5] = [
 ];
 
 #[rattlefmt::skip]
-pub static MADE: [Asked; 6] = [
-    Asked {
-        name: "make-dropped-sequence",
-        old: "<dead_grave> <dead_acute> <e> : \"x\"\n<dead_acute> <e> : \"x\"\n",
-        new: "<dead_acute> <e> : \"x\"\n",
-        repertoire: "",
-        fresh: "",
-        prints: "compose-certificate 1\nbound 1\npairs 4\n0 0\n1 0\n2 1\n3 1\ntypings 0\n",
-    },
+pub static MADE: [Asked; 2] = [
     Asked {
         name: "make-fresh-dead-key",
         old: "<Multi_key> <apostrophe> <e> : \"é\" eacute # e acute\n",
@@ -488,30 +107,6 @@ pub static MADE: [Asked; 6] = [
         repertoire: "",
         fresh: "dead_caron",
         prints: "compose-certificate 2\nbound 2\npairs 3\n0 0\n1 2\n2 3\ntypings 0\nfresh 1\nfe5a\n",
-    },
-    Asked {
-        name: "make-key-types-itself",
-        old: "<a> : \"a\"\n",
-        new: "",
-        repertoire: "",
-        fresh: "",
-        prints: "compose-certificate 1\nbound 0\npairs 1\n0 0\ntypings 0\n",
-    },
-    Asked {
-        name: "make-text-differs",
-        old: "<Multi_key> <apostrophe> <e> : \"é\" eacute # e acute\n<dead_acute> <e> : \"é\"\n",
-        new: "<Multi_key> <apostrophe> <e> : \"é\" eacute # e acute\n<Multi_key> <apostrophe> <a> : \"á\"\n",
-        repertoire: "",
-        fresh: "",
-        prints: "keys dead_acute e\nkind text\nold \"é\"\nnew \"e\"\n",
-    },
-    Asked {
-        name: "make-two-characters",
-        old: "<Multi_key> <apostrophe> <e> : \"é\" eacute # e acute\n<dead_acute> <e> : \"é\"\n",
-        new: "<Multi_key> <apostrophe> <e> : \"é\" eacute # e acute\n<dead_acute> <e> : \"é\"\n<Multi_key> <apostrophe> <a> : \"á\"\n",
-        repertoire: "keys 0x20 0x7e\nkeys 0xfe51 0xfe51\nkeys 0xff20 0xff20\nU+00E1\nU+00E9\n",
-        fresh: "",
-        prints: "compose-certificate 1\nbound 2\npairs 4\n0 0\n1 1\n2 2\n3 3\ntypings 2\nU+00E1 ff20 27 61\nU+00E9 fe51 65\n",
     },
     Asked {
         name: "make-unreachable",

@@ -1,7 +1,7 @@
 //! Tables of one source, and fresh keysyms.
+use compose_migration::look_up_keys;
 use compose_model::Rule;
 use compose_read::Sources;
-use compose_tool::fresh_keysyms;
 use compose_tree::{ComposeTable, read_table};
 use keysym_core::{Keysym, Names};
 use std::alloc::Global;
@@ -20,10 +20,10 @@ pub fn table<T: ComposeTable>(alloc: Global, names: &Names, text: &str) -> Resul
     Ok(read_table(alloc, names, &sources, "root", Rule::Refuse)?)
 }
 
-/// The fresh keysyms of a row, which has none or some.
-pub fn fresh_of(alloc: Global, names: &Names, words: &str) -> Result<Vec<Keysym>, Fail> {
-    if words.is_empty() {
+/// The fresh keysyms of a row, which has none or one.
+pub fn fresh_of(alloc: Global, names: &Names, word: &str) -> Result<Vec<Keysym>, Fail> {
+    if word.is_empty() {
         return Ok(Vec::new(alloc));
     }
-    Ok(fresh_keysyms(alloc, names, words)?)
+    Ok(look_up_keys(alloc, names, &[word])?)
 }
