@@ -1,33 +1,53 @@
-# `make` proves and builds ./composecheck; `make test` is the gate; `make install PREFIX=/usr/local` installs.
+# `make` proves and builds ./composecheck; `make test` is the gate; `make install PREFIX=/usr/local` installs, `make uninstall` takes it away.
+# `make dist` and `make deb` pack the proved program for others, in packages/.
+# `make test-whole` is the gate with each must-fail edit in a check of its own, as the kit's `rt ci` tries them: for a release.
 # `make real` runs the program on the tables that Debian ships, `make bench` measures it; both prove and build ./compose_bench too.
 PREFIX = /usr/local
-SOURCES = $(wildcard crates/*/src/*.rt crates/*/specs/*.antt crates/*/proofs/*.antt) crates.txt
+SOURCES = $(shell find crates -name out -prune -o '(' -name '*.rt' -o -name '*.antt' ')' -print) crates.txt
 
 all: composecheck
 
 composecheck: $(SOURCES)
-	cd crates/composecheck && rt run -- --version
+	python3 tests/build.py composecheck --version
 	cp crates/composecheck/out/composecheck composecheck
 
 compose_bench: $(SOURCES)
-	cd crates/compose_bench && rt run -- names ../../share/composecheck/short-unicode-names.h
+	python3 tests/build.py compose_bench names ../../share/composecheck/short-unicode-names.h
 	cp crates/compose_bench/out/compose_bench compose_bench
 
 test:
 	python3 tests/gate.py
 
+test-whole:
+	python3 tests/gate.py --whole
+
 install: composecheck
 	install -D composecheck $(DESTDIR)$(PREFIX)/bin/composecheck
 	install -D -m 644 docs/composecheck.1 $(DESTDIR)$(PREFIX)/share/man/man1/composecheck.1
-	install -D -m 644 share/composecheck/short-unicode-names.h $(DESTDIR)$(PREFIX)/share/composecheck/short-unicode-names.h
+	install -D -m 644 docs/composecheck.5 $(DESTDIR)$(PREFIX)/share/man/man5/composecheck.5
+	install -D -m 644 -t $(DESTDIR)$(PREFIX)/share/composecheck share/composecheck/*
+	install -D -m 644 share/composecheck/composecheck.service $(DESTDIR)$(PREFIX)/lib/systemd/user/composecheck.service
+	install -D -m 644 share/completions/composecheck.bash $(DESTDIR)$(PREFIX)/share/bash-completion/completions/composecheck
+	install -D -m 644 share/completions/_composecheck $(DESTDIR)$(PREFIX)/share/zsh/site-functions/_composecheck
+	install -D -m 644 share/completions/composecheck.fish $(DESTDIR)$(PREFIX)/share/fish/vendor_completions.d/composecheck.fish
+
+uninstall:
+	rm -rf $(DESTDIR)$(PREFIX)/share/composecheck
+	rm -f $(DESTDIR)$(PREFIX)/bin/composecheck $(DESTDIR)$(PREFIX)/share/man/man1/composecheck.1 $(DESTDIR)$(PREFIX)/share/man/man5/composecheck.5
+	rm -f $(DESTDIR)$(PREFIX)/lib/systemd/user/composecheck.service $(DESTDIR)$(PREFIX)/share/bash-completion/completions/composecheck
+	rm -f $(DESTDIR)$(PREFIX)/share/zsh/site-functions/_composecheck $(DESTDIR)$(PREFIX)/share/fish/vendor_completions.d/composecheck.fish
+
+dist deb: composecheck
+	python3 packaging/package.py $@ ./composecheck packages
 
 real: composecheck compose_bench
 	python3 tests/real.py ./composecheck ./compose_bench
 
 bench: composecheck compose_bench
 	python3 bench/run.py ./composecheck ./compose_bench
+	python3 bench/service.py ./composecheck
 
 clean:
-	rm -rf composecheck compose_bench crates/*/out
+	rm -rf composecheck compose_bench packages crates/*/out
 
-.PHONY: all test install real bench clean
+.PHONY: all test test-whole install uninstall dist deb real bench clean

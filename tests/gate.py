@@ -1,17 +1,34 @@
 #!/usr/bin/env python3
-"""The gate: `rt ci` from nothing, then the command-line cases against both built programs, `composecheck` and the same on the
-plain form of a table, some of them again with each allocation refused in turn, and the second reading of lines against
-`composecheck`.
+"""The gate, from nothing:
 
-The last line is `N passed, M failed` over all."""
+  - the runner of must-fail edits against a small crate of its own (edits_test.py),
+  - `rt ci`, with the edits tried over the proofs that it has just made (proofs.py),
+  - the command-line cases against both built programs, `composecheck` and the same on the plain form of a table, some of them again
+    with each allocation refused in turn, and the second reading of lines against `composecheck`,
+  - the service of both programs over real sockets, random streams against a second reading of them, and README's script.
+
+With --whole it is `rt ci` as the kit has it, which tries each edit in a check of its own.
+
+Where the machine has two or three processors and at least 2.7 GB for each, it has as many checks run side by side: `rt ci` plans for more
+memory than a check needs, and would run one at a time.
+
+At the end it prints what each crate took, as the table of docs/ARCHITECTURE.md. The last line is `N passed, M failed` over all."""
 import os
 import re
+import resource
 import shutil
 import subprocess
 import sys
+import tempfile
+import time
 
-TOP = os.path.dirname(os.path.dirname(os.path.abspath(__file__)))
+import edits
+import measured
+
+TOP = measured.TOP
 PROGRAM = os.path.join(TOP, "composecheck")
+# What a check and the rest of the machine need, in bytes.
+MEMORY_OF_A_PROCESSOR = 2_700_000_000
 
 
 def built(crate):
@@ -20,28 +37,82 @@ def built(crate):
 
 
 def follow(command):
-    """Runs the command and prints what it prints; its counts, or those of one test where it prints none."""
-    counts = None
+    """Runs the command and prints what it prints; its lines, and its counts, or those of one test where it prints none."""
+    counts, lines = None, []
     with subprocess.Popen(command, cwd=TOP, stdout=subprocess.PIPE, stderr=subprocess.STDOUT, text=True, errors="replace") as ran:
         for line in ran.stdout:
             print(line, end="", flush=True)
+            lines.append(line)
             found = re.fullmatch(r"(\d+) passed, (\d+) failed\n?", line)
             if found:
                 counts = int(found[1]), int(found[2])
     if counts is None:
-        return (1, 0) if ran.returncode == 0 else (0, 1)
-    return counts if counts[1] > 0 or ran.returncode == 0 else (counts[0], 1)
+        counts = (1, 0) if ran.returncode == 0 else (0, 1)
+    return lines, counts if counts[1] > 0 or ran.returncode == 0 else (counts[0], 1)
+
+
+def test(name, *words):
+    """Runs one of the scripts of tests/."""
+    return follow([sys.executable, os.path.join("tests", name), *words])
+
+
+def edits_by_crate():
+    """Returns the names of the must-fail edits of each crate, in the order of crates.txt."""
+    with open(os.path.join(TOP, "crates.txt"), encoding="utf-8") as file:
+        crates = re.findall(r"^(\w+)", file.read(), re.M)
+    found = {}
+    for crate in crates:
+        folder = os.path.join(TOP, "crates", crate, "must-fail")
+        found[crate] = sorted(it for it in os.listdir(folder) if it.endswith(".edit")) if os.path.isdir(folder) else []
+    return found
+
+
+def without_a_line(names_of, lines):
+    """Returns the edits of which no line says how they ended."""
+    said = {it for line in lines for it in re.findall(r"^rt: must-fail (\w+/[\w.-]+\.edit): \S", line)}
+    return [f"{crate}/{name}" for crate, names in names_of.items() for name in names if f"{crate}/{name}" not in said]
+
+
+def prove(is_whole, names_of):
+    """Runs `rt ci` and prints what it says; the counts, and the lines of the table of what each crate took."""
+    if is_whole:
+        lines, (passed, failed) = follow(["rt", "ci"])
+        table = []
+    else:
+        with tempfile.TemporaryDirectory(prefix="gate-") as room:
+            file = os.path.join(room, "measured")
+            lines, (passed, failed) = test("proofs.py", file)
+            table = measured.table_of(measured.rows_of(file), {it: len(names) for it, names in names_of.items()}) if os.path.isfile(file) else []
+    lost = without_a_line(names_of, lines)
+    for it in lost:
+        print(f"gate: must-fail {it}: NO LINE says whether the prover refuses it")
+    return (passed, failed + len(lost)), table
+
+
+def use_all_processors(rt):
+    """Has `rt ci` run a check on each processor, where there are few and memory is enough for all. With more, it is better to give a check several."""
+    processors = rt.processors()
+    if processors in (2, 3) and rt.free() >= MEMORY_OF_A_PROCESSOR * processors:
+        os.environ.setdefault("RT_JOBS", str(processors))
 
 
 def main():
-    passed, failed = follow(["rt", "ci"])
+    began = time.monotonic()
+    use_all_processors(edits.load_rt())
+    passed, failed = test("edits_test.py")[1]
+    counts, table = prove("--whole" in sys.argv[1:], edits_by_crate())
+    passed, failed = passed + counts[0], failed + counts[1]
     if failed == 0:
         shutil.copy(built("composecheck"), PROGRAM)
         plain = built("composecheck_plain")
         runs = [("run.py", PROGRAM), ("run.py", plain), ("refusals.py", PROGRAM), ("refusals.py", plain), ("lex_reference.py", PROGRAM)]
+        runs += [("service.py", PROGRAM), ("service.py", plain), ("streams.py", PROGRAM), ("readme.py", PROGRAM)]
         for script, program in runs:
-            more = follow([sys.executable, os.path.join("tests", script), program])
+            more = test(script, program)[1]
             passed, failed = passed + more[0], failed + more[1]
+    used = resource.getrusage(resource.RUSAGE_CHILDREN)
+    print("\n".join(["", *table, ""]))
+    print(f"gate: {(time.monotonic() - began) / 60:.0f} minutes, {(used.ru_utime + used.ru_stime) / 60:.0f} minutes of processor time")
     print(f"{passed} passed, {failed} failed")
     return 1 if failed else 0
 

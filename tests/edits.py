@@ -1,0 +1,308 @@
+#!/usr/bin/env python3
+"""Tries the must-fail edits of a proved repository, several in one check.
+
+  edits.py [--jobs N] [CRATE | CRATE/EDIT ..]
+
+An edit, crates/CRATE/must-fail/NAME.edit, turns the meaning of one function, and the prover must refuse that very function. Edits of
+different functions of a crate share one check, over what the proof of the crate kept. An edit is refused there only if the line of
+its own function says that a goal of that function is not proved: a function that only calls a refused one has another line. What no
+such check can judge is tried alone, by the rule of `rt must-fail`. The crate itself, unedited, is checked over the same kept work
+before and after, so that bad kept work cannot refuse anything.
+
+Run it at the top of the repository, with the kit's `rt` on PATH. What is not proved yet is proved first. Each edit has one line:
+
+  must-fail CRATE/NAME.edit: refused by GOAL            the edited function is not proved: GOAL is a goal of its own
+  must-fail CRATE/NAME.edit: refused by GOAL, but only  the same, but a proof file names what the edit took away: a weak edit
+  must-fail CRATE/NAME.edit: refused alone: WHY         in a check of its own the crate is not proved
+  must-fail CRATE/NAME.edit: NOT REFUSED ..             the crate is still proved: the edit failed
+  must-fail CRATE/NAME.edit: BAD EDIT ..                it cannot be applied or read: the edit failed
+  must-fail CRATE/NAME.edit: NOT TRIED, NOT JUDGED ..   the crate is not proved before, or after, its edits: they failed
+
+The last line is 'N passed, M failed'. The status is 1 if an edit failed, and 130 after an interrupt.
+"""
+import argparse
+import collections
+import contextlib
+import importlib.machinery
+import importlib.util
+import itertools
+import os
+import re
+import shutil
+import signal
+import sys
+import tempfile
+import threading
+from typing import NamedTuple
+
+# More edits in one check save little, and lose more where one of them does not compile.
+LARGEST_BATCH = 12
+# The most memory that a check of a batch was seen to take, in bytes.
+MEMORY = 2_300_000_000
+# A function as rt fmt lays it out: no line between its first and its last begins at its indent, but those that its head and its body are written on.
+FUNCTION = re.compile(r"^( *)(?:pub(?:\(\w+\))? )?(?:const )?(?:unsafe )?fn (\w+).*(?:\n(?:\1(?: .*|\).*|\{|where.*))?)*?\n\1\}$", re.M)
+IMPL = re.compile(r"(?:unsafe )?impl(?:<(?:[^<>]|<[^<>]*>)*>)? (?:(.*) for )?(.*) \{")
+# What a proof file says of a name that the edit took away. As rt has it, that says little of the contract.
+TAKEN = re.compile(r"has no field|is not in scope|has no `")
+WEAK = "but only because a proof file names what the edit took away: change a value and keep the names"
+
+
+class Edit(NamedTuple):
+    """An edit of one function's body: its file, the function, and what it writes between two places of a source file."""
+
+    file: str
+    function: str
+    path: str
+    start: int
+    end: int
+    text: str
+
+    def is_apart(self, other):
+        return self.function != other.function and (self.path != other.path or self.end <= other.start or other.end <= self.start)
+
+
+def load_rt():
+    """Returns the kit's command rt as a module. Its rtlib has the crates."""
+    path = shutil.which("rt") or sys.exit("edits: there is no rt on PATH")
+    loader = importlib.machinery.SourceFileLoader("rt", os.path.realpath(path))
+    module = importlib.util.module_from_spec(importlib.util.spec_from_loader("rt", loader))
+    loader.exec_module(module)
+    return module
+
+
+def read_text(path):
+    with open(path, encoding="utf-8") as file:
+        return file.read()
+
+
+def stays_inside(body):
+    """Returns whether no brace of a body's text closes the body itself."""
+    depths = [0, *itertools.accumulate((it == "{") - (it == "}") for it in body if it in "{}")]
+    return min(depths) == 0 == depths[-1]
+
+
+def patterns_of(crate, path, text, item):
+    """Returns patterns of how rattle's lines may call a function of a file, the likeliest first."""
+    module = re.sub(r"/mod\Z|\A(lib|main)\Z", "", path.removeprefix("src/").removesuffix(".rt"))
+    module = "::".join([crate, *filter(None, module.split("/"))])
+    if not item[1]:
+        return [f"{module}::{item[2]}"]
+    # an impl is named by its type, its trait and, where there are several, the trait's argument; it stands where its type does
+    above = re.findall(r"^\S.*", text[: item.start()], re.M)[-1]
+    impl = IMPL.fullmatch(re.sub(r"\w+::|'\w+", "", above))
+    of_trait, of_type = [re.findall(r"\w+", it or "") for it in impl.groups()] if impl else [[], []]
+    types = ["".join(of_type[:1] + of_trait[:count]) for count in ((2, 1) if of_trait else (0,)) if of_type]
+    return [f"{where}::{it}::{item[2]}" for where in (module, ".*") for it in types]
+
+
+def located(rt, crate, file, printed):
+    """Returns the edit in a file with the function whose body it changes, one of those printed, or None if it is to be tried alone."""
+    texts, why = rt.read_edit(file, crate.folder)
+    path = "" if why or len(texts) != 1 else next(iter(texts))
+    if not path.startswith("src/"):
+        return None
+    old, new = read_text(f"{crate.folder}/{path}"), texts[path]
+    start = len(os.path.commonprefix([old, new]))
+    same = len(os.path.commonprefix([old[start:][::-1], new[start:][::-1]]))
+    end, text = len(old) - same, new[start : len(new) - same]
+    for item in FUNCTION.finditer(old):
+        head = re.search(rf"^{item[1]}(?! ).*\{{$", item[0], re.M)
+        inside = item.start() + head.end() if head else item.end()
+        if inside <= start and end < item.end() and stays_inside(old[inside:start] + text + old[end : item.end() - 1]):
+            found = [[it for it in printed if re.fullmatch(like, it)] for like in patterns_of(crate.name, path, old, item)]
+            return next((Edit(file, it[0], path, start, end, text) for it in found if len(it) == 1), None)
+    return None
+
+
+def batches_of(edits):
+    """Returns the edits in batches of about one size, each of different functions and of texts that lie apart."""
+    batches = [[] for _ in range(-(-len(edits) // LARGEST_BATCH))]
+    for edit in edits:
+        room = [it for it in batches if len(it) < LARGEST_BATCH and all(map(edit.is_apart, it))]
+        if not room:
+            room = [[]]
+            batches += room
+        min(room, key=len).append(edit)
+    return batches
+
+
+def merged(folder, batch):
+    """Returns the texts of a crate's source files with each edit of the batch applied."""
+    texts = {it.path: read_text(f"{folder}/{it.path}") for it in batch}
+    for it in sorted(batch, key=lambda it: -it.start):
+        texts[it.path] = texts[it.path][: it.start] + it.text + texts[it.path][it.end :]
+    return texts
+
+
+def own_refusal(said, function):
+    """Returns a goal of the function's own that the check did not prove, or None. That a callee is refused is none."""
+    line = re.search(rf"^fn {re.escape(function)}: (.*)", said, re.M)
+    if goal := line and re.search(r"did not prove `([^`]+)`", line[1]):
+        return goal[1]
+    folder = re.escape("/".join(function.split("::")[1:]))
+    errors = re.findall(rf"^(?:\./)?proofs/{folder}/\w+\.antt:\d+:\d+: error: (`.*(?:\n .*)*)", said, re.M)
+    errors = [it for it in errors if "was not admitted" not in it]
+    if not errors or not line or not line[1].startswith("not proved"):
+        return None
+    real = [it for it in errors if not TAKEN.search(it)]
+    return real[0].split("`")[1] if real else f"{errors[0].split('`')[1]}, {WEAK}"
+
+
+def copy_of(kept, into):
+    """Copies kept work. Its modules are linked: rattle never writes into one, but renames a new file over it."""
+    link = lambda old, new: (os.link if old.endswith(".oantt") else shutil.copy2)(old, new)
+    return shutil.copytree(kept, into, copy_function=link, dirs_exist_ok=True)
+
+
+class Trial:
+    """The edits of one crate, tried over its kept work: `begin`, then `work` in as many threads as there are, and then `end`."""
+
+    def __init__(self, rt, crate, kept, room, is_asked=lambda name: True):
+        self.rt, self.crate, self.kept, self.room = rt, crate, kept, room
+        self.files = [it for it in rt.edits_of(crate)[0] if is_asked(os.path.basename(it).removesuffix(".edit"))]
+        self.left, self.told, self.is_proved = collections.deque(), {}, False
+
+    def tell(self, file, passes, text):
+        self.told[file] = passes, f"must-fail {self.crate.name}/{os.path.basename(file)}: {text}"
+
+    def check(self, kept, texts={}, only=()):
+        flags = ["--jobs", "1", *itertools.chain(*(("--only", it) for it in only))]
+        return self.rt.checked(self.crate, texts, flags, kept)
+
+    @contextlib.contextmanager
+    def copy_of_kept(self):
+        with tempfile.TemporaryDirectory(prefix="kept-", dir=self.room) as folder:
+            yield copy_of(self.kept, folder)
+
+    def begin(self):
+        """Checks the crate itself over its kept work, or else anew, and plans the checks of its edits."""
+        shutil.rmtree(self.room, ignore_errors=True)
+        os.makedirs(self.room)
+        os.makedirs(self.kept, exist_ok=True)
+        ran = self.check(self.kept)
+        if ran.returncode:
+            shutil.rmtree(self.kept)
+            os.makedirs(self.kept)
+            ran = self.check(self.kept)
+        self.is_proved = not ran.returncode
+        if not self.is_proved:
+            return
+        printed = {*re.findall(r"^fn (\S+): proved\b", ran.stdout, re.M)}
+        edits = {it: located(self.rt, self.crate, it, printed) for it in self.files}
+        self.left.extend(batches_of([it for it in edits.values() if it]))
+        self.left.extend([file for file, it in edits.items() if not it])
+
+    def work(self):
+        """Tries what is left. A batch is a list of edits; what is tried alone is a file."""
+        with contextlib.suppress(IndexError):
+            while True:
+                it = self.left.popleft()
+                self.alone(it) if isinstance(it, str) else self.together(it)
+
+    def alone(self, file):
+        """Tries an edit alone, by rt's rule."""
+        with self.copy_of_kept() as kept:
+            passes, text = self.rt.must_fail(self.crate, file, ["--jobs", "1"], kept)
+        text = text.partition(f"{os.path.basename(file)}: ")[2]
+        self.tell(file, passes, "refused alone: " + text.partition(": ")[2] if passes else text)
+
+    def together(self, batch):
+        """Tries a batch. It goes on in halves where it cannot be read, and an edit that its function's own line does not refuse goes on alone."""
+        texts = merged(self.crate.folder, batch)
+        with self.copy_of_kept() as kept:
+            ran = self.check(kept, texts, [it.function for it in batch])
+        lines = ran.stdout.rstrip("\n").split("\n")
+        is_read = lines[-1].startswith("only=") and not any(self.rt.unread(it, texts) for it in lines)
+        is_read = is_read and not self.rt.rtlib.STALE.search(ran.stdout)
+        if not is_read and len(batch) > 1:
+            middle = len(batch) // 2
+            self.left.extend([batch[:middle], batch[middle:]])
+            return
+        for it in batch:
+            goal = own_refusal(ran.stdout, it.function) if is_read and ran.returncode == 1 else None
+            self.tell(it.file, True, f"refused by {goal}") if goal else self.left.append(it.file)
+
+    def end(self):
+        """Checks the unedited crate once more, and returns of each edit, in order, whether it passed and its line."""
+        try:
+            self.work()
+            is_kept_well = self.is_proved and not self.check(self.kept).returncode
+        finally:
+            shutil.rmtree(self.room, ignore_errors=True)
+        for file in self.files:
+            if not self.is_proved:
+                self.tell(file, False, "NOT TRIED: the crate itself is not proved")
+            elif not is_kept_well:
+                self.tell(file, False, "NOT JUDGED: the unedited crate is not proved over the same kept work")
+            elif file not in self.told:
+                self.tell(file, False, "NOT JUDGED: no check says anything of it")
+        return [self.told[it] for it in self.files]
+
+    def tasks(self, waits, seconds, is_well, last):
+        """Returns the trial as tasks of rt's lanes, which begin only where all is well with those that they wait for. `last` is the call of the last one."""
+        name, batches = self.crate.name, -(-len(self.files) // LARGEST_BATCH)
+        first = f"{name} unedited", "edits"
+        shared = [(f"{name} {number}", "edits") for number in range(1, batches + 1)]
+        task = lambda waits, call: (waits, seconds / (batches + 2), MEMORY, call)
+        step = lambda call: lambda given, jobs: call() if is_well(given) else None
+        tasks = {first: task(waits, step(self.begin)), **{it: task([first], step(self.work)) for it in shared}}
+        return {**tasks, (name, "edits"): task([*waits, *shared], last)}
+
+
+def trials_of(rt, crates, asked):
+    """Returns the trials of these crates' edits, or of those that are asked for by CRATE or CRATE/EDIT."""
+    trials = []
+    for crate in crates:
+        is_asked = lambda name, crate=crate: not asked or bool({crate.name, f"{crate.name}/{name}"} & asked)
+        trials.append(Trial(rt, crate, f"{crate.folder}/out/incremental", f"{crate.folder}/out/edits", is_asked))
+    known = {it for crate in crates for it in [crate.name, *(f"{crate.name}/{os.path.basename(file)[:-5]}" for file in rt.edits_of(crate)[0])]}
+    if asked - known:
+        sys.exit(f"edits: no crate and no edit is called {' or '.join(sorted(asked - known))}")
+    return [it for it in trials if it.files or rt.edits_of(it.crate)[1]]
+
+
+def tried(rt, trials, jobs):
+    """Tries edits over what the checks of their crates kept, prints their lines, and returns whether each passed."""
+    for library in dict.fromkeys(below for it in trials for below in it.crate.below()):
+        if library.build_rlib(["--jobs", str(jobs)], anew=False):
+            sys.exit(f"edits: the library {library.name} is not proved, so no edit was tried")
+    # (so many checks side by side)
+    os.environ["RT_JOBS"] = str(jobs)
+    tasks, passed, printing = {}, [], threading.Lock()
+
+    def end(trial):
+        """Ends a trial, and prints the lines of its crate together."""
+        name, misplaced = trial.crate.name, rt.edits_of(trial.crate)[1]
+        told = trial.end() + [(False, f"must-fail {name}/{os.path.basename(it)}: BAD EDIT: its name does not end in .edit") for it in misplaced]
+        with printing:
+            print("\n".join(line for _, line in told), flush=True)
+            passed.extend(passes for passes, _ in told)
+
+    for trial in trials:
+        tasks.update(trial.tasks([], len(trial.files), lambda given: True, lambda given, jobs, it=trial: end(it)))
+    rt.in_lanes(tasks)
+    return passed
+
+
+def main():
+    words = argparse.ArgumentParser(description=__doc__, formatter_class=argparse.RawDescriptionHelpFormatter)
+    words.add_argument("--jobs", type=int, default=len(os.sched_getaffinity(0)), help="checks side by side, each of 1 to 2.3 GB (default: one a processor)")
+    words.add_argument("asked", nargs="*", metavar="CRATE or CRATE/EDIT", help="what is tried (default: each edit of each crate)")
+    given, rt = words.parse_args(), load_rt()
+    every = rt.rtlib.crates_below(os.getcwd()) if os.path.isfile("crates.txt") else []
+    if not every:
+        sys.exit("edits: run it at the top of the repository, where crates.txt stands")
+    trials = trials_of(rt, every, {*given.asked})
+    # (the kit starts here, in the main thread, what ends its commands when this process ends)
+    rt.rtlib.guarded()
+    for it in (signal.SIGINT, signal.SIGTERM):
+        signal.signal(it, lambda *_: os._exit(130))
+    # (no other rt works in these folders until this process ends)
+    held = rt.rtlib.lock(every)
+    passed = tried(rt, trials, given.jobs)
+    print(f"{sum(passed)} passed, {len(passed) - sum(passed)} failed")
+    return 0 if held and all(passed) else 1
+
+
+if __name__ == "__main__":
+    sys.exit(main())

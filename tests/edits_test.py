@@ -1,0 +1,150 @@
+#!/usr/bin/env python3
+"""The runner of must-fail edits (edits.py) against a small crate, whose edits are good, useless or bad, and against a prover that only says what it is told to.
+
+It prints a line for each test and last 'N passed, M failed'."""
+import os
+import re
+import subprocess
+import sys
+import tempfile
+import types
+
+import edits
+import gate
+
+SOURCE = """//! Numbers and their neighbours.
+#![tactic(auto)]
+
+ghost use Rattle.std.specs.Prelude.{◌≡◌, ◌≤◌, ◌+◌};
+
+/// The smaller of two numbers, or both.
+pub fn smaller(a: u8, b: u8) -> u8
+    ensures first { result ≤ a }
+    ensures second { result ≤ b }
+{
+    if a < b {
+        return a;
+    }
+    b
+}
+
+/// One more than a number.
+pub fn next(a: u8) -> u8
+    requires { a ≤ 99 }
+    ensures { result ≡ a + 1 }
+{
+    let more: u8 = 1;
+    a + more
+}
+
+/// Two more than a number.
+pub fn after_next(a: u8) -> u8
+    requires { a ≤ 98 }
+    ensures { result ≡ a + 2 }
+{
+    let one = next(a);
+    next(one)
+}
+
+/// One less than a number.
+pub fn before(a: u8) -> u8
+    requires { 1 ≤ a }
+    ensures { result + 1 ≡ a }
+{
+    let less: u8 = 1;
+    a - less
+}
+"""
+
+# What an edit writes in the place of what, and how its line must begin.
+EDITS = {
+    "wrong_answer": ("    let more: u8 = 1;", "    let more: u8 = 2;", "refused by "),
+    "same_meaning": ("    if a < b {", "    if a <= b {", "NOT REFUSED"),
+    "only_its_callee_is_wrong": ("    let one = next(a);", "    let one = if a == 0 { 1 } else { next(a) };", "NOT REFUSED"),
+    "does_not_compile": ("    let less: u8 = 1;", "    let less: u8 = true;", "BAD EDIT"),
+    "is_not_there": ("    let none: u8 = 1;", "    let none: u8 = 2;", "BAD EDIT"),
+}
+
+# What a check says of functions: that a goal of its own is not proved, that only a callee is refused, or what its proof file's errors are.
+SAID = """proofs/weak/Proof.antt:3:7: error: `goal-2`: `total` is not in scope
+proofs/cites/Proof.antt:3:7: error: `goal-3`: `next_spec` was not admitted
+proofs/real/Proof.antt:4:1: error: `goal-4`: the two sides differ
+fn neighbours::own: search did not prove `ensures`
+fn neighbours::caller: no proof: it calls neighbours::own, which is not proved
+fn neighbours::weak: not proved
+fn neighbours::cites: not proved
+fn neighbours::real: not proved
+fn neighbours::fine: proved
+"""
+OWN_REFUSALS = {"own": "ensures", "caller": None, "weak": f"goal-2, {edits.WEAK}", "cites": None, "real": "goal-4", "fine": None, "absent": None}
+
+
+def lines_of_the_runner():
+    """Runs the runner on a repository of one crate, and returns its line of each edit, its counts and its status."""
+    with tempfile.TemporaryDirectory(prefix="edits-test-") as room:
+        crate = os.path.join(room, "crates", "neighbours")
+        for folder in ("src", "must-fail"):
+            os.makedirs(os.path.join(crate, folder))
+        texts = {f"must-fail/{name}.edit": f"file: src/lib.rt\nold: {old}\nnew: {new}\n" for name, (old, new, _) in EDITS.items()}
+        for path, text in {**texts, "src/lib.rt": SOURCE, "../../crates.txt": "neighbours:\n"}.items():
+            with open(os.path.join(crate, path), "w", encoding="utf-8") as file:
+                file.write(text)
+        subprocess.run(["git", "init", "-q"], cwd=room, check=True)
+        command = [sys.executable, os.path.join(gate.TOP, "tests", "edits.py")]
+        ran = subprocess.run(command, cwd=room, stdout=subprocess.PIPE, stderr=subprocess.STDOUT, text=True)
+    lines = dict(re.findall(r"^must-fail neighbours/(\w+)\.edit: (.*)", ran.stdout, re.M))
+    return lines, ran.stdout.rstrip("\n").split("\n")[-1], ran.returncode
+
+
+def tests_of_the_runner():
+    lines, counts, status = lines_of_the_runner()
+    for name, (_, _, begin) in EDITS.items():
+        said = lines.get(name, "no line")
+        yield f"{name}: {said[:60]}", said.startswith(begin)
+    yield f"counts: {counts}", counts == "1 passed, 4 failed"
+    yield f"status: {status}", status == 1
+
+
+def ended(*statuses):
+    """Returns what the runner says of one edit, where the checks of the unedited crate end with these statuses."""
+    left = [*statuses]
+    with tempfile.TemporaryDirectory(prefix="edits-test-") as folder:
+        crate = types.SimpleNamespace(name="neighbours", folder=folder)
+        rt = types.SimpleNamespace(edits_of=lambda crate: (["wrong.edit"], []), read_edit=lambda file, folder: (None, "it is not read here"))
+        rt.checked = lambda *given: types.SimpleNamespace(returncode=left.pop(0), stdout="fn neighbours::next: proved\n")
+        rt.must_fail = lambda crate, file, flags, kept: (True, "must-fail neighbours/wrong.edit: refused, as it must be: a goal")
+        trial = edits.Trial(rt, crate, f"{folder}/kept", f"{folder}/room")
+        trial.begin()
+        return trial.end()[0]
+
+
+def tests_of_the_control():
+    yield "refused, and the unedited crate is proved before and after", ended(0, 0) == (True, "must-fail neighbours/wrong.edit: refused alone: a goal")
+    yield "refused, and the unedited crate is proved once its kept work is made anew", ended(1, 0, 0)[0]
+    yield "the unedited crate is not proved before", not ended(1, 1)[0] and "NOT TRIED" in ended(1, 1)[1]
+    yield "the unedited crate is not proved after", not ended(0, 1)[0] and "NOT JUDGED" in ended(0, 1)[1]
+
+
+def tests_of_words():
+    for name, goal in OWN_REFUSALS.items():
+        found = edits.own_refusal(SAID, f"neighbours::{name}")
+        yield f"the own refusal of {name}: {found}", found == goal
+    edit = lambda function, start: edits.Edit(f"{function}.edit", function, "src/lib.rt", start, start + 3, "x")
+    batches = edits.batches_of([edit("a", 0), edit("a", 8), edit("b", 20), edit("c", 22)])
+    yield "no batch has two edits of one function, or two that overlap", [[it.function for it in batch] for batch in batches] == [["a", "b"], ["a", "c"]]
+    lost = gate.without_a_line({"low": ["a.edit", "b.edit"], "high": []}, ["rt: must-fail low/a.edit: refused by x\n"])
+    yield "an edit without a line is found", lost == ["low/b.edit"]
+
+
+def main():
+    passed = failed = 0
+    for tests in (tests_of_words, tests_of_the_control, tests_of_the_runner):
+        for name, is_well in tests():
+            print(f"{'ok' if is_well else 'FAILED'}: {name}", flush=True)
+            passed, failed = passed + is_well, failed + (not is_well)
+    print(f"{passed} passed, {failed} failed")
+    return 1 if failed else 0
+
+
+if __name__ == "__main__":
+    sys.exit(main())

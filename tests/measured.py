@@ -1,0 +1,69 @@
+"""The processor time that each crate takes: measured as its checks run, printed as the table of docs/ARCHITECTURE.md, and read from there."""
+import collections
+import os
+import re
+import sys
+
+TOP = os.path.dirname(os.path.dirname(os.path.abspath(__file__)))
+TABLE = os.path.join(TOP, "docs", "ARCHITECTURE.md")
+HEAD = "| Crate | Proof s | Its tests' proof s | Edits s | Edits | Proof, wall s | Most memory GB |"
+KINDS = ("proof", "tests", "edits")
+# Runs a command, and adds a line to a file: the crate, the kind of check, its processor seconds, its wall seconds and its memory in bytes.
+METER = """
+import os, signal, sys, time
+file, words, began = sys.argv[1], sys.argv[2:], time.monotonic()
+_, status, used = os.wait4(os.posix_spawnp(words[0], words, os.environ, setsigdef=[signal.SIGPIPE, signal.SIGXFSZ]), 0)
+if "--crate-name" in words:
+    crate = words[words.index("--crate-name") + 1]
+    kind = "tests" if "--test" in words else "edits" if "--incremental" in words else "proof"
+    row = f"{crate} {kind} {used.ru_utime + used.ru_stime:.1f} {time.monotonic() - began:.1f} {used.ru_maxrss * 1024}\\n"
+    with open(file, "a") as it:
+        it.write(row)
+if os.WIFSIGNALED(status):
+    os.kill(os.getpid(), os.WTERMSIG(status))
+sys.exit(os.waitstatus_to_exitcode(status))
+"""
+
+
+def measure(rtlib, file):
+    """Has each check that the kit starts from here on be measured into a file."""
+    guarded = rtlib.guarded
+    rtlib.guarded = lambda: [*guarded(), sys.executable, "-ISc", METER, file]
+
+
+def rows_of(file):
+    """Returns what was measured, by crate and kind: processor seconds, wall seconds, the most memory and how many checks."""
+    found = collections.defaultdict(lambda: [0.0, 0.0, 0, 0])
+    with open(file, encoding="utf-8") as lines:
+        for crate, kind, processor, wall, memory in map(str.split, lines):
+            row = found[crate, kind]
+            found[crate, kind] = [row[0] + float(processor), row[1] + float(wall), max(row[2], int(memory)), row[3] + 1]
+    return found
+
+
+def table_of(found, edits):
+    """Returns the table's lines. `edits` says how many each crate has, in the crates' order."""
+    lines, sums = [HEAD, "|---|" + "---:|" * 6], collections.Counter()
+    for crate, count in edits.items():
+        row = {it: found[crate, it] for it in KINDS}
+        seconds = [round(row[it][0]) for it in KINDS]
+        memory = max(it[2] for it in row.values()) / 1e9
+        lines.append(f"| `{crate}` | {seconds[0]} | {seconds[1] or '-'} | {seconds[2] or '-'} | {count or '-'} | {row['proof'][1]:.0f} | {memory:.1f} |")
+        sums.update(dict(zip(KINDS, seconds)), edits_count=count)
+    minutes = [f"{sums[it] / 60:.0f} min" for it in KINDS]
+    return [*lines, f"| all | {' | '.join(minutes)} | {sums['edits_count']} | | |"]
+
+
+def known():
+    """Returns the seconds of each crate's proof, of its tests' and of its edits, by crate and kind, as the table of docs/ARCHITECTURE.md has them."""
+    if not os.path.isfile(TABLE):
+        return {}
+    with open(TABLE, encoding="utf-8") as file:
+        below = file.read().partition(HEAD)[2]
+    rows = re.findall(r"^\| `(\w+)` \| (\d+|-) \| (\d+|-) \| (\d+|-) \|", below, re.M)
+    return {(crate, kind): int(it.replace("-", "0")) for crate, *seconds in rows for kind, it in zip(KINDS, seconds)}
+
+
+def seconds_of(crate, kind="proof"):
+    """Returns the processor seconds that a kind of check of a crate is likely to take: those that were measured, or else by its lines."""
+    return known().get((crate.name, kind), 0.3 * crate.count(rb"\n"))
