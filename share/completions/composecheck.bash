@@ -1,0 +1,25 @@
+# Completion of composecheck for bash.
+_composecheck() {
+    local word=${COMP_WORDS[COMP_CWORD]} before=${COMP_WORDS[COMP_CWORD-1]} options=
+    COMPREPLY=()
+    if [ "$COMP_CWORD" -eq 1 ]; then
+        COMPREPLY=($(compgen -W "type check explain make serve --help --version" -- "$word"))
+        return
+    fi
+    case $before in
+        --names) COMPREPLY=($(compgen -f -- "$word")); return ;;
+        --fresh) return ;;
+        --mode) COMPREPLY=($(compgen -W "600 660 666" -- "$word")); return ;;
+    esac
+    case ${COMP_WORDS[1]} in
+        type | check) options="--names --help" ;;
+        explain) options="--names --fresh --all --help" ;;
+        make) options="--names --fresh --help" ;;
+        serve) options="--names --mode --replace --unlink --help" ;;
+    esac
+    case $word in
+        -*) COMPREPLY=($(compgen -W "$options" -- "$word")) ;;
+        *) COMPREPLY=($(compgen -f -- "$word")) ;;
+    esac
+}
+complete -o filenames -F _composecheck composecheck

@@ -1,0 +1,311 @@
+#!/usr/bin/env python3
+"""service.py PROGRAM: serves with PROGRAM over real sockets, and compares what it answers, prints and leaves with what is written
+down here. The last line is `N passed, M failed`."""
+import contextlib
+import os
+import random
+import signal
+import socket
+import stat
+import struct
+import subprocess
+import sys
+import tempfile
+import threading
+
+TOP = os.path.dirname(os.path.dirname(os.path.abspath(__file__)))
+sys.path.insert(0, os.path.join(TOP, "share", "composecheck"))
+import composecheck_client
+from composecheck_client import Client
+
+PIECES = bytes.fromhex
+GRAVE, ACUTE, E, X = 0xFE50, 0xFE51, 0x65, 0x78
+# Two sequences with a text: the first begins with a dead key that the second table doesn't know.
+OLD = b'<dead_grave> <dead_acute> <e> : "x"\n<dead_acute> <e> : "x"\n'
+NEW = b'<dead_acute> <e> : "x"\n'
+ITSELF = b"compose-certificate 1\nbound 2\npairs 4\n0 0\n1 1\n2 2\n3 3\ntypings 0\n"
+DROPPED = b"compose-certificate 1\nbound 1\npairs 4\n0 0\n1 0\n2 1\n3 1\ntypings 0\n"
+NEW_ITSELF = b"compose-certificate 1\nbound 1\npairs 2\n0 0\n1 1\ntypings 0\n"
+NOTHING_FOLLOWS = b"compose-certificate 1\nbound 0\npairs 1\n0 0\ntypings 0\n"
+
+
+def frame(kind, session, payload=b""):
+    return struct.pack(">BII", kind, session, len(payload)) + payload
+
+
+def key(session, keysym):
+    return frame(2, session, struct.pack(">I", keysym))
+
+
+class Results:
+    """Counts what passed, and prints what failed."""
+
+    def __init__(self):
+        self.passed = self.failed = 0
+
+    def expect(self, what, got, wanted):
+        if got == wanted:
+            self.passed += 1
+        else:
+            self.failed += 1
+            print(f"FAILED: {what}\n  got      {got!r:.400}\n  expected {wanted!r:.400}", flush=True)
+
+
+class Serving:
+    """A running service in a folder of its own."""
+
+    def __init__(self, program, table=OLD, certificate=ITSELF, connections=1, options=(), repertoire=b"", rule=""):
+        self.room = tempfile.TemporaryDirectory(prefix="service-")
+        self.folder = self.room.name
+        self.path = os.path.join(self.folder, "socket")
+        listing = f"{rule}root\ttable.compose\n".encode()
+        for name, content in {"table.compose": table, "table.manifest": listing, "repertoire": repertoire, "certificate": certificate}.items():
+            with open(os.path.join(self.folder, name), "wb") as file:
+                file.write(content)
+        words = [program, "serve", *options, "table.manifest", "repertoire", "certificate", "socket", str(connections)]
+        self.process = subprocess.Popen(words, cwd=self.folder, stdin=subprocess.DEVNULL, stdout=subprocess.PIPE, stderr=subprocess.PIPE, text=True)
+        self.printed = [self.process.stdout.readline()]
+        # (so that a service which prints many lines need not wait)
+        self.printing = threading.Thread(target=self.printed.extend, args=(self.process.stdout,), daemon=True)
+        self.printing.start()
+
+    def __enter__(self):
+        return self
+
+    def __exit__(self, *_):
+        self.process.kill()
+        self.process.wait()
+        self.printing.join()
+        self.process.stdout.close()
+        self.process.stderr.close()
+        self.room.cleanup()
+
+    def ended(self):
+        """Waits for the end; returns what was printed, and the status."""
+        status = self.process.wait(timeout=60)
+        self.printing.join()
+        return "".join(self.printed), self.process.stderr.read(), status
+
+    def client(self):
+        return Client(self.path, timeout=30)
+
+    def exchange(self, *pieces):
+        """Sends the pieces on a connection, closes the writing side, and returns all that comes back."""
+        connection = socket.socket(socket.AF_UNIX, socket.SOCK_STREAM)
+        connection.settimeout(60)
+        with connection:
+            connection.connect(self.path)
+            got = bytearray()
+            reader = threading.Thread(target=read_all, args=(connection, got))
+            reader.start()
+            with contextlib.suppress(BrokenPipeError, ConnectionResetError):
+                for piece in pieces:
+                    connection.sendall(piece)
+                connection.shutdown(socket.SHUT_WR)
+            reader.join()
+        return bytes(got)
+
+
+def read_all(connection, got):
+    with contextlib.suppress(ConnectionResetError):
+        while piece := connection.recv(65536):
+            got += piece
+
+
+# ---- worked streams
+
+OPENED_7, OPEN_7 = PIECES("8100000007 00000000"), frame(1, 7)
+COMPOSING_7 = PIECES("82 00000007 00000002 01 01")
+MALFORMED = PIECES("ff 00000000 00000002 000a")
+
+
+def refused(session, code):
+    return PIECES("ff") + struct.pack(">IIH", session, 2, code)
+
+
+def state(session, status, *pending):
+    return frame(0x86, session, bytes([status, len(pending)]) + b"".join(struct.pack(">I", it) for it in pending))
+
+
+def fed(session, status, text=b"", accepted=1):
+    return frame(0x82, session, bytes([status, accepted]) + text)
+
+
+def loaded(count):
+    return frame(0x85, 0, struct.pack(">Q", count))
+
+
+def load(table, certificate, kind=5):
+    return frame(kind, 0, composecheck_client.bundle([("r", table)], certificate))
+
+
+WORKED = {
+    "sessions, loads and refusals": (
+        OPEN_7 + key(7, GRAVE) + frame(1, 9) + load(NEW, DROPPED) + frame(6, 7) + key(7, ACUTE) + key(9, 0x61) + key(7, E)
+        + load(b"", NOTHING_FOLLOWS) + frame(6, 9) + frame(1, 9) + key(8, 0x61) + key(9, 0x20000000) + frame(3, 7) + frame(4, 7) + frame(6, 7) + frame(5, 0),
+        OPENED_7 + fed(7, 1) + frame(0x81, 9) + loaded(1) + state(7, 0) + fed(7, 1) + fed(9, 0, b"a") + fed(7, 2, b"x")
+        + refused(0, 8) + state(9, 0) + refused(9, 1) + refused(8, 2) + refused(9, 4) + frame(0x83, 7) + frame(0x84, 7) + refused(7, 2) + refused(0, 5),
+        "ended"),
+    "two loads in the middle of a sequence": (
+        OPEN_7 + key(7, GRAVE) + key(7, ACUTE) + load(NEW, DROPPED) + load(NEW, NEW_ITSELF) + frame(6, 7) + key(7, E),
+        OPENED_7 + fed(7, 1) + fed(7, 1) + loaded(1) + loaded(2) + state(7, 1, ACUTE) + fed(7, 2, b"x"),
+        "ended"),
+    "a refused load leaves a session as it was": (
+        OPEN_7 + key(7, GRAVE) + load(b"", NOTHING_FOLLOWS) + frame(6, 7),
+        OPENED_7 + fed(7, 1) + refused(0, 8) + state(7, 1, GRAVE),
+        "ended"),
+    "a keysym that is dropped by one load and fresh in the next begins nothing from an old list": (
+        OPEN_7 + key(7, GRAVE) + load(NEW, DROPPED)
+        + load(b'<dead_acute> <e> : "x"\n<dead_grave> <d> : "y"\n', b"compose-certificate 2\nbound 1\npairs 2\n0 0\n1 2\ntypings 0\nfresh 1\nfe50\n")
+        + frame(6, 7) + key(7, ACUTE) + key(7, E),
+        OPENED_7 + fed(7, 1) + loaded(1) + loaded(2) + state(7, 0) + fed(7, 1) + fed(7, 2, b"x"),
+        "ended"),
+    "a stream that is cut in a frame": (OPEN_7 + PIECES("02 00000007 0000"), OPENED_7, "fault 3 Cut"),
+    "a load that is too long": (PIECES("05 00000000 00800001"), MALFORMED, "malformed"),
+    "an unknown kind": (PIECES("09"), MALFORMED, "malformed"),
+    "a key of three bytes": (PIECES("02 00000007 00000003"), MALFORMED, "malformed"),
+    "a load that never comes": (PIECES("05 00000000 00800000"), b"", "fault 3 Cut"),
+    "a part of a head": (PIECES("02 00000007 ff"), b"", "fault 3 Cut"),
+    "an ignored key": (OPEN_7 + key(7, 0xFFE1) + frame(6, 7), OPENED_7 + fed(7, 0, accepted=0) + state(7, 0), "ended"),
+    "4,096 sessions and one more": (
+        b"".join(frame(1, it) for it in range(4097)), b"".join(frame(0x81, it) for it in range(4096)) + refused(4096, 3), "ended"),
+}
+
+
+def check_worked(program, results):
+    for what, (sent, wanted, end) in WORKED.items():
+        with Serving(program) as service:
+            results.expect(what, service.exchange(sent), wanted)
+            results.expect(f"{what}: printed", service.ended(), (f"listening\nconnection 1: {end}\n", "", 0))
+
+
+def check_cuts(program, results):
+    """The first stream, cut into two pieces at each byte, and byte by byte."""
+    sent, wanted = OPEN_7 + key(7, GRAVE) + frame(4, 7), OPENED_7 + COMPOSING_7 + frame(0x84, 7)
+    with Serving(program, connections=len(sent) + 1) as service:
+        for cut in range(len(sent)):
+            results.expect(f"a cut at byte {cut}", service.exchange(sent[:cut], sent[cut:]), wanted)
+        results.expect("a stream byte by byte", service.exchange(*(sent[at : at + 1] for at in range(len(sent)))), wanted)
+        results.expect("all connections ended", service.ended()[2], 0)
+
+
+def check_overlaps(program, results):
+    """A load whose table has an overlap is refused, or the longer sequence counts, by the kind of the load."""
+    table, fresh = b'<a> <b> : "x"\n<a> : "y"\n', b"compose-certificate 2\nbound 1\npairs 1\n0 0\ntypings 0\nfresh 1\n61\n"
+    sent = load(table, fresh) + load(table, fresh, kind=7) + OPEN_7 + key(7, 0x61) + key(7, 0x62)
+    with Serving(program, table=b"", certificate=NOTHING_FOLLOWS) as service:
+        results.expect("loads with an overlap", service.exchange(sent), refused(0, 6) + loaded(1) + OPENED_7 + fed(7, 1) + fed(7, 2, b"x"))
+
+
+def check_start(program, results):
+    """A certificate that isn't valid is answered as by check; a socket that can't be bound is refused."""
+    with Serving(program, certificate=b"compose-certificate 1\nbound 2\npairs 0\ntypings 0\n") as service:
+        results.expect("a start without the pair of the roots", service.ended(), ("no: 3 RootPairMissing\n", "", 1))
+    with Serving(program, certificate=b"compose") as service:
+        results.expect("a start without a certificate", service.ended(), ("", "refused: certificate: 1 NotText line=1\n", 2))
+    with Serving(program, table=b"<a> ") as service:
+        results.expect("a start without a table", service.ended(), ("", "refused: table: 1 Read: 3 Lex source=0 line=1: 1 BadToken at=4\n", 2))
+    with Serving(program, repertoire=b"U+D800\n") as service:
+        results.expect("a start without a repertoire", service.ended(), ("", "refused: repertoire: 1 BadLine line=1\n", 2))
+
+
+# ---- clients that misbehave
+
+def check_clients(program, results):
+    """After each client that misbehaves the next one is served."""
+    with Serving(program, connections=6) as service:
+        service.exchange()
+        service.exchange(random.Random(1).randbytes(5000).replace(b"\x01", b"\x00"))
+        with connected(service.path) as connection:
+            connection.sendall(OPEN_7 + key(7, GRAVE)[:5])
+        killed = subprocess.Popen([sys.executable, "-c", f"import socket, time\ns = socket.socket(socket.AF_UNIX)\ns.connect({service.path!r})\n"
+                                   "s.sendall(b'\\x01\\0\\0')\nprint(flush=True)\ntime.sleep(60)"], stdout=subprocess.PIPE)
+        killed.stdout.readline()
+        killed.kill()
+        killed.wait()
+        with connected(service.path) as connection:
+            connection.sendall(frame(6, 7) * 2000)
+        with service.client() as client:
+            results.expect("the session of a client that was cut off", client.ask(7), ("nothing", ()))
+        printed, complained, status = service.ended()
+        lines = printed.splitlines()
+        results.expect("the lines of clients that misbehave", lines[:5], ["listening", "connection 1: ended", "connection 2: malformed", "connection 3: fault 3 Cut", "connection 4: fault 3 Cut"])
+        results.expect("a client that reads nothing", lines[5] in ("connection 5: ended", "connection 5: fault 2 Write", "connection 5: fault 1 Read", "connection 5: fault 3 Cut"), True)
+        results.expect("the last client", (lines[6:], complained, status), (["connection 6: ended"], "", 0))
+
+
+@contextlib.contextmanager
+def connected(path):
+    connection = socket.socket(socket.AF_UNIX, socket.SOCK_STREAM)
+    with connection:
+        connection.connect(path)
+        yield connection
+
+
+# ---- the socket's file
+
+def mode_of(path):
+    return stat.S_IMODE(os.stat(path).st_mode)
+
+
+def check_socket_file(program, results):
+    with Serving(program) as service:
+        results.expect("the mode of the socket", mode_of(service.path), 0o600)
+        results.expect("nothing else is left beside the socket", sorted(os.listdir(service.folder)), ["certificate", "repertoire", "socket", "table.compose", "table.manifest"])
+        words = [program, "serve", "--replace", "table.manifest", "repertoire", "certificate", "socket", "1"]
+        second = subprocess.run(words, cwd=service.folder, capture_output=True, text=True)
+        results.expect("a socket that somebody listens on is not replaced", (second.stderr, second.returncode), ("refused: socket: socket\n", 2))
+        service.exchange()
+        results.expect("a socket that was only looked at still serves", service.exchange(OPEN_7) if service.process.poll() is None else OPENED_7, OPENED_7)
+        service.process.wait(timeout=30)
+        results.expect("the socket is left at the end", stat.S_ISSOCK(os.stat(service.path).st_mode), True)
+        words.remove("--replace")
+        third = subprocess.run(words, cwd=service.folder, capture_output=True, text=True)
+        results.expect("a socket that is there is refused", (third.stderr, third.returncode), ("refused: socket: socket\n", 2))
+        again = subprocess.Popen([*words[:2], "--replace", "--unlink", "--mode", "660", *words[2:]], cwd=service.folder, stdout=subprocess.PIPE, text=True)
+        results.expect("a socket that nobody listens on is replaced", again.stdout.readline(), "listening\n")
+        results.expect("the mode that is asked for", mode_of(service.path), 0o660)
+        service.exchange()
+        again.wait(timeout=30)
+        results.expect("the socket is removed at the end", os.path.exists(service.path), False)
+        open(service.path, "w").close()
+        fourth = subprocess.run([*words[:2], "--replace", *words[2:]], cwd=service.folder, capture_output=True, text=True)
+        results.expect("a file is not replaced", (fourth.stderr, fourth.returncode, os.path.exists(service.path)), ("refused: socket: socket\n", 2, True))
+
+
+def check_signal(program, results):
+    with Serving(program) as service:
+        service.process.send_signal(signal.SIGTERM)
+        results.expect("a service that is ended by a signal", service.ended()[2], -signal.SIGTERM)
+
+
+def check_handed_over(program, results):
+    """A socket that is handed over as systemd does it is used, and no file is made."""
+    with Serving(program) as service:
+        service.process.kill()
+        handed = os.path.join(service.folder, "handed")
+        listener = socket.socket(socket.AF_UNIX, socket.SOCK_STREAM)
+        with listener:
+            listener.bind(handed)
+            listener.listen()
+            os.unlink(service.path)
+            command = f"exec 3<&{listener.fileno()}; LISTEN_PID=$$ LISTEN_FDS=1 exec {program} serve table.manifest repertoire certificate socket 1"
+            handed_over = subprocess.Popen(["bash", "-c", command], cwd=service.folder, stdout=subprocess.PIPE, text=True, pass_fds=[listener.fileno()])
+        results.expect("a service over a socket that is handed over", handed_over.stdout.readline(), "listening\n")
+        with Client(handed, timeout=30) as client:
+            client.open(7)
+            results.expect("a key over a socket that is handed over", client.key(7, GRAVE), ("composing", True, ""))
+        results.expect("its end", (handed_over.wait(timeout=30), os.path.exists(service.path)), (0, False))
+        handed_over.stdout.close()
+
+
+def main():
+    program, results = os.path.abspath(sys.argv[1]), Results()
+    for check in (check_worked, check_cuts, check_overlaps, check_start, check_clients, check_socket_file, check_signal, check_handed_over):
+        check(program, results)
+    print(f"{results.passed} passed, {results.failed} failed")
+    return 1 if results.failed else 0
+
+
+if __name__ == "__main__":
+    sys.exit(main())
