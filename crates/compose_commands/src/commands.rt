@@ -55,7 +55,7 @@ fn check_files<T: ComposeTable>(
     repertoire: &str,
     certificate: &str,
 ) -> Result<Ended, Ended> {
-    let files = MoveFiles::read(rt, tables)?;
+    let files = MoveFiles::read(rt, tables, &[])?;
     let repertoire = read_file(rt, repertoire)?;
     let certificate = read_file(rt, certificate)?;
     let (old, new) = (files.old.input(), files.new.input());
@@ -78,8 +78,8 @@ fn explain_files<T: ComposeTable>(
     fresh: &[&str],
     all: bool,
 ) -> Result<Ended, Ended> {
-    let files = MoveFiles::read(rt, tables)?;
-    let input = files.input(fresh);
+    let files = MoveFiles::read(rt, tables, fresh)?;
+    let input = files.input();
     let answered = if all {
         explain_all_migration::<T>(rt.alloc(), &input)
     } else {
@@ -95,8 +95,8 @@ fn make_files<T: ComposeTable>(
     fresh: &[&str],
     repertoire: &str,
 ) -> Result<Ended, Ended> {
-    let files = MoveFiles::read(rt, tables)?;
+    let files = MoveFiles::read(rt, tables, fresh)?;
     let repertoire = read_file(rt, repertoire)?;
-    let answered = make_migration::<T>(rt.alloc(), &files.input(fresh), &repertoire);
+    let answered = make_migration::<T>(rt.alloc(), &files.input(), &repertoire);
     Ok(report(rt, &answered, fresh))
 }

@@ -93,31 +93,41 @@ fn read_sources(
     Ok(sources)
 }
 
-/// The files of a move from an old table to a new one.
+/// The files of a move from an old table to a new one, and the words that are to name keysyms.
 #[derive(Drop)]
-pub struct MoveFiles {
+pub struct MoveFiles<'w> {
     pub header: Vec<u8>,
     pub old: TableFiles,
     pub new: TableFiles,
+    pub words: Vec<&'w str>,
 }
 
-impl MoveFiles {
+impl<'w> MoveFiles<'w> {
     /// Reads the file of names, and the files of both tables.
     pub fn read(
         rt: &(impl Files + Eprint + AllocGlobal),
         paths: &TablePaths<'_>,
-    ) -> Result<MoveFiles, Ended> {
+        words: &[&'w str],
+    ) -> Result<MoveFiles<'w>, Ended> {
         let header = read_header(rt, paths.names)?;
         let old = TableFiles::read(rt, "old", paths.old)?;
         let new = TableFiles::read(rt, "new", paths.new)?;
-        Ok(MoveFiles { header, old, new })
+        let Ok(words) = Vec::from_slice(rt.alloc(), words) else {
+            return Err(no_memory(rt));
+        };
+        Ok(MoveFiles {
+            header,
+            old,
+            new,
+            words,
+        })
     }
 
-    /// The migration that they are to give, with these words as keysyms.
-    pub fn input<'a, 'w>(&'a self, words: &'a [&'w str]) -> MigrationInput<'a, 'w> {
+    /// The migration that they are to give.
+    pub fn input(&self) -> MigrationInput<'_, 'w> {
         MigrationInput {
             header: &self.header,
-            words,
+            words: &self.words,
             old: self.old.input(),
             new: self.new.input(),
         }
