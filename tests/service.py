@@ -218,6 +218,7 @@ def check_clients(program, results):
         service.exchange(random.Random(1).randbytes(5000).replace(b"\x01", b"\x00"))
         with connected(service.path) as connection:
             connection.sendall(OPEN_7 + key(7, GRAVE)[:5])
+            connection.recv(len(OPENED_7))
         killed = subprocess.Popen([sys.executable, "-c", f"import socket, time\ns = socket.socket(socket.AF_UNIX)\ns.connect({service.path!r})\n"
                                    "s.sendall(b'\\x01\\0\\0')\nprint(flush=True)\ntime.sleep(60)"], stdout=subprocess.PIPE)
         killed.stdout.readline()
@@ -249,14 +250,14 @@ def mode_of(path):
 
 
 def check_socket_file(program, results):
-    with Serving(program) as service:
+    # (whoever looks whether somebody listens is a connection too)
+    with Serving(program, connections=2) as service:
         results.expect("the mode of the socket", mode_of(service.path), 0o600)
         results.expect("nothing else is left beside the socket", sorted(os.listdir(service.folder)), ["certificate", "repertoire", "socket", "table.compose", "table.manifest"])
         words = [program, "serve", "--replace", "table.manifest", "repertoire", "certificate", "socket", "1"]
         second = subprocess.run(words, cwd=service.folder, capture_output=True, text=True)
         results.expect("a socket that somebody listens on is not replaced", (second.stderr, second.returncode), ("refused: socket: socket\n", 2))
-        service.exchange()
-        results.expect("a socket that was only looked at still serves", service.exchange(OPEN_7) if service.process.poll() is None else OPENED_7, OPENED_7)
+        results.expect("a socket that was only looked at still serves", service.exchange(OPEN_7), OPENED_7)
         service.process.wait(timeout=30)
         results.expect("the socket is left at the end", stat.S_ISSOCK(os.stat(service.path).st_mode), True)
         words.remove("--replace")

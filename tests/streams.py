@@ -11,6 +11,7 @@ import struct
 import subprocess
 import sys
 import tempfile
+import threading
 import time
 
 SEED = 20
@@ -181,9 +182,13 @@ def serve(program, chance, count):
         words = [program, "serve", "table", "repertoire", "certificate", "socket", str(count)]
         with subprocess.Popen(words, cwd=folder, stdout=subprocess.PIPE, text=True) as child:
             assert child.stdout.readline() == "listening\n"
+            # (a line for each connection is more than a pipe holds)
+            printed = []
+            printing = threading.Thread(target=printed.extend, args=(child.stdout,))
+            printing.start()
             failed, ends = check_all(os.path.join(folder, "socket"), chance, count)
-            printed = child.stdout.read().splitlines()
-    wanted = [f"connection {number}: {end}" for number, end in enumerate(ends, 1)]
+            printing.join()
+    wanted = [f"connection {number}: {end}\n" for number, end in enumerate(ends, 1)]
     return failed + sum(line != want for line, want in zip(printed, wanted)) + abs(len(printed) - len(wanted))
 
 
