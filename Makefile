@@ -42,6 +42,7 @@ dist deb: composecheck
 
 real: composecheck compose_bench
 	python3 tests/real.py ./composecheck ./compose_bench
+	python3 tests/streams.py ./composecheck 100000
 
 bench: composecheck compose_bench
 	python3 bench/run.py ./composecheck ./compose_bench

@@ -3,7 +3,7 @@
 
 A stream is frames, damaged frames and noise, each sent over a connection of its own and cut into pieces by chance. The service has an
 empty table, so what it answers is worked out here in a few lines: keys give their own text, and only loads of an empty table are
-accepted: a bundle is whole or not one. COUNT is 100,000 if none is given. The last line is `N passed, M failed`."""
+accepted: a bundle is whole or not one. COUNT is 5,000 if none is given; `make real` sends 100,000. The last line is `N passed, M failed`."""
 import os
 import random
 import socket
@@ -189,12 +189,14 @@ def serve(program, chance, count):
             failed, ends = check_all(os.path.join(folder, "socket"), chance, count)
             printing.join()
     wanted = [f"connection {number}: {end}\n" for number, end in enumerate(ends, 1)]
-    return failed + sum(line != want for line, want in zip(printed, wanted)) + abs(len(printed) - len(wanted))
+    wrong = [f"printed {line!r}, not {want!r}" for line, want in zip(printed, wanted) if line != want]
+    print("".join(f"{it}\n" for it in wrong), end="")
+    return failed + len(wrong) + abs(len(printed) - len(wanted))
 
 
 def main():
     chance = random.Random(SEED)
-    left = int(sys.argv[2]) if len(sys.argv) > 2 else 100_000
+    left = int(sys.argv[2]) if len(sys.argv) > 2 else 5_000
     total, failed = left, 0
     while left:
         count = min(left, MOST_CONNECTIONS)
