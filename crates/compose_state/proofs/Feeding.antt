@@ -1,5 +1,5 @@
 -- What a key does to a session, by the target behind what is pending.
-use Rattle.std.proofs.Common.{◌≡◌, ℕ, ◌<◌, ◌≤◌, List, [], ◌∷◌, ◌++◌, Bool, true, false, length, not, refl, sym, ◌∙◌, ap, ap₂, ◌+◌, Option, Some, None, arith, unwrap_or}
+use Rattle.std.proofs.Common.{◌≡◌, subst, ℕ, ◌<◌, ◌≤◌, List, [], ◌∷◌, ◌++◌, Bool, true, false, length, not, refl, sym, ◌∙◌, ap, ap₂, ◌+◌, Option, Some, None, arith, unwrap_or}
 use Rattle.std.proofs.lemmas.List.{length-append}
 use Rattle.keysym_core.specs.Keysym.{is_ignored}
 use Rattle.keysym_core.specs.Names.{KeysymNames, text}
@@ -17,7 +17,7 @@ use Rattle.compose_tree.specs.Targets.{target_of, leaf_text}
 use Rattle.compose_tree.proofs.Steps.{effect_at, effect_by_target, ToNode, ToLeaf}
 use Rattle.compose_state.specs.declared.fed.Fed.{Fed}
 use Rattle.compose_state.specs.Texts.{text_bytes}
-use Rattle.compose_state.specs.Answers.{IsFed}
+use Rattle.compose_state.specs.Answers.{IsFed, ComesFrom}
 use Rattle.compose_state.proofs.Places.{to_node, to_leaf, extended_short}
 
 -- the session after a key with this effect
@@ -38,11 +38,12 @@ module _ (table : List Definition) (s : Session) (k : ℕ) (t : Option Target) (
 
   -- the answer to it, where the session is another name of this one
   pub answered : (same : Session) → s ≡ same → (names : KeysymNames) (answer : Fed) → answer.accepted ≡ true → answer.status ≡ status_by (effect_at (is_empty s.pending) t) s.status
-      → text_bytes answer.text ≡ text_by (effect_at (is_empty s.pending) t) names table s.pending k → IsFed names table same k answer
-  answered same is names answer e f g = record {
+      → text_bytes answer.text ≡ text_by (effect_at (is_empty s.pending) t) names table s.pending k → ComesFrom (effect_at (is_empty s.pending) t) answer.text → IsFed names table same k answer
+  answered same is names answer e f g from = record {
     accepted = e ∙ ap not (sym accepted);
     status = f ∙ ap (λ x. status_by x s.status) (sym (effect_is_by table s.pending k t accepted leads)) ∙ ap (λ x. (fed table x k).status) is;
     text = g ∙ ap (λ x. text_by x names table s.pending k) (sym (effect_is_by table s.pending k t accepted leads)) ∙ ap (λ x. (step names table x.pending k).text) is;
+    source = subst (λ x. ComesFrom x answer.text) (sym (effect_is_by table s.pending k t accepted leads) ∙ ap (λ x. effect table x.pending k) is) from;
   }
 
 -- the text of the leaf where the key leads is the one that its step commits
@@ -69,13 +70,18 @@ module _ (table : List Definition) (s : Session) (k : ℕ) (accepted : is_ignore
       go false = refl
 
   pub answered_apart : (names : KeysymNames) (answer : Fed) → answer.accepted ≡ true → answer.status ≡ (session_apart s).status
-      → text_bytes answer.text ≡ (if is_empty s.pending then text names k else []) → IsFed names table s k answer
-  answered_apart names answer e f g =
+      → text_bytes answer.text ≡ (if is_empty s.pending then text names k else []) → ComesFrom (if is_empty s.pending then passes else cancels) answer.text → IsFed names table s k answer
+  answered_apart names answer e f g from =
       answered table s k None accepted nowhere s refl names answer e (f ∙ same_status (is_empty s.pending)) (g ∙ same_text (is_empty s.pending))
+      (subst (λ x. ComesFrom x answer.text) (same_effect (is_empty s.pending)) from)
     where
       same_status : (b : Bool) → (let x : Session = if b then record { pending = []; status = Nothing } else record { pending = []; status = Cancelled } in x).status ≡ status_by (effect_at b None) s.status
       same_status true = refl
       same_status false = refl
+
+      same_effect : (b : Bool) → (if b then passes else cancels) ≡ effect_at b None
+      same_effect true = refl
+      same_effect false = refl
 
       same_text : (b : Bool) → (if b then text names k else []) ≡ text_by (effect_at b None) names table s.pending k
       same_text true = refl

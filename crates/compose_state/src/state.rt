@@ -1,11 +1,11 @@
 //! A compose state: what is pending, and the status.
 ghost use Rattle.std.specs.Prelude.{◌≡◌, ◌≤◌, ◌<◌, length, [], ◌∷◌, ◌++◌, Some, option_map, true, if◌then◌else◌};
-ghost use Rattle.compose_model.specs.Step.{is_empty, pending};
+ghost use Rattle.compose_model.specs.Step.{is_empty, pending, passes, cancels};
 ghost use Rattle.compose_model.specs.declared.Status.TheVariants.{Nothing, Cancelled};
 ghost use Rattle.compose_model.specs.Nodes as words;
 ghost use Rattle.compose_model.specs.Nodes.{nodes, leaves};
 ghost use Rattle.compose_model.specs.Session.{Session, rest, fed, loaded};
-ghost use Rattle.compose_state.specs.Answers.{IsFed};
+ghost use Rattle.compose_state.specs.Answers.{IsFed, ComesFrom};
 ghost use Rattle.compose_state.specs.Places.{node_id};
 ghost use Rattle.compose_state.specs.Texts.{text_bytes};
 ghost use Rattle.compose_tree.specs.Targets.{target_of};
@@ -134,6 +134,7 @@ impl ComposeState {
         ensures accepted { result.accepted ≡ true }
         ensures status { result.status ≡ self.new.status }
         ensures text { text_bytes result.text ≡ (if is_empty self.old.pending then names_text names.now keysym else []) }
+        ensures source { ComesFrom (if is_empty self.old.pending then passes else cancels) result.text }
     {
         if self.pending.is_empty() {
             self.status = Status::Nothing;
@@ -167,6 +168,7 @@ fn state_after<T: ComposeTable>(table: &T, names: &Names, keysyms: &[Keysym]) ->
 /// The text of a key that is not part of a sequence.
 fn plain_text(names: &Names, keysym: Keysym) -> FedText<'static>
     ensures value { text_bytes result ≡ names_text names.now keysym }
+    ensures source { ComesFrom passes result }
     ensures few { length (text_bytes result) ≤ 255 }
 {
     match names.text_of(keysym) {

@@ -20,7 +20,7 @@ returns-in-Some-default-Node-clause-told g c =
     let s : Session = record { pending = c.self.inside.pending.items; status = c.self.inside.status } in
     let t : Option Target = Some (Node c.in-Some-default-Node.field-0-1-0) in
     let leads : target_of table s.pending c.args.keysym ≡ t = search rules in
-    answered table s c.args.keysym t (sym c.is_ignored.ensures ∙ c.if-is_ignored.false) leads c.args.self.now c.self.view_is c.args.names.now _ refl refl refl
+    answered table s c.args.keysym t (sym c.is_ignored.ensures ∙ c.if-is_ignored.false) leads c.args.self.now c.self.view_is c.args.names.now _ refl refl refl (λ e. cc)
 
 pub returns-in-Some-default-Leaf-clause-state : goal.returns-in-Some-default-Leaf-clause-state
 returns-in-Some-default-Leaf-clause-state g c =
@@ -37,7 +37,7 @@ returns-in-Some-default-Leaf-clause-told g c =
     let t : Option Target = Some (Leaf c.in-Some-default-Leaf.leaf) in
     let leads : target_of table s.pending c.args.keysym ≡ t = search rules in
     answered table s c.args.keysym t (sym c.is_ignored.ensures ∙ c.if-is_ignored.false) leads c.args.self.now c.self.view_is c.args.names.now _ refl refl
-    (leaf_commits table s.pending c.args.keysym c.in-Some-default-Leaf.leaf c.text.result.now leads c.text.ensures.value)
+    (leaf_commits table s.pending c.args.keysym c.in-Some-default-Leaf.leaf c.text.result.now leads c.text.ensures.value) refl
 
 pub returns-in-None-clause-state : goal.returns-in-None-clause-state
 returns-in-None-clause-state g c =
@@ -50,4 +50,4 @@ returns-in-None-clause-told g c =
     let table = g.T.ComposeTable.definitions c.args.table.now in
     let leads : target_of table c.args.self.now.pending c.args.keysym ≡ None = search rules in
     answered_apart table c.args.self.now c.args.keysym (sym c.is_ignored.ensures ∙ c.if-is_ignored.false) leads c.args.names.now c.feed_apart.result
-    c.feed_apart.ensures.accepted (c.feed_apart.ensures.status ∙ ap (λ s. s.status) c.feed_apart.ensures.state) c.feed_apart.ensures.text
+    c.feed_apart.ensures.accepted (c.feed_apart.ensures.status ∙ ap (λ s. s.status) c.feed_apart.ensures.state) c.feed_apart.ensures.text c.feed_apart.ensures.source
