@@ -1,9 +1,7 @@
 -- Frames: a kind, a session, a length and a payload; all numbers are big-endian (this project's protocol).
-use Rattle.std.specs.Prelude.{◌≡◌, ℕ, not, ◌||◌, ◌==◌, ◌<◌, ◌≤◌, ◌^◌, nat_lt, if◌then◌else◌, List, [], ◌∷◌, ◌++◌, length, map, take, drop, flat_map, Option, Some, None, IsUtf8}
+use Rattle.std.specs.Prelude.{◌≡◌, ℕ, not, ◌||◌, ◌==◌, nat_lt, if◌then◌else◌, List, [], ◌∷◌, ◌++◌, length, map, take, drop, flat_map, Option, Some, None}
 use Rattle.std.specs.Int.{to_be_bytes, from_be_bytes, w16, w32, w64}
-use Rattle.std.specs.List.{AllByRecursion, IsDistinct}
 use Rattle.compose_text.specs.Numbers.{is_between}
-use Rattle.compose_model.specs.Table.{same}
 use Rattle.compose_model.specs.declared.Status.{Status}
 use Rattle.compose_model.specs.declared.Status.TheVariants.{Nothing, Composing, Composed, Cancelled}
 use Rattle.compose_model.specs.declared.Rule.TheVariants.{Refuse, Longest}
@@ -90,45 +88,6 @@ answer_payload _ = []
 -- the bytes of a reply
 abbrev pub reply_bytes : Reply → List ℕ
 reply_bytes r = frame_of (answer_kind r.answer) r.session (answer_payload r.answer)
-
--- ---- bundles
-
--- a source of a table, by its name
-pub record Source : Type 0 where
-  pub name : List ℕ
-  pub content : List ℕ
-
--- what a load carries: the sources of a table, the root first, and a certificate
-pub record Bundle : Type 0 where
-  pub sources : List Source
-  pub certificate : List ℕ
-
--- a name and a content, each behind its length, of two and of four bytes
-abbrev pub source_bytes : Source → List ℕ
-source_bytes s = to_be_bytes w16 (length s.name) ++ s.name ++ to_be_bytes w32 (length s.content) ++ s.content
-
--- the number of sources, the sources, and the certificate behind its length
-abbrev pub bundle_bytes : Bundle → List ℕ
-bundle_bytes b = to_be_bytes w16 (length b.sources) ++ flat_map source_bytes b.sources ++ to_be_bytes w32 (length b.certificate) ++ b.certificate
-
--- the name is text, and both lengths fit their bytes
-pub record SourceFits (s : Source) : Type 0 where
-  pub name : length s.name < 2 ^ 16
-  pub text : IsUtf8 s.name
-  pub content : length s.content < 2 ^ 32
-
--- 1 to 64 sources with distinct names
-pub record BundleFits (b : Bundle) : Type 0 where
-  pub some : 0 < length b.sources
-  pub few : length b.sources ≤ 64
-  pub sources : AllByRecursion SourceFits b.sources
-  pub distinct : IsDistinct same (map (λ s. s.name) b.sources)
-  pub certificate : length b.certificate < 2 ^ 32
-
--- the payload is this bundle
-pub record IsBundle (bytes : List ℕ) (b : Bundle) : Type 0 where
-  pub fits : BundleFits b
-  pub is : bytes ≡ bundle_bytes b
 
 -- ---- what the bytes on a stream begin with
 

@@ -16,10 +16,10 @@ const SPARE: usize = 16_384;
 
 /// The bytes of a stream that were taken in and not yet given out as requests.
 ///
-/// They stand in one buffer, behind those that were given out and are not yet dropped; there are never more of these than are held.
-/// When half of the buffer is given out, the rest moves to the front, and a buffer four times as large as that needs is made smaller.
-/// So each byte is moved a bounded number of times on the average, however small the pieces are, and the memory is at most some
-/// eight times what is held, but for 64 KiB.
+/// They are kept in one buffer, after those that were given out and are not yet dropped; there are never more of these than are held.
+/// When half of the buffer is given out, the rest moves to the front, and a buffer more than four times as large as the rest (or as
+/// 16 KiB) is made smaller, to twice that. So each byte is moved a bounded number of times on the average, however small the pieces
+/// are, and the memory that a large load took is given back once it is answered.
 #[derive(Debug, Drop)]
 pub struct Feeder {
     buffer: Vec<u8>,
@@ -65,7 +65,8 @@ impl Feeder {
     ///
     /// None where less than a frame is held. A fault where the held bytes begin with it: nothing changes, and each further call
     /// answers the same. NoMemory where there is none for a load's payload: nothing changes, and a later call may give the request.
-    /// A load takes one allocation of its payload's size and time linear in it; all others take no memory, and O(1) on the average.
+    /// A load takes one allocation of its payload's size and time linear in it; all others want no memory, and O(1) on the average.
+    /// After any request the buffer may be made smaller; where that is refused, it stays as large as it is.
     pub fn next_request(&mut self, alloc: Global) -> Result<Option<Request>, WireFault>
         ensures so { GivesSo result self.old self.new }
         ensures request { (q : words.Request) (more : List ℕ) → Fits q → self.old ≡ frame q ++ more → GivesRequest q more result self.new }
