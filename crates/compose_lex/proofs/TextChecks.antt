@@ -1,13 +1,13 @@
 -- The bytes of a raw text, checked for being a text.
 use Rattle.std.proofs.Common.{◌≡◌, ℕ, ◌+◌, ◌≤◌, List, [], ◌∷◌, ◌++◌, length, Bool, true, false, cond, nat_lt, refl, sym, ◌∙◌, ap, subst, arith}
-use Rattle.std.specs.Prelude.{◌==◌, Result, Ok, Err, IfOk, OnOk}
+use Rattle.std.specs.Prelude.{◌==◌, Result, Ok, Err, OnOk}
 use Rattle.std.specs.List.{list_any}
 use Rattle.std.specs.Str.{IsUtf8, is_utf8}
 use Rattle.std.proofs.lemmas.Bool.{or_parts, false_from_ne_true}
 use Rattle.std.proofs.lemmas.Str.{is_utf8-from_IsUtf8, IsUtf8-from_is_utf8}
 use Rattle.std.proofs.lemmas.List.{take_all}
 use Rattle.compose_lex.specs.Escape.{bytes_from, text_or, text_of, Unescapes, IsText}
-use Rattle.compose_lex.specs.Lexed.{Is, PushGives}
+use Rattle.compose_lex.specs.Lexed.{PushGives}
 use Rattle.compose_lex.specs.Steps.{len_check, IsDecoded}
 use Rattle.compose_lex.specs.declared.LexFault.{LexFault}
 use Rattle.compose_lex.specs.declared.LexFault.TheVariants.{EmptyText, TextTooLong, TextNotUtf8}
@@ -65,8 +65,3 @@ decoded_other kept bytes len u d h few t = not_text bytes u (ap len_check (sym d
 pub found_pushed : (old new raw : List ℕ) (r : Result (Unit {0}) LexFault) → PushGives old new r (text_of raw) → OnOk r ((bytes : List ℕ) × (new ≡ old ++ bytes) × Unescapes raw bytes × IsText bytes)
 found_pushed old new raw (Ok u) p = let t = text_said raw p.0 p.1 in (p.0, p.2, t.0, t.1)
 found_pushed old new raw (Err e) p = tt
-
--- what is given is what the raw text stands for
-pub found_text : {X : Type 0} (view : X → List ℕ) (r : Result X LexFault) (raw : List ℕ) → Is view r (text_of raw) → IfOk r (λ x. Unescapes raw (view x) × IsText (view x))
-found_text view (Ok x) raw h = text_said raw (view x) h
-found_text view (Err e) raw h = tt

@@ -7,8 +7,6 @@ use Rattle.compose_lex.specs.declared.Line.{Line}
 use Rattle.compose_lex.specs.declared.Line.TheVariants.{Blank, Include, Production}
 use Rattle.compose_lex.specs.declared.lexer.Said.{Said}
 use Rattle.compose_lex.specs.declared.lexer.Said.TheVariants as said
-use Rattle.compose_lex.specs.declared.texts.Text.{Text}
-use Rattle.compose_lex.specs.declared.texts.Text.TheVariants.{Raw, Unescaped}
 
 -- what a line says
 abbrev pub reading : Line → Reading
@@ -32,11 +30,6 @@ event_names (production events raw name) = events
 abbrev pub names_in : Result Reading LexFault → List (List ℕ)
 names_in (Ok said) = event_names said
 names_in (Err e) = []
-
--- the bytes of a text
-abbrev pub text_bytes : Text → List ℕ
-text_bytes (Raw text) = text.now
-text_bytes (Unescaped text) = text.bytes
 
 -- the call gives what the definition gives
 abbrev pub Is : {X Y : Type 0} → (X → Y) → Result X LexFault → Result Y LexFault → Type 0

@@ -5,8 +5,8 @@
 //! `<Multi_key> <apostrophe> <e> : "é" eacute # e acute` is a production of three events with the raw text `é` and the
 //! result name `eacute`, and `Ctrl<a> : "x"` is a modifier list at 0. `lex_line_into` gives the same with the names of
 //! the events in the caller's list, so that one list serves every line of a file. A raw text is the string as it
-//! stands; `unescape` and, without memory, `read_text` give the text that it stands for, or the leftmost bad escape, and
-//! `push_text` puts it behind another text. `quote` prints a text in quotes, and what stands between these stands for
+//! stands; `unescape` gives the text that it stands for, or the leftmost bad escape, and `push_text` puts it after another
+//! text. `quote` prints a text in quotes, and what stands between these stands for
 //! the text.
 //!
 //! The grammar is a relation between a line and what it says (`specs/Line.antt`), apart from the reader that gives the
@@ -32,7 +32,7 @@ use arrayvec::ArrayVec;
 pub use lexer::{Said, lex_line, lex_line_into};
 pub use quotes::quote;
 use std::alloc::AllocError;
-pub use texts::{Text, push_text, read_text, unescape};
+pub use texts::{push_text, unescape};
 use thiserror::Error;
 
 /// What is wrong with a line, or with the text of a string. `at` is an offset in bytes in the text that the call was handed.

@@ -3,34 +3,12 @@ ghost use Rattle.std.specs.Prelude.{◌≡◌, ◌==◌, ◌≤◌, ◌<◌, ◌
 ghost use Rattle.std.specs.List.{list_any};
 ghost use Rattle.std.specs.Str.{IsUtf8};
 ghost use Rattle.compose_lex.specs.Escape as escapes;
-ghost use Rattle.compose_lex.specs.Lexed.{text_bytes, Is, Gives, PushGives};
+ghost use Rattle.compose_lex.specs.Lexed.{Is, Gives, PushGives};
 ghost use Rattle.compose_lex.specs.Steps.{len_check, IsDecoded};
 
 use crate::escapes::decode;
 use crate::{LexFault, law_one_text};
-use arrayvec::ArrayString;
-use std::alloc::{AllocError, Global};
-
-/// A text of 1 to 255 bytes.
-#[derive(Clone, Copy, Debug)]
-pub enum Text<'a> {
-    /// The raw text itself, where it has no backslash.
-    Raw(&'a str),
-    /// What the escapes of a raw text gave.
-    Unescaped(ArrayString<255>),
-}
-
-impl Text<'_> {
-    /// The text. O(1).
-    pub fn as_str(&self) -> &str
-        ensures { result.now ≡ text_bytes self.now }
-    {
-        match self {
-            Text::Raw(text) => text,
-            Text::Unescaped(text) => text.as_str(),
-        }
-    }
-}
+use std::alloc::Global;
 
 /// A text has 1 to 255 bytes.
 fn check_len(len: usize) -> Result<(), LexFault>
@@ -51,14 +29,6 @@ fn has_escapes(raw: &str) -> bool
     raw.as_bytes().contains(&b'\\')
 }
 
-/// A raw text without a backslash.
-fn plain_text(raw: &str) -> Result<Text<'_>, LexFault>
-    ensures { Is text_bytes result (escapes.text_or (Ok raw.now)) }
-{
-    check_len(raw.len())?;
-    Ok(Text::Raw(raw))
-}
-
 /// The text of the bytes of a raw text, of which there are `len` and the first 255 were kept.
 fn decoded_text(kept: &[u8], len: usize) -> Result<&str, LexFault>
     ensures exact { (bytes : List ℕ) → IsDecoded kept.now len bytes → Is (λ text. text.now) result (escapes.text_or (Ok bytes)) }
@@ -71,39 +41,14 @@ fn decoded_text(kept: &[u8], len: usize) -> Result<&str, LexFault>
     }
 }
 
-/// A raw text with escapes.
-fn unescaped_text(raw: &str) -> Result<Text<'_>, LexFault>
-    ensures { Is text_bytes result (escapes.text_of raw.now) }
-{
-    let (bytes, len) = decode(raw.as_bytes())?;
-    let text = decoded_text(bytes.as_slice(), len)?;
-    let mut kept = ArrayString::new();
-    kept.push_str(text);
-    Ok(Text::Unescaped(kept))
-}
-
-/// The text that a raw text stands for, or its fault. Takes no memory. O(bytes).
-pub fn read_text<'a>(raw: &'a str) -> Result<Text<'a>, LexFault>
-    ensures exact { Is text_bytes result (escapes.text_of raw.now) }
-    ensures found { IfOk result (λ text. escapes.Unescapes raw.now (text_bytes text) × escapes.IsText (text_bytes text)) }
-{
-    law_one_text();
-    if has_escapes(raw) {
-        unescaped_text(raw)
-    } else {
-        plain_text(raw)
-    }
-}
-
 /// The text that a raw text stands for, or its fault. Takes memory once, for the text. O(bytes).
 pub fn unescape(alloc: Global, raw: &str) -> Result<String, LexFault>
     ensures exact { Gives string_bytes result (escapes.text_of raw.now) }
     ensures found { IfOk result (λ text. escapes.Unescapes raw.now (string_bytes text) × escapes.IsText (string_bytes text)) }
 {
-    match read_text(raw) {
-        Ok(text) => Ok(String::from_str(alloc, text.as_str())?),
-        Err(fault) => Err(fault),
-    }
+    let mut text = String::new(alloc);
+    push_text(&mut text, raw)?;
+    Ok(text)
 }
 
 /// Pushes a raw text without a backslash.
@@ -124,7 +69,7 @@ fn push_unescaped(text: &mut String, raw: &str) -> Result<(), LexFault>
     Ok(())
 }
 
-/// Puts the text that a raw text stands for behind another text; a fault changes nothing. A raw text without a
+/// Puts the text that a raw text stands for after another text; a fault changes nothing. A raw text without a
 /// backslash is put there as it stands. Takes memory only to grow the text. O(bytes).
 pub fn push_text(text: &mut String, raw: &str) -> Result<(), LexFault>
     ensures exact { PushGives (string_bytes text.old) (string_bytes text.new) result (escapes.text_of raw.now) }

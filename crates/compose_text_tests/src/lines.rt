@@ -1,8 +1,6 @@
 //! Worked lines and texts, and the printed faults.
 use arrayvec::ArrayVec;
-use compose_lex::{
-    LexFault, Line, Said, lex_line, lex_line_into, push_text, quote, read_text, unescape,
-};
+use compose_lex::{LexFault, Line, Said, lex_line, lex_line_into, push_text, quote, unescape};
 use std::alloc::{AllocError, Global};
 use std::test::Fail;
 
@@ -120,10 +118,6 @@ fn reads_texts(rt: HostRuntime) -> Result<(), Fail> {
     ];
     for (raw, text) in rows {
         assert_eq!(rt; unescape(rt.alloc(), raw)?.as_str(), text);
-        match read_text(raw) {
-            Ok(found) => assert_eq!(rt; found.as_str(), text),
-            Err(_) => assert!(rt; false, "{raw}"),
-        }
     }
     assert_eq!(rt;
         quote(rt.alloc(), "a\"b\\\n\u{7f}é")?.as_str(),
