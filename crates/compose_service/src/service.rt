@@ -112,7 +112,8 @@ impl<T: ComposeTable> Service<T> {
     ghost use Rattle.compose_serve.specs.Ends.{Serves};
 
     /// A service without sessions over the table of the sources, whose root is the first one: the table is read by the rule, then the
-    /// certificate, and it is checked against itself. The first fault decides, in this order.
+    /// certificate, and it is checked against itself. The first fault decides, in this order. O(b + n log n) in the bytes of the sources
+    /// and of the certificate and the definitions of the table, beside what `check` costs on the pairs of the certificate.
     pub fn start(
         alloc: Global,
         names: Names,
@@ -179,7 +180,8 @@ impl<T: ComposeTable> Service<T> {
         }
     }
 
-    /// Answers requests in order, each by `answer`. Room for all replies is taken first; refused then, nothing has changed.
+    /// Answers requests in order, each by `answer`. Room for all replies is taken first; refused then, nothing has changed. The sum of
+    /// what the requests cost, and one allocation for the replies.
     pub fn run(&mut self, alloc: Global, requests: &[Request]) -> Result<Vec<Reply>, RunFault>
         ensures ok { IfOk result (λ replies. (said : List words.Reply) × Run reading (seen self.old) (map request_of requests.now) said (seen self.new) × SayReplies replies.items said) }
         ensures err { OnErr result (self.new ≡ self.old) }
