@@ -38,15 +38,10 @@ fn explain_tables<T: ComposeTable>(
 ) -> Result<Answer, Refusal>
     ensures { Gives IsExplained result (explainable (parts T.definitions migration.now) fresh.now) }
 {
-    let found = walk(
-        alloc,
-        &migration.old,
-        &migration.new,
-        &migration.names,
-        fresh,
-    )?;
+    let names = &migration.names;
+    let found = walk(alloc, &migration.old, &migration.new, names, fresh)?;
     match found {
-        Walk::Differs(least) => Ok(Answer::No(tell(alloc, &migration.names, &least)?)),
+        Walk::Differs(least) => Ok(Answer::No(tell(alloc, names, &least)?)),
         Walk::Follows(_pairs) => Ok(Answer::Yes(String::from_str(alloc, "follows\n")?)),
     }
 }
@@ -72,17 +67,12 @@ fn explain_all_tables<T: ComposeTable>(
 ) -> Result<Answer, Refusal>
     ensures { Gives IsAllExplained result (explainable (parts T.definitions migration.now) fresh.now) }
 {
-    let found = differences(
-        alloc,
-        &migration.old,
-        &migration.new,
-        &migration.names,
-        fresh,
-    )?;
+    let names = &migration.names;
+    let found = differences(alloc, &migration.old, &migration.new, names, fresh)?;
     if found.is_empty() {
         return Ok(Answer::Yes(String::from_str(alloc, "follows\n")?));
     }
-    Ok(Answer::No(tell_all(alloc, &migration.names, &found)?))
+    Ok(Answer::No(tell_all(alloc, names, &found)?))
 }
 
 /// The four lines of a counterexample.
