@@ -1,25 +1,29 @@
--- How a run ends (this project's profile): as the command answered, unless output can't be written, which is refused.
-use Rattle.std.specs.Prelude.{◌≡◌, ◌≢◌, Result, Ok, Err}
+-- How a run ends (this project's profile): as its answer says, or why there is none; an answer that can't be written is refused.
+use Rattle.std.specs.Prelude.{◌≡◌, ◌⊎◌, Result, Ok, Err}
 use Rattle.clap.specs.declared.error.kind.ErrorKind.{ErrorKind}
 use Rattle.clap.specs.declared.error.kind.ErrorKind.TheVariants as kinds
-use Rattle.compose_tool.specs.Ends.{end_of}
-use Rattle.compose_tool.specs.declared.answer.Answer.{Answer}
 use Rattle.compose_tool.specs.declared.answer.Ended.{Ended}
 use Rattle.compose_tool.specs.declared.answer.Ended.TheVariants.{Yes, No, Refused, NoMemory}
-use Rattle.compose_tool.specs.declared.refusal.Refusal.{Refusal}
 
--- the run ends so, unless what it has to print can't be written, which is refused
-abbrev pub IsWritten : Ended → Ended → Type 0
-IsWritten ended end = end ≢ Refused → end ≡ ended
+-- where what is to be written can't be: an answer is refused, and what has no answer ends as it does
+abbrev pub unwritten_end : Ended → Ended
+unwritten_end Yes = Refused
+unwritten_end No = Refused
+unwritten_end Refused = Refused
+unwritten_end NoMemory = NoMemory
 
--- an answer is to be written; a refusal ends as it does, whether its line can be written or not
-abbrev pub AnswerEnds : Result Answer Refusal → Ended → Type 0
-AnswerEnds (Ok answer) end = IsWritten (end_of (Ok answer)) end
-AnswerEnds (Err refusal) end = end ≡ end_of (Err refusal)
+-- by what writing it gave
+abbrev pub written_end : {E : Type 0} → Result (Unit {0}) E → Ended → Ended
+written_end (Ok done) ended = ended
+written_end (Err fault) ended = unwritten_end ended
 
 -- words that are no command: yes where they ask for help or the version
-abbrev pub WordsEnd : ErrorKind → Ended → Type 0
-WordsEnd kinds.DisplayHelp end = IsWritten Yes end
-WordsEnd kinds.DisplayVersion end = IsWritten Yes end
-WordsEnd kinds.OutOfMemory end = end ≡ NoMemory
-WordsEnd kind end = end ≡ Refused
+abbrev pub words_end : ErrorKind → Ended
+words_end kinds.DisplayHelp = Yes
+words_end kinds.DisplayVersion = Yes
+words_end kinds.OutOfMemory = NoMemory
+words_end kind = Refused
+
+-- as it does where it is written, or where it can't be: the stream decides
+abbrev pub EndsPrinted : Ended → Ended → Type 0
+EndsPrinted ended end = (end ≡ ended) ⊎ (end ≡ unwritten_end ended)

@@ -2,7 +2,7 @@
 ghost use Rattle.std.specs.Prelude.{◌≡◌};
 ghost use Rattle.clap.specs.Words.{kind_of};
 ghost use Rattle.compose_tool.specs.Ends.{end_of};
-ghost use Rattle.compose_commands.specs.Ends.{AnswerEnds, IsWritten, WordsEnd};
+ghost use Rattle.compose_commands.specs.Ends.{EndsPrinted, words_end, written_end};
 
 use clap::error::ErrorKind;
 use compose_tool::{Answer, Ended, Refusal};
@@ -14,15 +14,20 @@ pub fn report(
     answered: &Result<Answer, Refusal>,
     words: &[&str],
 ) -> Ended
-    ensures { AnswerEnds answered.now result }
+    ensures { EndsPrinted (end_of answered.now) result }
 {
-    let ended = Ended::of(answered);
+    written(rt, tell(rt, answered, words), Ended::of(answered))
+}
+
+/// Prints the answer to standard output, or why there is none to standard error.
+fn tell(
+    rt: &(impl Print + Eprint),
+    answered: &Result<Answer, Refusal>,
+    words: &[&str],
+) -> io::Result<()> {
     match answered {
-        Ok(answer) => written(rt, print!(rt; "{answer}"), ended),
-        Err(refusal) => {
-            let _ = tell_refusal(rt, refusal, words);
-            ended
-        }
+        Ok(answer) => print!(rt; "{answer}"),
+        Err(refusal) => tell_refusal(rt, refusal, words),
     }
 }
 
@@ -36,13 +41,14 @@ fn tell_refusal(rt: &impl Eprint, refusal: &Refusal, words: &[&str]) -> io::Resu
     eprintln!(rt; "{refusal}")
 }
 
-/// How a run ends that had this to print: output that can't be written is refused.
+/// How a run ends that has printed this, and would end so. An answer that can't be written is refused; a run without an answer ends as
+/// it does, whether that can be told or not.
 pub fn written(rt: &impl Eprint, printed: io::Result<()>, ended: Ended) -> Ended
-    ensures { IsWritten ended result }
+    ensures { result ≡ written_end printed ended }
 {
-    match printed {
-        Ok(()) => ended,
-        Err(_) => refused(eprintln!(rt; "refused: output")),
+    match (printed, ended) {
+        (Err(_), Ended::Yes | Ended::No) => refused(eprintln!(rt; "refused: output")),
+        _ => ended,
     }
 }
 
@@ -63,13 +69,26 @@ pub fn no_memory(rt: &impl Eprint) -> Ended
 
 /// Prints the help that the words ask for, or why they are refused.
 pub fn report_words(rt: &(impl Print + Eprint), error: &clap::Error) -> Ended
-    ensures { WordsEnd (kind_of error.now) result }
+    ensures { EndsPrinted (words_end (kind_of error.now)) result }
 {
+    written(rt, tell_words(rt, error), end_of_words(error.kind()))
+}
+
+/// Prints what clap says of the words: help to standard output, and why they are refused to standard error.
+fn tell_words(rt: &(impl Print + Eprint), error: &clap::Error) -> io::Result<()> {
     match error.kind() {
-        ErrorKind::OutOfMemory => no_memory(rt),
-        ErrorKind::DisplayHelp | ErrorKind::DisplayVersion => {
-            written(rt, error.print(rt), Ended::Yes)
-        }
-        _ => refused(error.print(rt)),
+        ErrorKind::OutOfMemory => eprintln!(rt; "out of memory"),
+        _ => error.print(rt),
+    }
+}
+
+/// How a run ends whose words are no command: yes where they ask for help or the version.
+fn end_of_words(kind: ErrorKind) -> Ended
+    ensures { result ≡ words_end kind }
+{
+    match kind {
+        ErrorKind::DisplayHelp | ErrorKind::DisplayVersion => Ended::Yes,
+        ErrorKind::OutOfMemory => Ended::NoMemory,
+        _ => Ended::Refused,
     }
 }
