@@ -20,6 +20,8 @@ MOST_PAYLOAD = 8_388_608
 CERTIFICATE = b"compose-certificate 1\nbound 0\npairs 1\n0 0\ntypings 0\n"
 BUNDLE = b"\x00\x01\x00\x01r" + bytes(4) + struct.pack(">I", len(CERTIFICATE)) + CERTIFICATE
 IGNORED = [*range(0xFE01, 0xFE14), 0xFF7E, 0xFF7F, *range(0xFFE1, 0xFFEF)]
+# Keys of each kind: those of Latin-1, of the keypad and by a character's number, ignored ones, a dead key, and any number.
+KEYSYMS = [range(0x20, 0x100), range(0xFF80, 0xFFC0), range(0x1000000, 0x1120000), IGNORED, [0xFE51], range(1 << 32)]
 OPEN, KEY, RESET, CLOSE, LOAD, ASK, LOAD_LONGEST = range(1, 8)
 
 
@@ -29,6 +31,16 @@ def frame(kind, session, payload=b""):
 
 def refused(session, code):
     return frame(0xFF, session, struct.pack(">H", code))
+
+
+def own_text(keysym):
+    """What a key types by itself, where no header gives it a name: a character of Latin-1, a digit of the keypad, any character by its number."""
+    if 0x20 <= keysym <= 0x7E or 0xA0 <= keysym <= 0xFF:
+        return chr(keysym)
+    if 0xFFB0 <= keysym <= 0xFFB9:
+        return chr(keysym - 0xFFB0 + ord("0"))
+    code = keysym - 0x1000000
+    return chr(code) if 0x100 <= code <= 0x10FFFF and not 0xD800 <= code <= 0xDFFF else ""
 
 
 class Service:
@@ -43,8 +55,7 @@ class Service:
             return refused(session, 4)
         if keysym in IGNORED:
             return frame(0x82, session, b"\x00\x00")
-        text = chr(keysym).encode() if 0x20 <= keysym <= 0x7E or 0xA0 <= keysym <= 0xFF else b""
-        return frame(0x82, session, b"\x00\x01" + text)
+        return frame(0x82, session, b"\x00\x01" + own_text(keysym).encode())
 
     def load(self, session, payload):
         if payload != BUNDLE:
@@ -99,7 +110,7 @@ def random_frame(chance):
     session = chance.randrange(6)
     kind = chance.randrange(1, 8)
     if kind == KEY:
-        keysym = chance.choice([chance.randrange(0x20, 0x100), chance.choice(IGNORED), 0xFE51, chance.randrange(1 << 32)])
+        keysym = chance.choice(chance.choice(KEYSYMS))
         return frame(kind, session, struct.pack(">I", keysym))
     if kind in (LOAD, LOAD_LONGEST):
         cut = chance.choice([len(BUNDLE), chance.randrange(len(BUNDLE)), 0])
@@ -137,15 +148,23 @@ def connect(path):
     raise SystemExit("no socket")
 
 
-def converse(path, stream, chance):
-    """Sends the stream in pieces, ends its side, and gives what comes back. A faulty frame may end the connection early."""
+def cut_by_chance(stream, chance):
+    """The stream in pieces, cut by chance."""
+    pieces = []
+    while stream:
+        size = chance.randrange(1, len(stream) + 1)
+        pieces.append(stream[:size])
+        stream = stream[size:]
+    return pieces
+
+
+def converse(path, pieces):
+    """Sends the pieces of a stream, ends its side, and gives what comes back. A faulty frame may end the connection early."""
     got = []
     with connect(path) as connection:
         try:
-            while stream:
-                size = chance.randrange(1, len(stream) + 1)
-                connection.sendall(stream[:size])
-                stream = stream[size:]
+            for piece in pieces:
+                connection.sendall(piece)
             connection.shutdown(socket.SHUT_WR)
         except OSError:
             pass
@@ -165,7 +184,7 @@ def check_all(path, chance, count):
         stream = random_stream(chance)
         replies, end = expected(service, stream)
         ends.append(end)
-        got = converse(path, stream, chance)
+        got = converse(path, cut_by_chance(stream, chance))
         if got != replies:
             failed += 1
             print(f"stream {number}: sent {stream.hex()}, got {got.hex()}, not {replies.hex()}")
