@@ -1,5 +1,5 @@
 # `make` proves and builds ./composecheck; `make test` is the gate; `make install PREFIX=/usr/local` installs, `make uninstall` takes it away.
-# `make dist` and `make deb` pack the proved program for others, in packages/.
+# `make dist` and `make deb` pack the proved program for others, in packages/; `make test-packages` looks at what they hold.
 # `make test-whole` is the gate with each must-fail edit in a check of its own, as the kit's `rt ci` tries them: for a release.
 # `make real` runs the program on the tables that Debian ships, `make bench` measures it; both prove and build ./compose_bench too.
 PREFIX = /usr/local
@@ -25,8 +25,10 @@ install: composecheck
 	install -D composecheck $(DESTDIR)$(PREFIX)/bin/composecheck
 	install -D -m 644 docs/composecheck.1 $(DESTDIR)$(PREFIX)/share/man/man1/composecheck.1
 	install -D -m 644 docs/composecheck.5 $(DESTDIR)$(PREFIX)/share/man/man5/composecheck.5
-	install -D -m 644 -t $(DESTDIR)$(PREFIX)/share/composecheck share/composecheck/*
+	install -D -m 644 -t $(DESTDIR)$(PREFIX)/share/composecheck $(wildcard share/composecheck/*.*)
+	install -D -m 644 share/composecheck/composecheck.socket $(DESTDIR)$(PREFIX)/lib/systemd/user/composecheck.socket
 	install -D -m 644 share/composecheck/composecheck.service $(DESTDIR)$(PREFIX)/lib/systemd/user/composecheck.service
+	sed -i 's|/usr/local/|$(PREFIX)/|' $(DESTDIR)$(PREFIX)/lib/systemd/user/composecheck.service
 	install -D -m 644 share/completions/composecheck.bash $(DESTDIR)$(PREFIX)/share/bash-completion/completions/composecheck
 	install -D -m 644 share/completions/_composecheck $(DESTDIR)$(PREFIX)/share/zsh/site-functions/_composecheck
 	install -D -m 644 share/completions/composecheck.fish $(DESTDIR)$(PREFIX)/share/fish/vendor_completions.d/composecheck.fish
@@ -34,14 +36,19 @@ install: composecheck
 uninstall:
 	rm -rf $(DESTDIR)$(PREFIX)/share/composecheck
 	rm -f $(DESTDIR)$(PREFIX)/bin/composecheck $(DESTDIR)$(PREFIX)/share/man/man1/composecheck.1 $(DESTDIR)$(PREFIX)/share/man/man5/composecheck.5
-	rm -f $(DESTDIR)$(PREFIX)/lib/systemd/user/composecheck.service $(DESTDIR)$(PREFIX)/share/bash-completion/completions/composecheck
+	rm -f $(DESTDIR)$(PREFIX)/lib/systemd/user/composecheck.service $(DESTDIR)$(PREFIX)/lib/systemd/user/composecheck.socket
+	rm -f $(DESTDIR)$(PREFIX)/share/bash-completion/completions/composecheck
 	rm -f $(DESTDIR)$(PREFIX)/share/zsh/site-functions/_composecheck $(DESTDIR)$(PREFIX)/share/fish/vendor_completions.d/composecheck.fish
 
 dist deb: composecheck
 	python3 packaging/package.py $@ ./composecheck packages
 
+test-packages: composecheck
+	python3 packaging/package_test.py ./composecheck
+
 real: composecheck compose_bench
 	python3 tests/real.py ./composecheck ./compose_bench
+	python3 tests/real_service.py ./composecheck
 	python3 tests/streams.py ./composecheck 100000
 
 bench: composecheck compose_bench
@@ -51,4 +58,4 @@ bench: composecheck compose_bench
 clean:
 	rm -rf composecheck compose_bench packages crates/*/out
 
-.PHONY: all test test-whole install uninstall dist deb real bench clean
+.PHONY: all test test-whole install uninstall dist deb test-packages real bench clean
