@@ -4,7 +4,8 @@
   package.py dist PROGRAM FOLDER    composecheck-VERSION-ARCH.tar.gz: the program, manual pages, share/, licence, SHA256SUMS and VERSION
   package.py deb PROGRAM FOLDER     composecheck_VERSION_ARCH.deb, by dpkg-deb
 
-Both hold the same files in the same places, and are the same to the byte when they are made from the same program and sources.
+Both hold the same files in the same places, the first below a prefix of one's own (the files name /usr/local), the second below /usr.
+They are the same to the byte when they are made from the same program and sources.
 """
 import gzip
 import hashlib
@@ -24,6 +25,7 @@ COMPLETIONS = {
     "_composecheck": "share/zsh/site-functions/_composecheck",
     "composecheck.fish": "share/fish/vendor_completions.d/composecheck.fish",
 }
+UNITS = ("composecheck.service", "composecheck.socket")
 
 
 def text_of(*command):
@@ -35,19 +37,20 @@ def read(path):
         return file.read()
 
 
-def compressed(path):
-    """Returns a manual page as Debian installs it."""
-    return gzip.compress(read(path), mtime=0)
-
-
-def files_of(program):
+def files_of(program, prefix):
     """Returns the bytes of each file by its place below the prefix, the program among them."""
+    def named(path):
+        return read(f"{TOP}/{path}").replace(b"/usr/local/", f"{prefix}/".encode())
+
     files = {"bin/composecheck": read(program)}
     for section in "15":
-        files[f"share/man/man{section}/composecheck.{section}.gz"] = compressed(f"{TOP}/docs/composecheck.{section}")
+        # (compressed, as Debian installs it)
+        files[f"share/man/man{section}/composecheck.{section}.gz"] = gzip.compress(named(f"docs/composecheck.{section}"), mtime=0)
     for name in sorted(os.listdir(f"{TOP}/share/composecheck")):
         if os.path.isfile(f"{TOP}/share/composecheck/{name}"):
-            files[f"share/composecheck/{name}"] = read(f"{TOP}/share/composecheck/{name}")
+            files[f"share/composecheck/{name}"] = named(f"share/composecheck/{name}")
+    for name in UNITS:
+        files[f"lib/systemd/user/{name}"] = named(f"share/composecheck/{name}")
     for name, place in COMPLETIONS.items():
         files[place] = read(f"{TOP}/share/completions/{name}")
     for name in ("FORMATS.md", "PROTOCOL.md"):
@@ -106,6 +109,8 @@ def make_deb(files, version, time, folder):
         os.mkdir(f"{room}/DEBIAN", 0o755)
         with open(f"{room}/DEBIAN/control", "w", encoding="utf-8") as file:
             file.write(control_of(files, version))
+        with open(f"{room}/DEBIAN/md5sums", "w", encoding="utf-8") as file:
+            file.writelines(f"{hashlib.md5(content).hexdigest()}  usr/{path}\n" for path, content in sorted(files.items()))
         for at, _, names in os.walk(room, topdown=False):
             for name in [*names, "."]:
                 os.utime(f"{at}/{name}", (time, time))
@@ -120,8 +125,8 @@ def main():
     os.makedirs(folder, exist_ok=True)
     version = text_of(os.path.abspath(program), "--version").split()[-1]
     time = int(text_of("git", "log", "-1", "--format=%ct"))
-    make = {"dist": make_dist, "deb": make_deb}[kind]
-    print(make(files_of(program), version, time, folder))
+    make, prefix = {"dist": (make_dist, "/usr/local"), "deb": (make_deb, "/usr")}[kind]
+    print(make(files_of(program, prefix), version, time, folder))
 
 
 if __name__ == "__main__":
