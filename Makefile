@@ -44,7 +44,7 @@ dist deb: composecheck
 	python3 packaging/package.py $@ ./composecheck packages
 
 test-packages: composecheck
-	python3 packaging/package_test.py ./composecheck
+	python3 tests/packages.py ./composecheck
 
 real: composecheck compose_bench
 	python3 tests/real.py ./composecheck ./compose_bench

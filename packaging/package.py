@@ -5,7 +5,8 @@
   package.py deb PROGRAM FOLDER     composecheck_VERSION_ARCH.deb, by dpkg-deb
 
 Both hold the same files in the same places, the first below a prefix of one's own (the files name /usr/local), the second below /usr.
-They are the same to the byte when they are made from the same program and sources.
+They are the same to the byte when they are made from the same program and sources. Their files are as old as the last commit, or as
+SOURCE_DATE_EPOCH says.
 """
 import gzip
 import hashlib
@@ -124,7 +125,7 @@ def main():
     os.umask(0o022)
     os.makedirs(folder, exist_ok=True)
     version = text_of(os.path.abspath(program), "--version").split()[-1]
-    time = int(text_of("git", "log", "-1", "--format=%ct"))
+    time = int(os.environ.get("SOURCE_DATE_EPOCH") or text_of("git", "log", "-1", "--format=%ct"))
     make, prefix = {"dist": (make_dist, "/usr/local"), "deb": (make_deb, "/usr")}[kind]
     print(make(files_of(program, prefix), version, time, folder))
 

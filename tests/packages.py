@@ -1,5 +1,5 @@
 #!/usr/bin/env python3
-"""package_test.py PROGRAM: makes both packages twice, compares their bytes, unpacks each into an empty folder, checks the sums of its
+"""packages.py PROGRAM: makes both packages twice, compares their bytes, unpacks each into an empty folder, checks the sums of its
 files, and types and serves with the program and the client that were unpacked. The last line is `N passed, M failed`."""
 import hashlib
 import os
@@ -10,10 +10,9 @@ import sys
 import tarfile
 import tempfile
 
-HERE = os.path.dirname(os.path.abspath(__file__))
-sys.path.insert(0, os.path.join(os.path.dirname(HERE), "tests"))
 from service import Results
 
+TOP = os.path.dirname(os.path.dirname(os.path.abspath(__file__)))
 TABLE = '<Multi_key> <apostrophe> <e> : "é"\n'
 TYPED = 'composing ""\ncomposing ""\ncomposed "é"\nnothing "x"\n'
 CLIENT = """
@@ -37,8 +36,8 @@ def packed(kind, program, folder, results):
     """The package's path. It is made twice, the second time as another user of another place might make it."""
     paths = []
     for name, changes in {"first": {}, "second": {"TZ": "Asia/Tokyo", "LC_ALL": "C"}}.items():
-        words = [sys.executable, os.path.join(HERE, "package.py"), kind, program, os.path.join(folder, name, kind)]
-        made = run(*words, env={**os.environ, **changes}, umask=0o077 if changes else 0o022)
+        words = [sys.executable, os.path.join(TOP, "packaging", "package.py"), kind, program, os.path.join(folder, name, kind)]
+        made = run(*words, env={**os.environ, "SOURCE_DATE_EPOCH": "1700000000", **changes}, umask=0o077 if changes else 0o022)
         results.expect(f"{kind} is made", (made.returncode, made.stderr), (0, ""))
         paths.append(made.stdout.strip())
     results.expect(f"{kind} is the same to the byte when it is made again", read(paths[0]) == read(paths[1]), True)
