@@ -29,7 +29,10 @@ pub fn file<'a>(alloc: Global, name: &'a str, help: &'a str) -> Arg<'a> {
 /// The command that types keys.
 fn type_command<'a>(alloc: Global) -> Result<Command<'a>, AllocError> {
     Command::new(alloc, "type")
-        .about("Types keys with a table, and prints what happens at each")
+        .about("Type keys with a table, and print what happens at each")
+        .after_help(
+            "Exit status: 0 typed, 2 input refused, 3 out of memory\nExample: composecheck type table.manifest Multi_key apostrophe e",
+        )
         .arg(names_option(alloc))?
         .arg(file(alloc, "TABLE", "The manifest of the table"))?
         .arg(
@@ -44,7 +47,7 @@ fn type_command<'a>(alloc: Global) -> Result<Command<'a>, AllocError> {
 fn all_option<'a>(alloc: Global) -> Arg<'a> {
     Arg::new(alloc, "all")
         .long("all")
-        .help("Prints every shortest difference, and counts them")
+        .help("Print every shortest difference, and count them")
         .action(ArgAction::SetTrue)
 }
 
@@ -57,14 +60,16 @@ fn repertoire_file<'a>(alloc: Global) -> Arg<'a> {
     )
 }
 
-/// A command on an old table and a new one.
+/// A command on an old table and a new one. What it is for, and how it ends, with an example.
 fn move_command<'a>(
     alloc: Global,
     name: &'a str,
     about: &'a str,
+    ends: &'a str,
 ) -> Result<Command<'a>, AllocError> {
     Command::new(alloc, name)
         .about(about)
+        .after_help(ends)
         .arg(names_option(alloc))?
         .arg(file(alloc, "OLD", "The manifest of the old table"))?
         .arg(file(alloc, "NEW", "The manifest of the new table"))
@@ -72,24 +77,30 @@ fn move_command<'a>(
 
 /// The command that checks a certificate.
 fn check_command<'a>(alloc: Global) -> Result<Command<'a>, AllocError> {
-    let about = "Checks by a certificate that a new table changes nobody's typing";
-    move_command(alloc, "check", about)?
+    let about = "Check by a certificate that a new table changes nobody's typing";
+    let ends =
+        "Exit status: 0 yes, 1 no, 2 input refused, 3 out of memory\nExample: composecheck check old.manifest new.manifest repertoire certificate";
+    move_command(alloc, "check", about, ends)?
         .arg(repertoire_file(alloc))?
         .arg(file(alloc, "CERTIFICATE", "The certificate"))
 }
 
 /// The command that makes a certificate.
 fn make_command<'a>(alloc: Global) -> Result<Command<'a>, AllocError> {
-    let about = "Makes a certificate, or prints why there is none";
-    move_command(alloc, "make", about)?
+    let about = "Make a certificate, or print why there is none";
+    let ends =
+        "Exit status: 0 made, 1 none, 2 input refused, 3 out of memory\nExample: composecheck make old.manifest new.manifest repertoire > certificate";
+    move_command(alloc, "make", about, ends)?
         .arg(fresh_option(alloc))?
         .arg(repertoire_file(alloc))
 }
 
 /// The command that explains how two tables differ.
 fn explain_command<'a>(alloc: Global) -> Result<Command<'a>, AllocError> {
-    let about = "Prints the shortest keys on which two tables differ";
-    move_command(alloc, "explain", about)?
+    let about = "Print the shortest keys on which two tables differ";
+    let ends =
+        "Exit status: 0 no difference, 1 a difference, 2 input refused, 3 out of memory\nExample: composecheck explain --all old.manifest new.manifest";
+    move_command(alloc, "explain", about, ends)?
         .arg(fresh_option(alloc))?
         .arg(all_option(alloc))
 }
@@ -107,7 +118,7 @@ pub fn command_line<'a>(alloc: Global) -> Result<Command<'a>, AllocError> {
     let command = Command::new(alloc, "composecheck")
         .version("0.1.0")
         .about(
-            "Checks migrations between X11 Compose tables, types with them, and serves typing sessions",
+            "Check migrations between X11 Compose tables, type with them, and serve typing sessions",
         )
         .subcommand_required(true)
         .subcommand(type_command(alloc)?)?;

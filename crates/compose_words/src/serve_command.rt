@@ -24,7 +24,7 @@ fn mode_option<'a>(alloc: Global) -> Arg<'a> {
 /// The number of connections.
 fn connections<'a>(alloc: Global) -> Arg<'a> {
     Arg::new(alloc, "CONNECTIONS")
-        .help("Ends after so many connections")
+        .help("End after so many connections")
         .required(true)
         .value_parser(value_parser!(u16).range(1..))
 }
@@ -32,11 +32,14 @@ fn connections<'a>(alloc: Global) -> Arg<'a> {
 /// The command that serves.
 pub fn serve_command<'a>(alloc: Global) -> Result<Command<'a>, AllocError> {
     let command = Command::new(alloc, "serve")
-        .about("Serves typing sessions on a Unix socket, one connection after another")
+        .about("Serve typing sessions on a Unix socket, one connection after another")
+        .after_help(
+            "Exit status: 0 served, 1 the certificate is not valid, 2 input refused, 3 out of memory\nExample: composecheck serve table.manifest repertoire certificate compose.socket 100",
+        )
         .arg(names_option(alloc))?
         .arg(mode_option(alloc))?
-        .arg(flag(alloc, "replace", "Replaces a socket that nobody listens on"))?
-        .arg(flag(alloc, "unlink", "Removes the socket's file at the end"))?;
+        .arg(flag(alloc, "replace", "Replace a socket that nobody listens on"))?
+        .arg(flag(alloc, "unlink", "Remove the socket's file at the end"))?;
     serve_files(alloc, command)
 }
 
