@@ -1,5 +1,5 @@
 //! A certificate read line by line, where the first faulty line decides.
-ghost use Rattle.std.specs.Prelude.{◌≡◌, ◌+◌, ◌<◌, ◌≤◌, ◌++◌, ◌∷◌, [], ℕ, List, Ok, Err, length, IfOk, ◌^◌};
+ghost use Rattle.std.specs.Prelude.{◌≡◌, ◌≢◌, ◌+◌, ◌<◌, ◌≤◌, ◌++◌, ◌∷◌, [], ℕ, List, Ok, Err, length, IfOk, IfErr, ◌^◌};
 ghost use Rattle.compose_text.specs.Lines.{divide};
 ghost use Rattle.compose_cert.specs.Said.{Says};
 ghost use Rattle.compose_cert.specs.Reading as reading;
@@ -26,7 +26,8 @@ pub fn number_at<'a>(
     word: &[u8],
     line: usize,
 ) -> Result<(u32, &'a [u8]), CertFault>
-    ensures { (name : List ℕ) → word.now ≡ name ++ 32 ∷ [] → Says (λ x. (x.0, divide 10 x.1.now)) result (reading.line_at (reading.number_behind name) line (divide 10 bytes.now)) }
+    ensures says { (name : List ℕ) → word.now ≡ name ++ 32 ∷ [] → Says (λ x. (x.0, divide 10 x.1.now)) result (reading.line_at (reading.number_behind name) line (divide 10 bytes.now)) }
+    ensures no_memory { IfErr result (λ fault. fault ≢ CertFault.NoMemory) }
 {
     let (text, rest) = take_line(bytes, line)?;
     let number = number_behind(text, word).ok_or(CertFault::NotText { line })?;
@@ -41,6 +42,7 @@ pub fn count_at<'a>(
 ) -> Result<(usize, &'a [u8]), CertFault>
     ensures says { (name : List ℕ) → word.now ≡ name ++ 32 ∷ [] → Says (λ x. (x.0, divide 10 x.1.now)) result (reading.count_at name line (divide 10 bytes.now)) }
     ensures few { IfOk result (λ x. x.0 ≤ 1048576) }
+    ensures no_memory { IfErr result (λ fault. fault ≢ CertFault.NoMemory) }
 {
     let (count, rest) = number_at(bytes, word, line)?;
     let count = count as usize;

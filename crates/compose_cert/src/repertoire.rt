@@ -1,5 +1,5 @@
 //! The characters that people need, and the keys that they have.
-ghost use Rattle.std.specs.Prelude.{◌≡◌, ◌≢◌, ◌<◌, ◌≤◌, ◌++◌, ◌∷◌, [], length, nat_lt, Some, Ok, Err, OnOk, IfErr, slice_get, IsTrue};
+ghost use Rattle.std.specs.Prelude.{◌≡◌, ◌≢◌, ◌<◌, ◌≤◌, ◌++◌, ◌∷◌, [], length, nat_lt, Some, Ok, Err, OnOk, IfErr, IsOk, slice_get, IsTrue};
 ghost use Rattle.std.specs.List.{list_any, list_all};
 ghost use Rattle.compose_text.specs.Numbers.{is_between};
 ghost use Rattle.compose_model.specs.Certificate as model;
@@ -83,6 +83,7 @@ fn add_entry(
     ensures sound { OnOk result (IsRepertoire (record { characters = characters.new.items; keys = keys.new.items })) }
     ensures ok { OnOk result (with_entry line (Some entry) (record { characters = characters.old.items; keys = keys.old.items }) ≡ Ok (record { characters = characters.new.items; keys = keys.new.items })) }
     ensures err { IfErr result (λ e. e ≢ RepertoireFault.NoMemory → with_entry line (Some entry) (record { characters = characters.old.items; keys = keys.old.items }) ≡ Err e) }
+    ensures fault_first { IfErr result (λ e. e ≡ RepertoireFault.NoMemory → IsOk (with_entry line (Some entry) (record { characters = characters.old.items; keys = keys.old.items }))) }
 {
     match entry {
         Entry::Nothing => Ok(()),

@@ -1,4 +1,5 @@
 //! Tables from sources.
+ghost use Rattle.std.specs.Prelude.{◌≡◌, [], Err};
 ghost use Rattle.compose_tree.specs.Given.{TableGives, first_table, table_of};
 
 use crate::table::{BuildFault, ComposeTable};
@@ -90,7 +91,8 @@ pub fn read_first_table<T: ComposeTable>(
     sources: &Sources,
     rule: Rule,
 ) -> Result<T, TableFault>
-    ensures { TableGives T.definitions result (first_table names.now sources.now rule) }
+    ensures value { TableGives T.definitions result (first_table names.now sources.now rule) }
+    ensures no_source { sources.now ≡ [] → result ≡ Err (TableFault.Read ReadFault.MissingRoot) }
 {
     let Some(root) = sources.name(0) else {
         return Err(TableFault::Read(ReadFault::MissingRoot));

@@ -5,7 +5,7 @@ use Rattle.compose_tree.specs.Given.{NoTable, TableGives}
 use Rattle.compose_tree.proofs.FirstSource.{root_named}
 use Rattle.compose_tree.proofs.reading.read_first_table.Goals as goal
 
-pub returns : goal.returns
-returns g c =
+pub returns-clause-value : goal.returns-clause-value
+returns-clause-value g c =
     subst (λ (said : Result (List Definition) NoTable). TableGives g.T.ComposeTable.definitions c.read_table.result said)
     (root_named c.args.names.now c.args.sources.now c.in-Some.root.now c.args.rule c.in-Some.ensures) c.read_table.ensures
