@@ -19,7 +19,6 @@ from service import Serving, composecheck_client
 
 SESSIONS, KEYS_BETWEEN_LOADS, MOST_SESSIONS = 1_000, 40, 4_096
 GREEK = os.path.join(real.LOCALES, "el_GR.UTF-8", "Compose")
-STATUSES = ("nothing", "composing", "composed", "cancelled")
 # A dead key that no sequence of the first table begins with or holds.
 NEW_KEY, NEW_KEY_NAME = 0xFE90, "dead_lowline"
 MULTI_KEY, F1, F2 = 0xFF20, 0xFFBE, 0xFFBF
@@ -57,7 +56,7 @@ class Typist:
     def feed(self, keysym):
         """Whether the key was accepted, the status, and the text of a sequence that ended."""
         accepted = self.code.xkb_compose_state_feed(self.state, ctypes.c_uint32(keysym)) == 1
-        status = STATUSES[self.code.xkb_compose_state_get_status(self.state)]
+        status = composecheck_client.STATUSES[self.code.xkb_compose_state_get_status(self.state)]
         text = ""
         if accepted and status == "composed":
             self.code.xkb_compose_state_get_utf8(self.state, self.room, ctypes.c_size_t(len(self.room)))
@@ -73,18 +72,17 @@ class Tables:
 
     def __init__(self, program):
         self.program, self.room = program, tempfile.TemporaryDirectory()
-        self.path("names", read(key_streams.HEADER) + read(real.SHORT_NAMES))
-        self.path("repertoire", b"")
+        self.write("names", read(key_streams.HEADER) + read(real.SHORT_NAMES))
+        self.write("repertoire", b"")
 
-    def path(self, name, content):
-        path = os.path.join(self.room.name, name)
-        with open(path, "wb") as file:
+    def write(self, name, content):
+        with open(os.path.join(self.room.name, name), "wb") as file:
             file.write(content)
-        return path
 
     def manifest(self, name, text):
-        self.path(name, text)
-        return self.path(f"{name}.manifest", f"root\t{name}\n".encode())
+        self.write(name, text)
+        self.write(f"{name}.manifest", f"root\t{name}\n".encode())
+        return f"{name}.manifest"
 
     def certificate(self, old, new, *options):
         """The certificate for a load of one table where the other one is in use."""
