@@ -1,0 +1,25 @@
+//! Why a request is not written, and why no reply is given out.
+ghost use Rattle.std.specs.Prelude.{◌≡◌};
+ghost use Rattle.compose_client.specs.declared.fault.RequestFault.TheVariants as request_faults;
+
+use std::alloc::AllocError;
+use thiserror::Error;
+
+/// Why a request is not written.
+#[derive(Clone, Copy, Debug, PartialEq, Eq, Drop, Error)]
+pub enum RequestFault {
+    /// It is a load of more than 8,388,608 bytes.
+    #[error("1 TooLong")]
+    TooLong,
+    /// The memory for its frame was refused.
+    #[error("2 NoMemory")]
+    NoMemory,
+}
+
+impl From<AllocError> for RequestFault {
+    ghost from_gives = { λ _ fault. fault ≡ request_faults.NoMemory };
+
+    fn from(_error: AllocError) -> RequestFault {
+        RequestFault::NoMemory
+    }
+}

@@ -1,0 +1,16 @@
+//! A client of the typing service: requests written as frames, and replies read from a stream of bytes.
+//!
+//! `put_request` gives the bytes of a request. A `ReplyFeeder` takes the bytes that come back, in pieces of any size, and gives out
+//! each reply once its whole frame is held, and a fault as soon as the bytes begin with it.
+//!
+//! ```text
+//! 02 00000007 00000004 0000ff20   put_request: type the keysym 0xff20 in session 7
+//! 82 00000007 00000002 01 01      next_reply: session 7 is composing, the key was accepted, no text
+//! ```
+#![tactic(auto)]
+
+mod fault;
+mod request;
+
+pub use fault::RequestFault;
+pub use request::put_request;
