@@ -9,8 +9,14 @@
 //! ```
 #![tactic(auto)]
 
+mod answer;
 mod fault;
+mod feeder;
+mod laws;
+mod reply;
 mod request;
 
-pub use fault::RequestFault;
+pub use fault::{ReplyFault, RequestFault};
+pub use feeder::ReplyFeeder;
+pub use laws::{law_one_reply, law_reply_fault};
 pub use request::put_request;

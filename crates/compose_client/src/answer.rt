@@ -1,0 +1,106 @@
+//! What a reply says is read from its payload.
+ghost use Rattle.std.specs.Prelude.{◌≡◌, ◌≤◌, length, MatchOption};
+ghost use Rattle.compose_client.specs.Replies.{AreKeysyms};
+ghost use Rattle.compose_client.specs.Giving.{status_at, keysyms_at, HasLength, ReadsAnswer};
+
+use arrayvec::{ArrayString, ArrayVec};
+use compose_model::Status;
+use compose_wire::Answer;
+use keysym_core::Keysym;
+
+/// The status of a byte; one above 3 is read as 3.
+fn read_status(byte: u8) -> Status
+    ensures { result ≡ status_at byte }
+{
+    match byte {
+        0 => Status::Nothing,
+        1 => Status::Composing,
+        2 => Status::Composed,
+        _ => Status::Cancelled,
+    }
+}
+
+/// What is said of a key; none where the text is not UTF-8.
+fn read_fed(payload: &[u8]) -> Option<Answer>
+    requires some { 2 ≤ length payload.now }
+    requires few { length payload.now ≤ 257 }
+    ensures { ReadsAnswer result 0x82 payload.now }
+{
+    let Ok(text) = str::from_utf8(&payload[2..]) else {
+        return None;
+    };
+    let text = ArrayString::from(text).unwrap();
+    Some(Answer::Fed(read_status(payload[0]), payload[1] == 1, text))
+}
+
+/// How many loads were accepted.
+fn read_loaded(payload: &[u8]) -> Answer
+    requires { length payload.now ≡ 8 }
+    ensures { ReadsAnswer (Some result) 0x85 payload.now }
+{
+    Answer::Loaded(u64::from_be_bytes([
+        payload[0], payload[1], payload[2], payload[3], payload[4], payload[5], payload[6],
+        payload[7],
+    ]))
+}
+
+/// The keysyms of four bytes each; none where one is above the greatest keysym. Bytes of less than a keysym at the end are passed over.
+fn read_keysyms(bytes: &[u8]) -> Option<ArrayVec<Keysym, 31>>
+    requires { length bytes.now ≤ 124 }
+    ensures { MatchOption result (¬ (AreKeysyms (keysyms_at bytes.now))) (λ keysyms. (keysyms.items ≡ keysyms_at bytes.now) × AreKeysyms (keysyms_at bytes.now)) }
+{
+    let mut keysyms = ArrayVec::new();
+    let mut rest = bytes;
+    while rest.len() >= 4 {
+        let number = u32::from_be_bytes([rest[0], rest[1], rest[2], rest[3]]);
+        let Some(keysym) = Keysym::new(number) else {
+            return None;
+        };
+        keysyms.push(keysym);
+        rest = &rest[4..];
+    }
+    Some(keysyms)
+}
+
+/// Where a session stands; none where a keysym is too great.
+fn read_state(payload: &[u8]) -> Option<Answer>
+    requires some { 2 ≤ length payload.now }
+    requires few { length payload.now ≤ 126 }
+    ensures { ReadsAnswer result 0x86 payload.now }
+{
+    let Some(pending) = read_keysyms(&payload[2..]) else {
+        return None;
+    };
+    Some(Answer::State(read_status(payload[0]), pending))
+}
+
+/// Why a request was refused; none where there is no such reason.
+fn read_refused(payload: &[u8]) -> Option<Answer>
+    requires { length payload.now ≡ 2 }
+    ensures { ReadsAnswer result 0xff payload.now }
+{
+    let code = u16::from_be_bytes([payload[0], payload[1]]);
+    if code < 1 || code > 10 {
+        return None;
+    }
+    Some(Answer::Refused(code))
+}
+
+/// What a payload of this kind says.
+///
+/// None only where no reply has this kind and payload. Bytes that no reply has may be read as those of another one: whoever calls
+/// compares. Takes no memory; linear in the payload.
+pub(crate) fn read_answer(kind: u8, payload: &[u8]) -> Option<Answer>
+    requires { HasLength kind (length payload.now) }
+    ensures { ReadsAnswer result kind payload.now }
+{
+    match kind {
+        0x82 => read_fed(payload),
+        0x83 => Some(Answer::WasReset),
+        0x84 => Some(Answer::Closed),
+        0x85 => Some(read_loaded(payload)),
+        0x86 => read_state(payload),
+        0xff => read_refused(payload),
+        _ => Some(Answer::Opened),
+    }
+}
