@@ -1,8 +1,8 @@
 -- What is given out, read from the held bytes.
-use Rattle.std.proofs.Common.{◌≡◌, ℕ, ◌+◌, ◌<◌, ◌≤◌, List, ◌++◌, length, refl, sym, ◌∙◌, ap, subst, arith}
+use Rattle.std.proofs.Common.{◌≡◌, ℕ, List, ◌++◌, refl, sym, ◌∙◌, subst, arith}
 use Rattle.std.specs.Prelude.{Option, Some, None, Result, Ok, Err}
 use Rattle.compose_wire.specs.Messages.{Reply as ReplyValue}
-use Rattle.compose_wire.specs.Frames.{reply_bytes, Fault, size_said}
+use Rattle.compose_wire.specs.Frames.{reply_bytes, Fault}
 use Rattle.compose_wire.specs.Replies.{SaysReply}
 use Rattle.compose_wire.specs.declared.reply.Reply.{Reply}
 use Rattle.compose_client.specs.Replies.{ReplyFits, BeginsWithReply, head_fault, HasBadPayload, IsReplyBegun}

@@ -7,7 +7,7 @@ use Rattle.std.proofs.lemmas.List.{take-append-drop}
 use Rattle.std.proofs.lemmas.Nat.{from_be_bytes-to_be_bytes_4}
 use Rattle.compose_wire.specs.Messages.{Answer, Reply}
 use Rattle.compose_wire.specs.Frames.{reply_bytes, answer_kind, answer_payload, size_said}
-use Rattle.std.specs.Prelude.{Option, Some, None, Ok}
+use Rattle.std.specs.Prelude.{Some, None, Ok}
 use Rattle.compose_wire.specs.Replies.{SaysAnswer, SaysReply}
 use Rattle.compose_wire.specs.declared.reply.Answer.{Answer as AnswerGiven}
 use Rattle.compose_client.specs.Replies.{ReplyFits, BeginsWithReply, HasBadPayload, AnswerFits}

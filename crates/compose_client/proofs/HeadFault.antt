@@ -1,6 +1,6 @@
 -- What is wrong with a head, and stays so.
 use Rattle.std.proofs.Common.{◌≡◌, ℕ, ◌+◌, ◌≤◌, List, [], ◌∷◌, ◌++◌, Bool, true, false, cond, not, length, take, drop, inl, inr, refl, sym, ◌∙◌, ap, ap₂, arith, length-append, length-drop}
-use Rattle.std.specs.Prelude.{◌&&◌, Option, Some, None, nat_lt, nat_le}
+use Rattle.std.specs.Prelude.{◌&&◌, Option, Some, None, nat_lt}
 use Rattle.std.specs.Int.{to_be_bytes, from_be_bytes, w32}
 use Rattle.std.proofs.lemmas.Bool.{le-ltb, le-leb, ltb-false, cases_Bool}
 use Rattle.std.proofs.lemmas.List.{take-append-le, drop-append-le, take-append-drop}

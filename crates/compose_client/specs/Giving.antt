@@ -4,7 +4,7 @@ use Rattle.std.specs.Int.{from_be_bytes, w16, w32, w64}
 use Rattle.compose_model.specs.declared.Status.{Status}
 use Rattle.compose_model.specs.declared.Status.TheVariants.{Nothing, Composing, Composed, Cancelled}
 use Rattle.compose_wire.specs.Messages.{Answer as AnswerValue, opened, fed, was_reset, closed, loaded, state, refused, Reply as ReplyValue, Refusal, session_taken, no_session, full, bad_keysym, bad_bundle, table_refused, certificate_refused, verdict_no, no_memory, malformed}
-use Rattle.compose_wire.specs.Frames.{reply_bytes, answer_kind, answer_payload, Fault, unknown_kind, bad_length, too_long, size_said}
+use Rattle.compose_wire.specs.Frames.{reply_bytes, answer_kind, answer_payload, Fault, unknown_kind, bad_length, size_said}
 use Rattle.compose_wire.specs.Replies.{SaysAnswer, SaysReply}
 use Rattle.compose_wire.specs.declared.reply.Answer.{Answer}
 use Rattle.compose_wire.specs.declared.reply.Reply.{Reply}
@@ -71,11 +71,11 @@ reply_at held = record {
   answer = answer_at (slice_index held 0) (take (size_said held) (drop 9 held));
 }
 
--- the least lengths
+-- what a right length is, by the kind of a reply, and at most
 abbrev pub HasLength : ℕ → ℕ → Type 0
 HasLength kind n = (kind ≡ 0x82 → 2 ≤ n) × (kind ≡ 0x85 → n ≡ 8) × (kind ≡ 0x86 → (2 ≤ n) × (n ≤ 126)) × (kind ≡ 0xff → n ≡ 2) × (n ≤ 257)
 
--- this answer is the one of the kind and the payload
+-- the answer is that of the kind and the payload, and fits; none where no answer that fits has this kind and this payload
 abbrev pub ReadsAnswer : Option Answer → ℕ → List ℕ → Type 0
 ReadsAnswer (Some answer) kind bytes = SaysAnswer answer (answer_at kind bytes) × AnswerFits (answer_at kind bytes)
 ReadsAnswer None kind bytes = (v : AnswerValue) → AnswerFits v → answer_kind v ≡ kind → answer_payload v ≡ bytes → ⊥

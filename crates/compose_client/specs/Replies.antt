@@ -3,7 +3,7 @@ use Rattle.std.specs.Prelude.{◌≡◌, ℕ, Bool, not, ◌||◌, ◌==◌, ◌
 use Rattle.std.specs.Int.{from_be_bytes, w32}
 use Rattle.std.specs.List.{AllByRecursion}
 use Rattle.compose_text.specs.Numbers.{is_between}
-use Rattle.compose_wire.specs.Messages.{Answer, opened, fed, was_reset, closed, loaded, state, refused, Reply}
+use Rattle.compose_wire.specs.Messages.{Answer, fed, loaded, state, Reply}
 use Rattle.compose_wire.specs.Frames.{reply_bytes, Fault, unknown_kind, bad_length, size_said}
 
 -- ---- which replies there are

@@ -8,10 +8,8 @@ ghost use Rattle.compose_client.specs.Giving.{HasLength, SizesSo, FirstSo};
 
 use crate::answer::read_answer;
 use crate::fault::ReplyFault;
+use crate::request::HEAD;
 use compose_wire::{Reply, put_reply};
-
-/// The bytes of a frame before its payload: the kind, the session and the length.
-const HEAD: usize = 9;
 
 /// Whether a reply has this kind. O(1).
 fn is_reply_kind(kind: u8) -> bool

@@ -9,7 +9,7 @@ use compose_wire::{Body, Request};
 use std::alloc::Global;
 
 /// The bytes of a frame before its payload: the kind, the session and the length.
-const HEAD: usize = 9;
+pub(crate) const HEAD: usize = 9;
 
 /// The greatest payload of a load, in bytes.
 const MAX_PAYLOAD: usize = 8_388_608;

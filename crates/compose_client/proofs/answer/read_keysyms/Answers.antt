@@ -1,5 +1,4 @@
-use Rattle.std.proofs.Common.{◌≡◌, ◌≤◌, ℕ, List, ◌∷◌, ◌++◌, drop, sym, ◌∙◌, ap, subst}
-use Rattle.std.specs.Prelude.{Some, None}
+use Rattle.std.proofs.Common.{◌≡◌, ℕ, List, ◌∷◌, ◌++◌, drop, sym, ◌∙◌, ap, subst}
 use Rattle.compose_client.specs.Replies.{AreKeysyms}
 use Rattle.compose_client.specs.Giving.{keysyms_at}
 use Rattle.compose_client.proofs.Keysyms.{more_keysyms, is_keysym}

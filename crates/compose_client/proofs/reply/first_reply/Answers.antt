@@ -1,4 +1,4 @@
-use Rattle.std.proofs.Common.{◌≡◌, ◌+◌, ◌-◌, ◌*◌, ℕ, take, drop, get_or, subst, arith}
+use Rattle.std.proofs.Common.{◌≡◌, ◌+◌, ◌-◌, ℕ, take, drop, get_or, subst, arith}
 use Rattle.std.specs.Prelude.{Some, None}
 use Rattle.compose_client.specs.Giving.{ReadsAnswer}
 use Rattle.compose_client.proofs.FirstReply.{not_read, other_frame, given, says, session_small}
