@@ -18,3 +18,6 @@ pub mod ReadOn
 pub mod Visits
 pub mod Overlaps
 pub mod TextLines
+pub mod Given
+pub mod Again
+pub mod KeptSources

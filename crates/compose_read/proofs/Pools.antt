@@ -1,14 +1,13 @@
 -- Rows in flat arrays stay what they are when more keysyms and texts are put behind them, and what is put there is one more row.
-use Rattle.std.proofs.Common.{◌≡◌, ℕ, suc, ◌+◌, ◌-◌, ◌≤◌, List, [], ◌∷◌, ◌++◌, true, length, take, drop, get_or, nat_lt, nat_le, refl, sym, ◌∙◌, ap, ap₂, subst, arith, inl, inr, ◌&&◌}
+use Rattle.std.proofs.Common.{◌≡◌, ℕ, suc, ◌+◌, ◌-◌, ◌≤◌, List, [], ◌∷◌, ◌++◌, true, length, take, drop, get_or, nat_lt, refl, sym, ◌∙◌, ap, ap₂, subst, arith, inl, inr}
 use Rattle.std.specs.Prelude.{Result, Ok, Err, OnOk, IsTrue}
-use Rattle.std.specs.List.{list_all}
 use Rattle.std.specs.Str.{IsUtf8, IsCharBoundary}
 use Rattle.std.proofs.Math.Seq.{take-length}
 use Rattle.std.proofs.Math.ListN.{get_or-append}
-use Rattle.std.proofs.lemmas.List.{drop-append-le, take-append-le, length-drop, map-append, length-append, append-nil}
-use Rattle.std.proofs.lemmas.List.Elements.{All-push}
+use Rattle.std.proofs.lemmas.List.{drop-append-le, take-append-le, take-append-drop, take-map, drop-map, length-drop, map-append, length-append, append-nil}
+use Rattle.std.proofs.lemmas.List.Elements.{All-push, All-append, All-take, All-drop}
 use Rattle.std.proofs.lemmas.List.Folds.{list_all-append}
-use Rattle.std.proofs.lemmas.Bool.{cases_Bool, and_parts, and_from, ltb-true, ltb-false, leb-true}
+use Rattle.std.proofs.lemmas.Bool.{cases_Bool, and_parts, and_from, ltb-true, ltb-false}
 use Rattle.std.proofs.lemmas.Str.{IsCharBoundary-at_seam, IsCharBoundary-end, IsUtf8-nil}
 use Rattle.compose_model.specs.Table.{Definition, is_definition, is_table}
 use Rattle.compose_model.proofs.Definitions.{sequence_few}
@@ -17,13 +16,12 @@ use Rattle.compose_lex.specs.Lexed.{PushGives}
 use Rattle.compose_lex.specs.declared.LexFault.{LexFault}
 use Rattle.compose_lex.specs.declared.LexFault.TheVariants as lex_faults
 use Rattle.compose_read.specs.Rows.{definition_at, rows_of, IsPlaced, ArePlaced, Drafted, drafted, with_row}
-use Rattle.compose_read.specs.Sequence.{is_fed}
 use Rattle.compose_read.specs.declared.rows.RowPlace.{RowPlace}
 
 -- ---- pieces
 
 -- a piece stays where more is put behind
-piece_stays : {X : Type 0} (a n : ℕ) (xs ys : List X) → a + n ≤ length xs → take n (drop a (xs ++ ys)) ≡ take n (drop a xs)
+pub piece_stays : {X : Type 0} (a n : ℕ) (xs ys : List X) → a + n ≤ length xs → take n (drop a (xs ++ ys)) ≡ take n (drop a xs)
 piece_stays a n xs ys h =
     ap (take n) (drop-append-le a xs ys (omega arith)) ∙ take-append-le n (drop a xs) ys (let l = length-drop a xs in omega arith)
 
@@ -133,6 +131,31 @@ module _ (ks ts : List ℕ) (ps : List RowPlace) (fk fb : ℕ) (is : IsDrafted k
         go : (r : Result (Unit {0}) LexFault) → OnOk r ((bytes : List ℕ) × (new ≡ ts ++ bytes) × Unescapes raw bytes × IsText bytes) → OnOk r ((bytes : List ℕ) × (drop fb new ≡ drop fb ts ++ bytes) × Unescapes raw bytes × IsText bytes)
         go (Ok _) f = (f.0, ap (drop fb) f.1 ∙ drop-append-le fb ts f.0 is.2.0, f.2, f.3)
         go (Err e) f = tt
+
+  -- with some of the places again
+  module _ (first count : ℕ) (qs : List RowPlace) (e : qs ≡ ps ++ take count (drop first ps)) where
+    pub rows_repeated : rows_of ks ts qs ≡ rows_of ks ts ps ++ take count (drop first (rows_of ks ts ps))
+    rows_repeated =
+        ap (rows_of ks ts) e ∙ map-append (definition_at ks ts) ps (take count (drop first ps))
+        ∙ ap (λ rows. rows_of ks ts ps ++ rows) (sym (take-map (definition_at ks ts) count (drop first ps)) ∙ ap (take count) (sym (drop-map (definition_at ks ts) first ps)))
+
+    definitions_again : is_table (take count (drop first (rows_of ks ts ps))) ≡ true
+    definitions_again = front_of (drop first (rows_of ks ts ps)) (rest_of (rows_of ks ts ps) is.3)
+      where
+        rest_of : (rows : List Definition) → is_table rows ≡ true → is_table (drop first rows) ≡ true
+        rest_of rows h = (and_parts (is_table (take first rows)) (is_table (drop first rows)) (sym (list_all-append is_definition (take first rows) (drop first rows)) ∙ ap is_table (take-append-drop first rows) ∙ h)).1
+
+        front_of : (rows : List Definition) → is_table rows ≡ true → is_table (take count rows) ≡ true
+        front_of rows h = (and_parts (is_table (take count rows)) (is_table (drop count rows)) (sym (list_all-append is_definition (take count rows) (drop count rows)) ∙ ap is_table (take-append-drop count rows) ∙ h)).0
+
+    pub repeated : IsDrafted ks ts qs fk fb
+    repeated = (
+      subst (ArePlaced ks ts) (sym e) (All-append (IsPlaced ks ts) ps (take count (drop first ps)) is.0 (All-take (IsPlaced ks ts) count (drop first ps) (All-drop (IsPlaced ks ts) first ps is.0))),
+      is.1,
+      is.2,
+      subst (λ rows. is_table rows ≡ true) (sym rows_repeated)
+          (list_all-append is_definition (rows_of ks ts ps) (take count (drop first (rows_of ks ts ps))) ∙ and_from (is_table (rows_of ks ts ps)) (is_table (take count (drop first (rows_of ks ts ps)))) is.3 definitions_again),
+    )
 
   -- with the place of the one that was read
   module _ (p : RowPlace) (keysym_from : p.first_keysym ≡ fk) (byte_from : p.first_byte ≡ fb) (keysym_count : p.keysym_count ≡ length ks - fk) (byte_count : p.byte_count ≡ length ts - fb)

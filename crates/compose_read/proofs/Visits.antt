@@ -1,5 +1,5 @@
 -- The lines visited from a source, one line after another.
-use Rattle.std.proofs.Common.{◌≡◌, ◌<◌, ◌+◌, ◌-◌, ℕ, zero, suc, List, [], ◌∷◌, ◌++◌, Bool, true, false, cond, nat_lt, length, refl, sym, ◌∙◌, ap, append_assoc, arith}
+use Rattle.std.proofs.Common.{◌≡◌, ◌<◌, ◌+◌, ◌-◌, ℕ, zero, suc, List, [], ◌∷◌, ◌++◌, Bool, true, false, cond, nat_lt, length, length-append, refl, sym, ◌∙◌, ap, append_assoc, arith}
 use Rattle.std.specs.Prelude.{Option, Some, None, Result, Ok, Err, flat_map, option_map, position, slice_get, get_or}
 use Rattle.std.specs.Option.{option_map_or}
 use Rattle.std.proofs.lemmas.Option.{slice_get-get_or, same_Some}
@@ -42,17 +42,17 @@ alone : (sources : List Source) (vs : List Visit) → vs ≡ flat_map (below sou
 alone sources [] = refl
 alone sources (v ∷ vs) = ap (λ ws. v ∷ ws) (alone sources vs)
 
+pub lines_below : (sources : List Source) (left source : ℕ) → visits_below sources left source ≡ flat_map (below sources left) (own_lines sources source (8 - left))
+lines_below sources zero source = alone sources (own_lines sources source max_depth)
+lines_below sources (suc left) source = refl
+
 pub visits_are : (sources : List Source) (left source : ℕ) (bytes : List ℕ) → source < length sources → option_map (λ (s : Source). s.bytes) (slice_get sources source) ≡ Some bytes
     → visits_below sources left source ≡ flat_map (below sources left) (numbered source (8 - left) 1 (source_lines bytes))
 visits_are sources left source bytes l h =
-    by_levels left ∙ ap (λ bs. flat_map (below sources left) (numbered source (8 - left) 1 (source_lines bs))) (same_Some (get_or sources source none).bytes bytes (ap (option_map (λ (s : Source). s.bytes)) (sym (slice_get-get_or sources source none l)) ∙ h))
+    lines_below sources left source ∙ ap (λ bs. flat_map (below sources left) (numbered source (8 - left) 1 (source_lines bs))) (same_Some (get_or sources source none).bytes bytes (ap (option_map (λ (s : Source). s.bytes)) (sym (slice_get-get_or sources source none l)) ∙ h))
   where
     none : Source
     none = record { name = []; bytes = [] }
-
-    by_levels : (left : ℕ) → visits_below sources left source ≡ flat_map (below sources left) (numbered source (8 - left) 1 (source_lines (get_or sources source (record { name = []; bytes = [] })).bytes))
-    by_levels zero = alone sources (own_lines sources source max_depth)
-    by_levels (suc left) = refl
 
 -- what is left to visit behind a line of this number
 abbrev pub left_to_visit : List Source → ℕ → ℕ → ℕ → ℕ → List ℕ → List Visit
@@ -67,6 +67,21 @@ module _ (sources : List Source) (left source depth line : ℕ) (rest bytes behi
       let one : 1 + line ≡ line + 1 = omega arith in
       ap (λ ls. flat_map (below sources left) (numbered source depth (1 + line) ls)) lines
       ∙ ap (λ n. flat_map (below sources left) (numbered source depth n (bytes ∷ lines_of behind))) one
+
+  lines_left : length (left_to_visit sources left source depth line rest) ≡ length (below sources left next) + length (left_to_visit sources left source depth (line + 1) behind)
+  lines_left = ap (λ vs. length vs) next_line ∙ length-append (below sources left next) (left_to_visit sources left source depth (line + 1) behind)
+
+  module _ (before total : ℕ) (counted : before + length (left_to_visit sources left source depth line rest) ≡ total) where
+    -- how many lines are read with a line that includes nothing
+    pub plain_counted : (after : ℕ) → included sources bytes ≡ None → after ≡ before + 1 → after + length (left_to_visit sources left source depth (line + 1) behind) ≡ total
+    plain_counted after h e =
+        let all = lines_left in let one = ap (λ vs. length vs) (plain_line sources left next h) in omega arith
+
+    -- and with one that includes a source
+    pub include_counted : (between after included_source : ℕ) → 0 < left → included sources bytes ≡ Some included_source → between ≡ before + 1 → after ≡ between + length (visits_below sources (left - 1) included_source)
+        → after + length (left_to_visit sources left source depth (line + 1) behind) ≡ total
+    include_counted between after included_source deep h e f =
+        let all = lines_left in let more = ap (λ vs. length vs) (include_below sources left next included_source deep h) in omega arith
 
 -- ---- reading on
 
@@ -110,6 +125,15 @@ module _ (names : KeysymNames) (sources : List Source) (left source depth line :
     pub include_refused : (r s : Progress) (fault : ReadFault) → ReadsOn {X = Unit {0}} names sources (visits_below sources (left - 1) included_source) q r (Err fault) → ReadsOn {X = Unit {0}} names sources whole old s (Err fault)
     include_refused r s faults.NoMemory e = tt
     include_refused r s fault e = λ ws. sym (into_source ws) ∙ e (left_behind ++ ws)
+
+-- behind the last line the whole is read
+module _ (names : KeysymNames) (sources : List Source) (left source depth line : ℕ) (rest : List ℕ) (lines : lines_of rest ≡ []) where
+  pub none_left : length (left_to_visit sources left source depth line rest) ≡ 0
+  none_left = ap (λ ls. length (flat_map (below sources left) (numbered source depth (1 + line) ls))) lines
+
+  pub whole_read : (p old : Progress) (whole : List Visit) → ((ws : List Visit) → reading_on names sources p (left_to_visit sources left source depth line rest ++ ws) ≡ reading_on names sources old (whole ++ ws))
+      → (ws : List Visit) → reading_on names sources old (whole ++ ws) ≡ reading_on names sources p ws
+  whole_read p old whole reads ws = sym (reads ws) ∙ ap (λ ls. reading_on names sources p (flat_map (below sources left) (numbered source depth (1 + line) ls) ++ ws)) lines
 
 -- ---- from the root
 

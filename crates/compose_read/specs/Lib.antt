@@ -8,3 +8,4 @@ pub mod Rows
 pub mod Given
 pub mod Sequence
 pub mod Progress
+pub mod Kept

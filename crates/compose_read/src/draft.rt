@@ -32,7 +32,7 @@ impl Model for Draft {
 }
 
 impl Draft {
-    ghost use Rattle.std.specs.Prelude.{◌≡◌, ◌++◌, ℕ, List, [], ◌∷◌, length, OnOk, OnErr, IsTrue, encode_utf8};
+    ghost use Rattle.std.specs.Prelude.{◌≡◌, ◌≤◌, ◌+◌, ◌++◌, ℕ, List, [], ◌∷◌, length, take, drop, OnOk, OnErr, IsTrue, encode_utf8};
     ghost use Rattle.compose_model.specs.Table.{is_definition, is_table};
     ghost use Rattle.compose_lex.specs.Lexed.{PushGives};
     ghost use Rattle.compose_lex.specs.Escape.{text_of, Unescapes, IsText};
@@ -116,6 +116,16 @@ impl Draft {
             byte_count: (self.texts.len() - self.first_byte) as u16,
         };
         self.places.push(place)?;
+        Ok(())
+    }
+
+    /// Puts so many definitions from this place on behind the others again; they share their keysyms and texts. A refusal changes nothing. O(definitions).
+    pub(crate) fn repeat(&mut self, first: usize, count: usize) -> Result<(), AllocError>
+        requires { first + count ≤ length self.old.table }
+        ensures repeated { OnOk result (self.new.table ≡ self.old.table ++ take count (drop first self.old.table)) }
+        ensures unchanged { OnErr result (self.new ≡ self.old) }
+    {
+        self.places.extend_from_within(first..first + count)?;
         Ok(())
     }
 

@@ -20,6 +20,7 @@ ghost use Rattle.compose_read.specs.declared.ReadFault.TheVariants.{NoMemory};
 
 mod definitions;
 mod draft;
+mod kept;
 mod line;
 mod reading;
 mod rows;

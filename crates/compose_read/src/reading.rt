@@ -1,14 +1,16 @@
 //! Reading a source with all that it includes.
-ghost use Rattle.std.specs.Prelude.{◌≡◌, ◌≤◌, ◌<◌, [], ◌∷◌, List, length, IfOk, IfSome, IsTrue, IsUtf8};
+ghost use Rattle.std.specs.Prelude.{◌≡◌, ◌≤◌, ◌<◌, ◌+◌, [], ◌∷◌, List, length, Some, slice_get, IfOk, IfSome, OnOk, IsTrue, IsUtf8};
 ghost use Rattle.compose_model.specs.Table.{Definition, is_table};
 ghost use Rattle.compose_read.specs.Lines.{visits_below, included, without_mark};
 ghost use Rattle.compose_read.specs.Read.{definitions_of};
 ghost use Rattle.compose_read.specs.Given.{ReadGives};
 ghost use Rattle.compose_read.specs.Progress.{visit, ReadsOn};
+ghost use Rattle.compose_read.specs.Kept.{AreKept};
 
 use crate::ReadFault;
 use crate::definitions::Definitions;
 use crate::draft::Draft;
+use crate::kept::{Kept, KeptSource};
 use crate::line::{Events, Found, MAX_DEPTH, Place, read_line};
 use crate::sources::Sources;
 use arrayvec::ArrayVec;
@@ -32,7 +34,7 @@ pub(crate) struct Progress {
     pub(crate) draft: Draft,
 }
 
-/// The definitions that are read from the root in reading order, or the fault of the first faulty line. O(b) in the bytes of all sources that are visited, included ones each time.
+/// The definitions that are read from the root in reading order, or the fault of the first faulty line. O(b + d) in the bytes of all sources and the definitions: a source is gone through again only where it stands deeper than before, nine times at most, and on the way to a fault.
 pub fn read_definitions(
     alloc: Global,
     names: &Names,
@@ -50,30 +52,42 @@ pub fn read_definitions(
         draft: Draft::new(alloc),
     };
     let mut events = ArrayVec::new();
+    let mut kept = Kept::new();
     read_source(
         names,
         sources,
         source,
         MAX_DEPTH,
         &mut events,
+        &mut kept,
         &mut progress,
     )?;
     Ok(progress.draft.into_definitions())
 }
 
-/// Reads all lines of a source on, and behind each include those of the included source; so many levels are left below it.
+/// Reads all lines of a source on, and behind each include those of the included source; so many levels are left below it. What it gives is kept, and where that is known, its lines are not gone through again.
 fn read_source<'a>(
     names: &Names,
     sources: &'a Sources,
     source: usize,
     left: usize,
     events: &mut Events<'a>,
+    kept: &mut Kept,
     progress: &mut Progress,
 ) -> Result<(), ReadFault>
-    requires within { source < length sources.now }
+    requires within { (source < length sources.now) × (length sources.now ≤ 64) }
     requires levels { left ≤ 8 }
-    ensures { ReadsOn names.now sources.now (visits_below sources.now left source) progress.old progress.new result }
+    requires kept { AreKept names.now sources.now progress.old.draft.table kept.old.by_source }
+    ensures reads { ReadsOn names.now sources.now (visits_below sources.now left source) progress.old progress.new result }
+    ensures kept { OnOk result (AreKept names.now sources.now progress.new.draft.table kept.new.by_source) }
+    ensures counted { OnOk result (progress.new.lines ≡ progress.old.lines + length (visits_below sources.now left source)) }
 {
+    if let Some(again) = kept_source(kept, source, left, progress) {
+        progress.draft.repeat(again.first, again.count)?;
+        progress.lines += again.lines;
+        return Ok(());
+    }
+    let (lines, first) = (progress.lines, progress.draft.len());
     let depth = MAX_DEPTH - left;
     let mut rest = without_mark(sources.bytes(source));
     progress
@@ -91,10 +105,35 @@ fn read_source<'a>(
         };
         let included = take_line(names, sources, place, bytes, is_text, events, progress)?;
         if let Some(included) = included {
-            read_source(names, sources, included, left - 1, events, progress)?;
+            read_source(names, sources, included, left - 1, events, kept, progress)?;
         }
     }
+    kept.put(
+        source,
+        KeptSource {
+            left,
+            lines: progress.lines - lines,
+            first,
+            count: progress.draft.len() - first,
+        },
+    );
     Ok(())
+}
+
+/// What is kept of a source, if it was read where no more levels were left below it, and if it passes no limit when it is read on from here.
+fn kept_source(kept: &Kept, source: usize, left: usize, progress: &Progress) -> Option<KeptSource>
+    requires { source < 64 }
+    ensures found { IfSome result (λ k. (slice_get kept.now.by_source source ≡ Some (Some k)) × (k.left ≤ left)) }
+    ensures fits { IfSome result (λ k. (progress.now.lines + k.lines ≤ 1000000) × (length progress.now.draft.table + k.count ≤ 100000)) }
+{
+    let again = kept.find(source, left)?;
+    if progress.lines.saturating_add(again.lines) > MAX_LINES {
+        return None;
+    }
+    if progress.draft.len().saturating_add(again.count) > MAX_DEFINITIONS {
+        return None;
+    }
+    Some(again)
 }
 
 /// Reads the line at this place on. Where it includes a source, the answer is the place of this one.
@@ -109,6 +148,7 @@ fn take_line<'a>(
 ) -> Result<Option<usize>, ReadFault>
     requires { IsTrue is_text → IsUtf8 bytes.now }
     ensures reads { ReadsOn names.now sources.now (visit place bytes.now ∷ []) progress.old progress.new result }
+    ensures counted { OnOk result (progress.new.lines ≡ progress.old.lines + 1) }
     ensures source { IfOk result (λ o. included sources.now bytes.now ≡ o) }
     ensures within { IfOk result (λ o. IfSome o (λ s. (place.depth < 8) × (s < length sources.now))) }
 {

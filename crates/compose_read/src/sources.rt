@@ -104,6 +104,7 @@ impl Sources {
     pub(crate) fn place(&self, name: &str) -> Option<usize>
         ensures place { result ≡ position (λ s. bytes_eq name.now s.name) self.now }
         ensures within { IfSome result (λ i. i < length self.now) }
+        ensures few { length self.now ≤ 64 }
     {
         self.files.get_index_of(name)
     }

@@ -5,6 +5,7 @@ use Rattle.std.specs.Str.{IsUtf8}
 use Rattle.compose_text.specs.Lines.{lines_of}
 use Rattle.compose_read.specs.Lines.{Visit, visits_below}
 use Rattle.compose_read.specs.Progress.{reading_on}
+use Rattle.compose_read.specs.Kept.{AreKept}
 use Rattle.compose_read.proofs.Visits.{left_to_visit}
 use Rattle.compose_read.proofs.reading.+read_source.Given as goal
 
@@ -14,6 +15,8 @@ decreases-read_source l = l.left
 abbrev pub invariant-loop-bytes : goal.invariant-loop-bytes
 invariant-loop-bytes l = record {
   reads : (ws : List Visit) → reading_on l.names l.sources l.progress (left_to_visit l.sources l.left l.source l.depth l.line l.rest ++ ws) ≡ reading_on l.names l.sources l.fn.progress (visits_below l.sources l.left l.source ++ ws);
+  kept : AreKept l.names l.sources l.progress.draft.table l.kept.by_source;
+  read : l.progress.lines + length (left_to_visit l.sources l.left l.source l.depth l.line l.rest) ≡ l.fn.progress.lines + length (visits_below l.sources l.left l.source);
   texts : IsTrue l.is_text → All IsUtf8 (lines_of l.rest);
   counted : l.line + length l.rest ≤ length l.initial.rest;
 }
