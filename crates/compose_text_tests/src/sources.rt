@@ -200,6 +200,51 @@ static CHAINS: [(usize, usize, &str); 3] = [
     (8, 8, "8 TooManyLines source=7 line=2"),
 ];
 
+/// The lines of `s0`, `s1` and `s2`, how often each stands there, and what is printed. The long ones would take hours if they were gone through at each include.
+static INCLUDED_OFTEN: [([(&str, usize); 3], &str); 7] = [
+    (
+        [
+            ("include \"s1\"\n", 300),
+            ("include \"s2\"\n", 300),
+            ("########", 524_288),
+        ],
+        "",
+    ),
+    (
+        [
+            ("include \"s1\"\n", 300),
+            ("include \"s2\"\n", 300),
+            ("<a> : \"x\" #", 349_525),
+        ],
+        "0x61=x;",
+    ),
+    (
+        [("include \"s1\"\n", 100), ("<a> : \"x\"\n", 1_000), ("", 1)],
+        "0x61=x;",
+    ),
+    (
+        [
+            ("<a> : \"x\"\ninclude \"s1\"\n", 100),
+            ("<b> : \"x\"\n", 1_000),
+            ("", 1),
+        ],
+        "9 TooManyDefinitions source=1 line=901",
+    ),
+    ([("include \"s1\"\n", 1_000), ("\n", 999), ("", 1)], ""),
+    (
+        [("include \"s1\"\n", 1_000), ("\n", 1_000), ("", 1)],
+        "8 TooManyLines source=1 line=1",
+    ),
+    (
+        [
+            ("include \"s1\"\n<b> : \"y\"\ninclude \"s2\"\n", 2),
+            ("include \"s2\"\n<a> : \"1\"\n", 1),
+            ("<b> : \"2\"\n<c> : \"3\"\n", 1),
+        ],
+        "0x61=1;0x62=2;0x63=3;",
+    ),
+];
+
 /// The settled sequences, or the first fault.
 fn printed(alloc: Global, sources: &Sources, root: &str, rule: Rule) -> Result<String, Fail> {
     let names = Names::core(alloc)?;
@@ -341,6 +386,39 @@ fn check_chains(
 #[test]
 fn chains_of_includes(rt: HostRuntime) -> Result<(), Fail> {
     check_chains(&rt, rt.alloc(), &CHAINS)
+}
+
+#[test]
+fn sources_included_often(rt: HostRuntime) -> Result<(), Fail> {
+    let alloc = rt.alloc();
+    for (lines, expected) in &INCLUDED_OFTEN {
+        let mut sources = Sources::new(alloc);
+        for (number, (line, times)) in lines.iter().enumerate() {
+            let name = format!(in alloc; "s{number}")?;
+            sources.add(name.as_str(), repeated(alloc, line, *times)?)?;
+        }
+        let text = printed(alloc, &sources, "s0", Rule::Refuse)?;
+        assert_eq!(rt; text.as_str(), *expected);
+    }
+    Ok(())
+}
+
+/// A source that includes another one is read where a level is left below it, and then where none is.
+#[test]
+fn source_included_deeper_again(rt: HostRuntime) -> Result<(), Fail> {
+    let alloc = rt.alloc();
+    let mut sources = Sources::new(alloc);
+    sources.add(
+        "s0",
+        repeated(alloc, "include \"s8\"\ninclude \"s1\"\n", 1)?,
+    )?;
+    for number in 1..9usize {
+        add_link(&mut sources, alloc, number, 1)?;
+    }
+    sources.add("s9", Vec::new(alloc))?;
+    let text = printed(alloc, &sources, "s0", Rule::Refuse)?;
+    assert_eq!(rt; text.as_str(), "7 IncludeDepth source=8 line=1");
+    Ok(())
 }
 
 #[test]
