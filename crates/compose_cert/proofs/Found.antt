@@ -1,12 +1,12 @@
 -- What is read of a text spells it.
-use Rattle.std.proofs.Common.{◌≡◌, ◌⊎◌, inl, inr, ℕ, zero, suc, ◌+◌, ◌-◌, ◌<◌, ◌≤◌, List, [], ◌∷◌, ◌++◌, length, drop, take, map, Bool, true, false, cond, not, ◌&&◌, refl, sym, subst, ◌∙◌, ap, arith, append_assoc, append-nil, length-append, eqb-true}
+use Rattle.std.proofs.Common.{◌≡◌, ℕ, zero, suc, ◌+◌, List, [], ◌∷◌, ◌++◌, length, drop, map, Bool, true, false, cond, ◌&&◌, refl, sym, subst, ◌∙◌, ap, arith, append_assoc, append-nil, length-append, eqb-true}
 use Rattle.std.specs.Prelude.{◌==◌, if◌then◌else◌, nat_eq, nat_lt, nat_le, Option, Some, None, Result, Ok, Err, IfOk, bytes_eq, flat_map, codes}
 use Rattle.std.specs.Option.{option_map, option_map_or}
 use Rattle.std.specs.Cmp.Lexicographic.{bytes_decides}
 use Rattle.std.specs.List.{list_all, starts_with}
 use Rattle.std.specs.Fmt.{decimal}
 use Rattle.std.specs.Str.Parse.{digits_value}
-use Rattle.std.proofs.lemmas.Bool.{and_parts, and_from, ltb-false, ltb-true, le-leb, lt-ltb, eqb-false, leb-true}
+use Rattle.std.proofs.lemmas.Bool.{and_parts, and_from, ltb-false, le-leb, lt-ltb, eqb-false}
 use Rattle.std.proofs.lemmas.List.{length-map}
 use Rattle.std.proofs.lemmas.Option.{some_pair_parts}
 use Rattle.keysym_core.specs.Keysym.{is_keysym}
@@ -14,8 +14,8 @@ use Rattle.compose_text.specs.Lines.{divide}
 use Rattle.compose_model.specs.Certificate.{Typing, Certificate}
 use Rattle.compose_cert.specs.declared.CertFault.{CertFault}
 use Rattle.compose_cert.specs.declared.CertFault.TheVariants.{NotText, TooLarge}
-use Rattle.compose_cert.specs.Spelling.{counted, character_text, keysym_text, pair_text, typing_text, version_line, fresh_lines, lines_of_text, text_of, ended, max_count, is_number, are_numbers, is_character, is_spelled, is_typing, is_typed, are_counted, is_counted, is_certificate, Spells}
-use Rattle.compose_cert.specs.Reading.{◌>>=◌, written, number_of, keysym_of, character_of, number_behind, both, pair_of, pair_of_words, keysyms_of, typing_of, typing_of_words, version_of, line_at, if_few, count_at, typing_at, times, if_some, end_at, some_fresh_at, fresh_at, certificate_at, certificate_of}
+use Rattle.compose_cert.specs.Spelling.{counted, character_text, keysym_text, pair_text, typing_text, version_line, fresh_lines, lines_of_text, ended, max_count, is_number, are_numbers, is_character, is_spelled, is_typing, is_typed, are_counted, is_counted, is_certificate, Spells}
+use Rattle.compose_cert.specs.Reading.{◌>>=◌, number_of, keysym_of, character_of, number_behind, both, pair_of, pair_of_words, keysyms_of, typing_of, typing_of_words, version_of, line_at, if_few, count_at, typing_at, times, if_some, end_at, some_fresh_at, fresh_at, certificate_of}
 use Rattle.compose_cert.specs.Given.{CertificateGives}
 use Rattle.compose_cert.proofs.LineRead.{join, join_divide, written_was}
 use Rattle.compose_cert.proofs.TextRead.{spelled_is_read, typing_parts, certificate_parts, after_fresh, after_typings, after_typing_count, after_pairs, after_count, after_bound, after_version}

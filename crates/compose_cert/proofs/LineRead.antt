@@ -1,5 +1,5 @@
 -- What a line says is what is read of its parts.
-use Rattle.std.proofs.Common.{◌≡◌, ℕ, suc, ◌+◌, ◌<◌, ◌≤◌, ◌^◌, List, [], ◌∷◌, ◌++◌, length, map, Bool, true, false, cond, ◌&&◌, refl, sym, ◌∙◌, ap, arith, append_assoc, append-nil, eqb-true}
+use Rattle.std.proofs.Common.{◌≡◌, ℕ, ◌<◌, ◌≤◌, List, [], ◌∷◌, ◌++◌, length, Bool, true, false, cond, ◌&&◌, refl, sym, ◌∙◌, ap, arith, eqb-true}
 use Rattle.std.specs.Prelude.{◌==◌, Some, None, Option, Result, Ok, Err, bytes_eq}
 use Rattle.std.specs.Option.{option_map, option_map_or, ok_or}
 use Rattle.std.specs.Cmp.Lexicographic.{bytes_decides}
@@ -9,7 +9,7 @@ use Rattle.std.proofs.lemmas.Bool.{and_parts, ltb-true, lt-ltb, le-ltb}
 use Rattle.compose_text.specs.Lines.{divide, onto_first}
 use Rattle.compose_model.specs.Certificate.{Typing}
 use Rattle.compose_cert.specs.Spelling.{is_number, max_count}
-use Rattle.compose_cert.specs.Reading.{written, number_of, keysym_of, keysyms_of, both, pair_of, pair_of_words, typing_of, typing_of_words, character_of, line_at, typing_at, if_few, end_at, ◌>>=◌}
+use Rattle.compose_cert.specs.Reading.{written, number_of, keysyms_of, both, pair_of, pair_of_words, typing_of, typing_of_words, character_of, line_at, typing_at, if_few, end_at, ◌>>=◌}
 use Rattle.compose_cert.specs.declared.CertFault.{CertFault}
 use Rattle.compose_cert.specs.declared.CertFault.TheVariants.{NotText, TooLarge}
 use Rattle.compose_cert.proofs.Words.{plain, decimal_plain, word_alone}

@@ -1,6 +1,6 @@
 -- A character's number is spelled by at least four digits, and by more only without a zero before them.
 use Rattle.std.proofs.Common.{◌≡◌, ◌⊎◌, inl, inr, ℕ, zero, suc, ◌+◌, ◌-◌, ◌<◌, ◌≤◌, ◌^◌, List, [], ◌∷◌, ◌++◌, length, get_or, replicate, Bool, true, false, cond, ◌&&◌, refl, sym, subst, ◌∙◌, ap, arith, length-append}
-use Rattle.std.specs.Prelude.{nat_le, Some, None, if◌then◌else◌}
+use Rattle.std.specs.Prelude.{nat_le, Some, None}
 use Rattle.std.specs.List.{list_all}
 use Rattle.std.specs.Fmt.{digits}
 use Rattle.std.specs.Str.Parse.{digits_value}

@@ -1,11 +1,11 @@
 -- A text written line by line spells its certificate.
-use Rattle.std.proofs.Common.{◌≡◌, ℕ, ◌<◌, ◌^◌, List, [], ◌∷◌, ◌++◌, length, map, Bool, true, ◌&&◌, refl, sym, ◌∙◌, ap, arith, append_assoc, lt-ltb}
-use Rattle.std.specs.Prelude.{nat_lt, nat_le, codes, flat_map}
+use Rattle.std.proofs.Common.{◌≡◌, ℕ, ◌<◌, ◌^◌, List, [], ◌∷◌, ◌++◌, length, map, true, ◌&&◌, refl, sym, ◌∙◌, ap, append_assoc, lt-ltb}
+use Rattle.std.specs.Prelude.{nat_lt, nat_le, codes}
 use Rattle.std.specs.List.{list_all}
 use Rattle.std.proofs.lemmas.Bool.{and_parts, and_from}
 use Rattle.keysym_core.specs.Keysym.{is_keysym}
 use Rattle.compose_model.specs.Certificate.{Typing, Certificate}
-use Rattle.compose_cert.specs.Spelling.{counted, pair_text, typing_text, version_line, fresh_lines, lines_of_text, text_of, ended, max_count, is_number, are_numbers, is_character, is_spelled, is_typed, is_typing, are_counted, is_counted, is_certificate, Spells}
+use Rattle.compose_cert.specs.Spelling.{counted, pair_text, typing_text, version_line, fresh_lines, text_of, ended, max_count, is_number, are_numbers, is_character, is_spelled, is_typed, is_typing, are_counted, is_counted, is_certificate}
 use Rattle.compose_cert.proofs.Written.{ended-append}
 
 -- a typing whose parts are right and counted is a typing

@@ -1,19 +1,18 @@
 -- What a word spells is what is read of it.
-use Rattle.std.proofs.Common.{◌≡◌, ◌⊎◌, inl, inr, ℕ, zero, suc, ◌+◌, ◌-◌, ◌<◌, ◌≤◌, ◌^◌, List, [], ◌∷◌, ◌++◌, length, get_or, drop, take, replicate, Bool, true, false, cond, not, ◌&&◌, refl, sym, subst, ◌∙◌, ap, arith, lt-ltb, eq-eqb}
-use Rattle.std.specs.Prelude.{◌==◌, nat_eq, nat_lt, nat_le, Some, None, Option, bytes_eq, codes, if◌then◌else◌}
-use Rattle.std.specs.List.{list_all, starts_with}
+use Rattle.std.proofs.Common.{◌≡◌, inl, inr, ℕ, zero, suc, ◌<◌, ◌≤◌, List, [], ◌∷◌, length, get_or, drop, take, Bool, true, false, cond, not, ◌&&◌, refl, sym, ◌∙◌, ap, arith, lt-ltb, eq-eqb}
+use Rattle.std.specs.Prelude.{◌==◌, nat_eq, nat_le, Some, None, Option, bytes_eq}
+use Rattle.std.specs.List.{starts_with}
 use Rattle.std.specs.Char.{IsScalar, InScalarRange, OutOfScalarRange}
 use Rattle.std.specs.Option.{MatchOption, SomeIff}
 use Rattle.std.specs.Cmp.Lexicographic.{bytes_decides}
-use Rattle.std.specs.Fmt.{digits, decimal}
+use Rattle.std.specs.Fmt.{decimal}
 use Rattle.std.specs.Str.Parse.{digits_value}
 use Rattle.std.proofs.lemmas.Bool.{and_parts, and_from, and_left, and_right, leb-true, le-leb, ltb-true, eqb-true, lt-leb, ne_eqb, false≢true}
-use Rattle.compose_text.specs.Numbers.{is_between}
 use Rattle.keysym_core.specs.Keysym.{is_keysym}
 use Rattle.keysym_core.specs.Names.{is_surrogate}
 use Rattle.compose_text.specs.Lines.{divide}
-use Rattle.compose_cert.specs.declared.numeral.Notation.TheVariants.{Decimal, LowerHexadecimal, UpperHexadecimal}
-use Rattle.compose_cert.specs.Numerals.{numeral, padded, is_digit, IsSpelled}
+use Rattle.compose_cert.specs.declared.numeral.Notation.TheVariants.{Decimal, LowerHexadecimal}
+use Rattle.compose_cert.specs.Numerals.{numeral, padded, IsSpelled}
 use Rattle.compose_cert.specs.Spelling.{character_text, keysym_text, is_number, is_character}
 use Rattle.compose_cert.specs.Reading.{written, number_of, keysym_of, character_of}
 use Rattle.compose_cert.proofs.Padded.{padded_value}

@@ -1,9 +1,9 @@
 -- The words of bytes are the first word and those behind it.
-use Rattle.std.proofs.Common.{◌≡◌, ◌≢◌, ℕ, zero, suc, ◌+◌, ◌<◌, List, [], ◌∷◌, length, get_or, drop, take, map, Bool, true, false, cond, refl, sym, ◌∙◌, ap, arith, eq-eqb, eqb-true}
+use Rattle.std.proofs.Common.{◌≡◌, ℕ, zero, suc, ◌+◌, ◌<◌, List, [], ◌∷◌, length, get_or, drop, take, map, Bool, true, false, refl, sym, ◌∙◌, ap, arith, eq-eqb}
 use Rattle.std.specs.Prelude.{◌==◌, ◌||◌, nat_lt, filter}
-use Rattle.std.specs.List.{before_first, position_or_len}
+use Rattle.std.specs.List.{position_or_len}
 use Rattle.std.proofs.lemmas.Bool.{ne_eqb, lt-ltb, false≢true}
-use Rattle.compose_text.specs.Lines.{divide, onto_first}
+use Rattle.compose_text.specs.Lines.{divide}
 use Rattle.compose_cert.specs.Repertoire.{plain_blank, is_blank, words_in, before_comment}
 
 -- ---- comments

@@ -113,6 +113,13 @@ impl Certificate {
         self.bound
     }
 
+    /// The pairs: each an old node's and a new node's number. O(1).
+    pub fn pairs(&self) -> &[(u32, u32)]
+        ensures { result.now ≡ self.now.pairs }
+    {
+        self.pairs.as_slice()
+    }
+
     /// How many pairs there are. O(1).
     pub fn pair_count(&self) -> usize
         ensures { result ≡ length self.now.pairs }
@@ -126,6 +133,13 @@ impl Certificate {
         ensures { slice_get self.now.pairs index ≡ Some result }
     {
         self.pairs[index]
+    }
+
+    /// The typings. O(1).
+    pub fn typings(&self) -> &[Typing]
+        ensures { result.now ≡ self.now.typings }
+    {
+        self.typings.as_slice()
     }
 
     /// How many typings there are. O(1).

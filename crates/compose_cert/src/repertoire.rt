@@ -47,6 +47,20 @@ impl Repertoire {
         Ok(Repertoire { characters, keys })
     }
 
+    /// The characters, which strictly rise. O(1).
+    pub fn characters(&self) -> &[char]
+        ensures { result.now ≡ self.now.characters }
+    {
+        self.characters.as_slice()
+    }
+
+    /// The first and the last keysym of each range of keys, which rise. O(1).
+    pub fn ranges(&self) -> &[(Keysym, Keysym)]
+        ensures { result.now ≡ self.now.keys }
+    {
+        self.keys.as_slice()
+    }
+
     /// How many characters there are, at most 65,536; they strictly rise. O(1).
     pub fn count(&self) -> usize
         ensures count { result ≡ length self.now.characters }

@@ -1,6 +1,7 @@
 mod Examples
 pub mod Lists
 pub mod PairOrder
+pub mod PairSearch
 pub mod Landed
 pub mod EdgeDemands
 pub mod StartDemands

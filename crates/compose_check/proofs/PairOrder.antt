@@ -2,17 +2,15 @@
 use Rattle.std.proofs.Common.{◌≡◌, ◌⊎◌, ℕ, zero, suc, ◌+◌, ◌-◌, ◌<◌, ◌≤◌, List, [], ◌∷◌, true, false, ◌&&◌, length, get_or, drop, refl, sym, ◌∙◌, ap, arith, inl, inr, ltb-true, lt-ltb, eqb-true, eq-eqb}
 use Rattle.std.specs.Prelude.{◌==◌, nat_lt, slice_get, Some}
 use Rattle.std.proofs.lemmas.Bool.{and_parts, and_from, or_cases, or_left, or_right, cases_lt, and_left, and_right, ne_eqb}
-use Rattle.compose_model.specs.Certificate.{is_pair_before, pairs_rise, has_pair}
-use Rattle.std.proofs.lemmas.Option.{slice_get_within, get_or_from_slice_get}
+use Rattle.compose_model.specs.Certificate.{is_pair_before, pairs_rise}
 use Rattle.compose_fresh.proofs.Unmet.{drop_at}
-use Rattle.compose_check.proofs.Lists.{none_passes, one_passes}
 
 -- ---- the order
 
-abbrev Before : ℕ × ℕ → ℕ × ℕ → Type 0
+abbrev pub Before : ℕ × ℕ → ℕ × ℕ → Type 0
 Before p q = (p.0 < q.0) ⊎ ((p.0 ≡ q.0) × (p.1 < q.1))
 
-before_means : (p q : ℕ × ℕ) → is_pair_before p q ≡ true → Before p q
+pub before_means : (p q : ℕ × ℕ) → is_pair_before p q ≡ true → Before p q
 before_means p q h = elim (or_cases (nat_lt p.0 q.0) (p.0 == q.0 && nat_lt p.1 q.1) h) [
   | inl e ↦ inl (ltb-true p.0 q.0 e)
   | inr e ↦ (let both = and_parts (p.0 == q.0) (nat_lt p.1 q.1) e in inr (eqb-true p.0 q.0 both.0, ltb-true p.1 q.1 both.1))
@@ -91,28 +89,3 @@ earlier_before [] r i j a b = absurd (omega arith)
 earlier_before (p ∷ xs) r i zero a b = absurd (omega arith)
 earlier_before (p ∷ xs) r zero (suc j) a b = head_before p xs r j (omega arith)
 earlier_before (p ∷ xs) r (suc i) (suc j) a b = earlier_before xs (tail_rises p xs r) i j (omega arith) (omega arith)
-
--- where the pair at a place comes before another one, so do those up to there
-pub before_up_to : (xs : List (ℕ × ℕ)) (q : ℕ × ℕ) (i : ℕ) (p : ℕ × ℕ) → pairs_rise xs ≡ true → slice_get xs i ≡ Some p → is_pair_before p q ≡ true → (k : ℕ) → k < i + 1 → is_pair_before (get_or xs k (0, 0)) q ≡ true
-before_up_to xs q i p r e h k b = elim (cases_lt k i) [
-  | inl low ↦ before_trans (get_or xs k (0, 0)) (get_or xs i (0, 0)) q (earlier_before xs r k i low (slice_get_within xs i p e)) (ap (λ x. is_pair_before x q) (get_or_from_slice_get xs i p (0, 0) e) ∙ h)
-  | inr high ↦ (let same : k ≡ i = omega arith in ap (λ n. is_pair_before (get_or xs n (0, 0)) q) same ∙ ap (λ x. is_pair_before x q) (get_or_from_slice_get xs i p (0, 0) e) ∙ h)
-]
-
--- where it comes after it, so do those from there on
-pub behind_from : (xs : List (ℕ × ℕ)) (q : ℕ × ℕ) (i : ℕ) (p : ℕ × ℕ) → pairs_rise xs ≡ true → slice_get xs i ≡ Some p → is_pair_before q p ≡ true → (k : ℕ) → i ≤ k → k < length xs → is_pair_before q (get_or xs k (0, 0)) ≡ true
-behind_from xs q i p r e h k a b = elim (cases_lt i k) [
-  | inl low ↦ before_trans q (get_or xs i (0, 0)) (get_or xs k (0, 0)) (ap (is_pair_before q) (get_or_from_slice_get xs i p (0, 0) e) ∙ h) (earlier_before xs r i k low b)
-  | inr high ↦ (let same : k ≡ i = omega arith in ap (λ n. is_pair_before q (get_or xs n (0, 0))) same ∙ ap (is_pair_before q) (get_or_from_slice_get xs i p (0, 0) e) ∙ h)
-]
-
--- a search that has nothing left finds nothing
-pub not_found : (xs : List (ℕ × ℕ)) (i j low : ℕ) → ((k : ℕ) → k < low → is_pair_before (get_or xs k (0, 0)) (i, j) ≡ true) → ((k : ℕ) → low ≤ k → k < length xs → is_pair_before (i, j) (get_or xs k (0, 0)) ≡ true) → has_pair xs i j ≡ false
-not_found xs i j low below above = none_passes (λ p. p.0 == i && p.1 == j) (0, 0) xs (λ k h. elim (cases_lt k low) [
-  | inl a ↦ other_before (get_or xs k (0, 0)) i j (below k a)
-  | inr a ↦ other_behind (get_or xs k (0, 0)) i j (above k a h)
-])
-
--- what comes neither before nor after is found
-pub found : (xs : List (ℕ × ℕ)) (i j k : ℕ) (p : ℕ × ℕ) → slice_get xs k ≡ Some p → is_pair_before p (i, j) ≡ false → is_pair_before (i, j) p ≡ false → has_pair xs i j ≡ true
-found xs i j k p e g h = one_passes (λ p. p.0 == i && p.1 == j) (0, 0) xs k (slice_get_within xs k p e) (ap (λ (x : ℕ × ℕ). x.0 == i && x.1 == j) (get_or_from_slice_get xs k p (0, 0) e) ∙ neither_is p i j g h)

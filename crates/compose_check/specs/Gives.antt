@@ -4,7 +4,6 @@ use Rattle.keysym_core.specs.declared.fault.NameFault.TheVariants as name_faults
 use Rattle.compose_tree.specs.Given.{NoTable}
 use Rattle.compose_migration.specs.Migration.{no_names, no_table}
 use Rattle.compose_migration.specs.Given.{TableFails}
-use Rattle.compose_migration.specs.declared.fault.Side.{Side}
 use Rattle.compose_migration.specs.declared.fault.Side.TheVariants as sides
 use Rattle.compose_cert.specs.declared.CertFault.TheVariants as cert_faults
 use Rattle.compose_cert.specs.declared.RepertoireFault.TheVariants as repertoire_faults

@@ -57,12 +57,10 @@ fn are_rising(certificate: &Certificate) -> bool
 fn are_in_range(certificate: &Certificate, old_count: u32, new_count: u32) -> bool
     ensures { result ≡ list_all (λ p. nat_lt p.0 old_count && nat_lt p.1 new_count) certificate.now.pairs }
 {
-    for index in 0..certificate.pair_count() {
-        if !is_within(certificate.pair(index), old_count, new_count) {
-            return false;
-        }
-    }
-    true
+    certificate
+        .pairs()
+        .iter()
+        .all(|pair| is_within(*pair, old_count, new_count))
 }
 
 /// Whether the pair's numbers are below these counts.
@@ -76,12 +74,7 @@ fn is_within(pair: (u32, u32), old_count: u32, new_count: u32) -> bool
 fn is_rest_kept(certificate: &Certificate) -> bool
     ensures { result ≡ words.rest_is_kept certificate.now.pairs }
 {
-    for index in 0..certificate.pair_count() {
-        if !keeps_rest(certificate.pair(index)) {
-            return false;
-        }
-    }
-    true
+    certificate.pairs().iter().all(|pair| keeps_rest(*pair))
 }
 
 /// Whether the pair has the new root where it has the old one.
@@ -96,19 +89,5 @@ pub(crate) fn has_pair(certificate: &Certificate, old: u32, new: u32) -> bool
     requires { IsTrue (words.pairs_rise certificate.now.pairs) }
     ensures { result ≡ words.has_pair certificate.now.pairs old new }
 {
-    let wanted = (old, new);
-    let mut low = 0;
-    let mut high = certificate.pair_count();
-    while low < high {
-        let middle = low + (high - low) / 2;
-        let pair = certificate.pair(middle);
-        if is_before(pair, wanted) {
-            low = middle + 1;
-        } else if is_before(wanted, pair) {
-            high = middle;
-        } else {
-            return true;
-        }
-    }
-    false
+    certificate.pairs().binary_search(&(old, new)).is_ok()
 }

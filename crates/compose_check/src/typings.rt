@@ -91,12 +91,7 @@ fn check_typing<U: ComposeTable>(
 fn are_keys(repertoire: &Repertoire, keysyms: &[Keysym]) -> bool
     ensures { result ≡ list_all (is_key repertoire.now) keysyms.now }
 {
-    for keysym in keysyms {
-        if !repertoire.is_key(*keysym) {
-            return false;
-        }
-    }
-    true
+    keysyms.iter().all(|keysym| repertoire.is_key(*keysym))
 }
 
 /// Whether the keys, from rest, commit the character at the last one and nothing before, and leave nothing pending.

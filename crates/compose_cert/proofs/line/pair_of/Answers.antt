@@ -1,5 +1,4 @@
-use Rattle.std.proofs.Common.{◌≡◌, ◌∙◌, sym, ap, Some, None}
-use Rattle.compose_cert.specs.Reading.{both, pair_of}
+use Rattle.std.proofs.Common.{◌∙◌, sym}
 use Rattle.compose_cert.proofs.LineRead.{pair_told}
 use Rattle.compose_cert.proofs.line.pair_of.Goals as goal
 

@@ -1,4 +1,4 @@
-use Rattle.std.proofs.Common.{◌≡◌, ◌∙◌, sym, ap}
+use Rattle.std.proofs.Common.{◌∙◌, sym}
 use Rattle.compose_cert.proofs.LineRead.{typing_read}
 use Rattle.compose_cert.proofs.line.typing_of.Goals as goal
 

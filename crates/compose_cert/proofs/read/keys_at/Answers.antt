@@ -1,5 +1,4 @@
-use Rattle.std.proofs.Common.{◌≡◌, ◌∙◌, ◌+◌, sym, Err, arith}
-use Rattle.std.specs.Prelude.{None, Some}
+use Rattle.std.proofs.Common.{◌∙◌, ◌+◌, sym, arith}
 use Rattle.compose_text.specs.Lines.{divide}
 use Rattle.compose_cert.specs.Reading.{line_at, keysym_of}
 use Rattle.compose_cert.proofs.LineRead.{line_read, line_refused, line_missing, none_from_err}

@@ -1,4 +1,4 @@
-use Rattle.std.proofs.Common.{◌≡◌, ◌++◌, ◌∷◌, [], ap, arith}
+use Rattle.std.proofs.Common.{arith}
 use Rattle.compose_text.specs.Lines.{divide}
 use Rattle.compose_cert.specs.Reading.{line_at, pair_of}
 use Rattle.std.proofs.lemmas.Result.{err_from_is_err_and}

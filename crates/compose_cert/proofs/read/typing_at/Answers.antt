@@ -1,4 +1,4 @@
-use Rattle.std.proofs.Common.{◌≡◌, ◌<◌, ◌≤◌, ap, length, arith}
+use Rattle.std.proofs.Common.{ap, length, arith}
 use Rattle.compose_cert.proofs.LineRead.{typing_few, typing_many}
 use Rattle.compose_cert.proofs.read.typing_at.Goals as goal
 

@@ -1,4 +1,4 @@
-use Rattle.std.proofs.Common.{◌≡◌, ◌∙◌, ℕ, ◌+◌, ◌-◌, ◌/◌, ◌<◌, ap, sym, length, get_or, arith}
+use Rattle.std.proofs.Common.{◌≡◌, ◌∙◌, ℕ, ◌+◌, ◌-◌, ◌/◌, ap, sym, get_or, arith}
 use Rattle.std.specs.List.{list_any}
 use Rattle.compose_text.specs.Numbers.{is_between}
 use Rattle.std.proofs.lemmas.List.{get_or_default}

@@ -1,4 +1,4 @@
-use Rattle.std.proofs.Common.{◌≡◌, ◌∙◌, sym, drop, length}
+use Rattle.std.proofs.Common.{◌∙◌, sym}
 use Rattle.std.proofs.lemmas.List.{take_rest}
 use Rattle.compose_cert.proofs.WordRead.{no_character_told, character_told}
 use Rattle.compose_cert.proofs.word.character_of.Goals as goal

@@ -1,4 +1,4 @@
-use Rattle.std.proofs.Common.{◌≡◌, refl, subst, rules}
+use Rattle.std.proofs.Common.{◌≡◌, subst, rules}
 use Rattle.compose_model.specs.Certificate.{IsValid, TypesAll}
 use Rattle.compose_model.specs.Follows.{Follows, Waits}
 use Rattle.compose_migration.specs.Given.{parts}

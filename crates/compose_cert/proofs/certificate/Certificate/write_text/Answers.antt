@@ -1,6 +1,5 @@
-use Rattle.std.proofs.Common.{◌≡◌, ◌∙◌, ◌++◌, ap, string_bytes, length, arith}
+use Rattle.std.proofs.Common.{◌≡◌, length, arith}
 use Rattle.compose_model.specs.Certificate.{Certificate}
-use Rattle.compose_cert.specs.Spelling.{Spells}
 use Rattle.compose_cert.proofs.Spelled.{certificate_from_parts, parts_are_text}
 use Rattle.compose_cert.proofs.certificate.Certificate.write_text.Goals as goal
 

@@ -1,0 +1,108 @@
+-- What a binary search among rising pairs finds.
+use Rattle.std.proofs.Common.{◌≡◌, ◌⊎◌, ℕ, ◌≤◌, List, true, false, ◌&&◌, length, get_or, sym, ◌∙◌, ap, arith, inl, inr, eqb-true, nat_cmp, Ordering, Less, Equal, Greater}
+use Rattle.std.specs.Prelude.{◌==◌, is_ok, Result, Ok, Err}
+use Rattle.std.specs.Cmp.{nat_cmp_is}
+use Rattle.std.specs.Ordering.{ordering_then, ordering_index}
+use Rattle.std.specs.List.Sorted.{IsBinarySearchResult, IsNonDecreasingBy, IsSearchInRange}
+use Rattle.std.proofs.lemmas.Bool.{and_parts, cases_Bool, cases_lt}
+use Rattle.std.proofs.lemmas.List.Sorted.{IsNonDecreasingBy-from_default}
+use Rattle.compose_model.specs.Certificate.{is_pair_before, pairs_rise, has_pair}
+use Rattle.compose_check.proofs.Lists.{none_passes, one_passes}
+use Rattle.compose_check.proofs.PairOrder.{before_means, before_trans, earlier_before, neither_is, other_before, other_behind}
+
+-- how a pair compares with the numbers i and j
+abbrev pub compared : ℕ → ℕ → ℕ × ℕ → Ordering
+compared i j p = ordering_then (nat_cmp p.0 i) (nat_cmp p.1 j)
+
+less_from : (i j : ℕ) (p : ℕ × ℕ) → is_pair_before p (i, j) ≡ true → compared i j p ≡ Less
+less_from i j p h = elim (before_means p (i, j) h) [
+  | inl a ↦ ap (λ o. ordering_then o (nat_cmp p.1 j)) (sym (nat_cmp_is p.0 i Less a))
+  | inr a ↦ ap (λ o. ordering_then o (nat_cmp p.1 j)) (sym (nat_cmp_is p.0 i Equal a.0)) ∙ sym (nat_cmp_is p.1 j Less a.1)
+]
+
+greater_from : (i j : ℕ) (p : ℕ × ℕ) → is_pair_before (i, j) p ≡ true → compared i j p ≡ Greater
+greater_from i j p h = elim (before_means (i, j) p h) [
+  | inl a ↦ ap (λ o. ordering_then o (nat_cmp p.1 j)) (sym (nat_cmp_is p.0 i Greater a))
+  | inr a ↦ ap (λ o. ordering_then o (nat_cmp p.1 j)) (sym (nat_cmp_is p.0 i Equal (sym a.0))) ∙ sym (nat_cmp_is p.1 j Greater a.1)
+]
+
+equal_from : (i j : ℕ) (p : ℕ × ℕ) → p.0 == i && p.1 == j ≡ true → compared i j p ≡ Equal
+equal_from i j p h =
+    let both = and_parts (p.0 == i) (p.1 == j) h in
+    ap (λ o. ordering_then o (nat_cmp p.1 j)) (sym (nat_cmp_is p.0 i Equal (eqb-true p.0 i both.0))) ∙ sym (nat_cmp_is p.1 j Equal (eqb-true p.1 j both.1))
+
+-- a pair comes before the numbers, after them, or is them
+data Compared (i j : ℕ) (p : ℕ × ℕ) : Type 0 where
+  before : is_pair_before p (i, j) ≡ true → compared i j p ≡ Less → Compared i j p
+  after : is_pair_before (i, j) p ≡ true → compared i j p ≡ Greater → Compared i j p
+  same : p.0 == i && p.1 == j ≡ true → compared i j p ≡ Equal → Compared i j p
+
+compare : (i j : ℕ) (p : ℕ × ℕ) → Compared i j p
+compare i j p = elim (cases_Bool (is_pair_before p (i, j))) [
+  | inl a ↦ before a (less_from i j p a)
+  | inr a ↦ elim (cases_Bool (is_pair_before (i, j) p)) [
+    | inl b ↦ after b (greater_from i j p b)
+    | inr b ↦ (let is : p.0 == i && p.1 == j ≡ true = neither_is p i j a b in same is (equal_from i j p is))
+  ]
+]
+
+-- ---- rising pairs
+
+no_more_than_greater : (o : Ordering) → ordering_index o ≤ 2
+no_more_than_greater Less = omega arith
+no_more_than_greater Equal = omega arith
+no_more_than_greater Greater = omega arith
+
+-- what comes before a pair compares as no more
+no_more : (i j : ℕ) (p q : ℕ × ℕ) → is_pair_before p q ≡ true → ordering_index (compared i j p) ≤ ordering_index (compared i j q)
+no_more i j p q h = go (compare i j q)
+  where
+    least : is_pair_before p (i, j) ≡ true → ordering_index (compared i j p) ≤ ordering_index (compared i j q)
+    least a = let zero : ordering_index (compared i j p) ≡ 0 = ap ordering_index (less_from i j p a) in omega arith
+
+    go : Compared i j q → ordering_index (compared i j p) ≤ ordering_index (compared i j q)
+    go (before a e) = least (before_trans p q (i, j) h a)
+    go (after a e) =
+        let most : ordering_index (compared i j q) ≡ 2 = ap ordering_index e in
+        let few = no_more_than_greater (compared i j p) in
+        omega arith
+    go (same a e) =
+        let both = and_parts (q.0 == i) (q.1 == j) a in
+        least (sym (ap (is_pair_before p) (λ k. (eqb-true q.0 i both.0 k, eqb-true q.1 j both.1 k))) ∙ h)
+
+rises_compared : (i j : ℕ) (pairs : List (ℕ × ℕ)) → pairs_rise pairs ≡ true → IsNonDecreasingBy (λ p. ordering_index (compared i j p)) pairs
+rises_compared i j pairs rise = IsNonDecreasingBy-from_default (λ p. ordering_index (compared i j p)) pairs (0, 0) (λ a b low high. elim (cases_lt a b) [
+  | inl less ↦ no_more i j (get_or pairs a (0, 0)) (get_or pairs b (0, 0)) (earlier_before pairs rise a b less high)
+  | inr more ↦ (let is : a ≡ b = omega arith in let e : ordering_index (compared i j (get_or pairs a (0, 0))) ≡ ordering_index (compared i j (get_or pairs b (0, 0))) = ap (λ n. ordering_index (compared i j (get_or pairs n (0, 0)))) is in omega arith)
+])
+
+-- ---- the search
+
+is_equal : (i j : ℕ) (p : ℕ × ℕ) → compared i j p ≡ Equal → p.0 == i && p.1 == j ≡ true
+is_equal i j p h = go (compare i j p)
+  where
+    go : Compared i j p → p.0 == i && p.1 == j ≡ true
+    go (before a e) = let clash : Less ≡ Equal = sym e ∙ h in cc
+    go (after a e) = let clash : Greater ≡ Equal = sym e ∙ h in cc
+    go (same a e) = a
+
+is_other : (i j : ℕ) (p : ℕ × ℕ) → (compared i j p ≡ Less) ⊎ (compared i j p ≡ Greater) → p.0 == i && p.1 == j ≡ false
+is_other i j p h = go (compare i j p)
+  where
+    go : Compared i j p → p.0 == i && p.1 == j ≡ false
+    go (before a e) = other_before p i j a
+    go (after a e) = other_behind p i j a
+    go (same a e) = elim h [
+      | inl l ↦ (let clash : Equal ≡ Less = sym e ∙ l in cc)
+      | inr g ↦ (let clash : Equal ≡ Greater = sym e ∙ g in cc)
+    ]
+
+-- a binary search tells whether the numbers are a pair
+pub searched_pair : (pairs : List (ℕ × ℕ)) (i j : ℕ) (r : Result ℕ ℕ) → pairs_rise pairs ≡ true → IsSearchInRange r (length pairs) → IsBinarySearchResult (compared i j) pairs r → is_ok r ≡ has_pair pairs i j
+searched_pair pairs i j (Ok k) rise range found = sym (one_passes (λ p. p.0 == i && p.1 == j) (0, 0) pairs k range (is_equal i j (get_or pairs k (0, 0)) (found (0, 0))))
+searched_pair pairs i j (Err k) rise range found =
+    let parts = found (rises_compared i j pairs rise) in
+    sym (none_passes (λ p. p.0 == i && p.1 == j) (0, 0) pairs (λ n h. is_other i j (get_or pairs n (0, 0)) (elim (cases_lt n k) [
+      | inl low ↦ inl (parts.0 n (0, 0) (omega arith) low)
+      | inr high ↦ inr (parts.1 n (0, 0) high h)
+    ])))
