@@ -18,7 +18,7 @@ pub returns-in_err-table : goal.returns-in_err-table
 returns-in_err-table g c =
     let inside : ServiceState = record { table = g.T.ComposeTable.definitions c.self.inside.table; names = c.self.inside.names; repertoire = c.self.inside.repertoire; loads = c.self.inside.loads; sessions = c.self.inside.sessions } in
     let b : Bundle = record { sources = c.in_ok-bundle.bundle.sources; certificate = c.in_ok-bundle.bundle.certificate.now } in
-    raised c.args.self.now c.args.rule c.args.payload.now g.T.ComposeTable.definitions c.from_residual-in_err-table.result (of_table c.in_err-table.field-0.0) c.from_residual-in_err-table.ensures.value.1
+    raised c.args.self.now c.args.rule c.args.payload.now g.T.ComposeTable.definitions c.from_residual-in_err-table.result (of_table c.in_err-table.field-0.0) c.from_residual-in_err-table.ensures.1
     (subst (λ (s : ServiceState). Checked s c.args.rule c.args.payload.now g.T.ComposeTable.definitions (Err (of_table c.in_err-table.field-0.0))) c.self.view_is
     (table_fault inside c.args.rule c.args.payload.now g.T.ComposeTable.definitions b (found c.args.payload.now b c.in_ok-bundle.ensures) c.in_err-table.field-0.0 c.in_err-table.ensures.value))
 
