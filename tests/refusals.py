@@ -80,7 +80,7 @@ def refuse_each(program, library, name):
         case.prepare(folder)
         right = answer(command, folder, library, COUNT_TO=count.fileno())
         count.seek(0)
-        allocations = int(count.read())
+        allocations = int(count.read().split()[0])
         answers = [(number, answer(command, folder, library, REFUSE=number)) for number in range(1, allocations + 1)]
     return allocations, [(number, got) for number, got in answers if got not in [right, OUT_OF_MEMORY]]
 
