@@ -1,0 +1,66 @@
+//! Requests to a service, before, within and after the call that is tried.
+use crate::failure::Failure;
+use crate::input::{read_requests, start_service};
+use crate::marks::mark;
+use crate::output::{say, say_reply};
+use compose_service::Service;
+use compose_tree::PackedTable;
+use compose_wire::Reply;
+
+/// Answers the requests of the file `before`, tries the call that the word names on those of `tried`, and answers those of `after`;
+/// prints each reply.
+pub fn try_call(rt: &HostRuntime, call: &str) -> Result<(), Failure> {
+    let mut service = start_service(rt)?;
+    answer_all(rt, &mut service, "before")?;
+    match call {
+        "one" => answer_one(rt, &mut service)?,
+        "run" => run(rt, &mut service)?,
+        _ => return Err(Failure::Words),
+    }
+    answer_all(rt, &mut service, "after")
+}
+
+/// Answers the requests of a file, and prints each reply.
+pub fn answer_all(
+    rt: &HostRuntime,
+    service: &mut Service<PackedTable>,
+    path: &str,
+) -> Result<(), Failure> {
+    for request in &read_requests(rt, path)? {
+        let reply = service.answer(rt.alloc(), request);
+        say_reply(rt, &reply)?;
+    }
+    Ok(())
+}
+
+/// Answers one request.
+fn answer_one(rt: &HostRuntime, service: &mut Service<PackedTable>) -> Result<(), Failure> {
+    let requests = read_requests(rt, "tried")?;
+    let Some(request) = requests.first() else {
+        return Err(Failure::Input);
+    };
+    mark(rt);
+    let reply = service.answer(rt.alloc(), request);
+    mark(rt);
+    say_reply(rt, &reply)
+}
+
+/// Answers requests by one call.
+fn run(rt: &HostRuntime, service: &mut Service<PackedTable>) -> Result<(), Failure> {
+    let requests = read_requests(rt, "tried")?;
+    mark(rt);
+    let ran = service.run(rt.alloc(), &requests);
+    mark(rt);
+    match ran {
+        Ok(replies) => say_replies(rt, &replies),
+        Err(fault) => say(rt, fault),
+    }
+}
+
+/// Prints each reply.
+fn say_replies(rt: &HostRuntime, replies: &[Reply]) -> Result<(), Failure> {
+    for reply in replies {
+        say_reply(rt, reply)?;
+    }
+    Ok(())
+}

@@ -1,0 +1,75 @@
+//! A stream of as many frames as are answered, and one more.
+use crate::failure::Failure;
+use crate::input::start_service;
+use crate::output::say;
+use crate::serving::say_end;
+use compose_serve::Device;
+use std::io;
+use std::io::{Read, Write};
+
+/// The bytes of an Ask of session 0: its kind, and zeros.
+const FRAME: usize = 9;
+
+/// The kind of an Ask.
+const ASK: u8 = 6;
+
+/// Its refusal: there is no such session.
+const REPLY: [u8; 11] = [0xff, 0, 0, 0, 0, 0, 0, 0, 2, 0, 2];
+
+/// How many frames come.
+const FRAMES: usize = 16_777_217;
+
+/// A reader of one frame again and again, which takes no memory.
+#[derive(Drop)]
+struct Repeated {
+    left: usize,
+}
+
+impl Read for Repeated {
+    fn read(&mut self, buf: &mut [u8]) -> io::Result<usize> {
+        let whole_frames = buf.len() - buf.len() % FRAME;
+        let count = whole_frames.min(self.left);
+        for (place, byte) in buf.iter_mut().enumerate() {
+            *byte = if place % FRAME == 0 { ASK } else { 0 };
+        }
+        self.left -= count;
+        Ok(count)
+    }
+}
+
+/// A writer that counts the replies, and those that are other ones.
+#[derive(Drop)]
+struct Counted {
+    replies: u64,
+    others: u64,
+}
+
+impl Write for Counted {
+    fn write(&mut self, buf: &[u8]) -> io::Result<usize> {
+        self.replies = self.replies.saturating_add(1);
+        if buf != REPLY.as_slice() {
+            self.others = self.others.saturating_add(1);
+        }
+        Ok(buf.len())
+    }
+
+    fn flush(&mut self) -> io::Result<()> {
+        Ok(())
+    }
+}
+
+/// Serves the frames; prints how that ends, how many replies were written, and how many of them are other ones.
+pub fn serve_endless(rt: &HostRuntime) -> Result<(), Failure> {
+    let mut service = start_service(rt)?;
+    let mut reader = Device::new(Repeated {
+        left: FRAMES * FRAME,
+    });
+    let mut writer = Counted {
+        replies: 0,
+        others: 0,
+    };
+    let ended = service.serve(rt.alloc(), &mut reader, &mut Device::new(&mut writer));
+    say_end(rt, ended)?;
+    say(rt, writer.replies)?;
+    say(rt, writer.others)
+}

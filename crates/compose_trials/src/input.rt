@@ -1,0 +1,109 @@
+//! What the files hold.
+use crate::failure::Failure;
+use compose_cert::Repertoire;
+use compose_model::Rule;
+use compose_read::Sources;
+use compose_service::Service;
+use compose_tree::{ComposeTable, PackedTable, read_first_table};
+use compose_wire::{Feeder, Request};
+use keysym_core::Names;
+
+/// The bytes of a file.
+pub fn read_file(rt: &HostRuntime, path: &str) -> Result<Vec<u8>, Failure> {
+    match std::fs::read(rt, path) {
+        Ok(bytes) => Ok(bytes),
+        Err(_) => Err(Failure::File),
+    }
+}
+
+/// The names of the header.
+pub fn read_names(rt: &HostRuntime) -> Result<Names, Failure> {
+    let header = read_file(rt, "header")?;
+    match Names::read(rt.alloc(), &header) {
+        Ok(names) => Ok(names),
+        Err(_) => Err(Failure::Input),
+    }
+}
+
+/// The characters of the repertoire.
+pub fn read_repertoire(rt: &HostRuntime) -> Result<Repertoire, Failure> {
+    let bytes = read_file(rt, "repertoire")?;
+    match Repertoire::read(rt.alloc(), &bytes) {
+        Ok(repertoire) => Ok(repertoire),
+        Err(_) => Err(Failure::Input),
+    }
+}
+
+/// The sources of a table that is one file, under its path.
+pub fn read_sources(rt: &HostRuntime, path: &str) -> Result<Sources, Failure> {
+    let bytes = read_file(rt, path)?;
+    let mut sources = Sources::new(rt.alloc());
+    match sources.add(path, bytes) {
+        Ok(()) => Ok(sources),
+        Err(_) => Err(Failure::Input),
+    }
+}
+
+/// The table of a file.
+pub fn read_table<T: ComposeTable>(
+    rt: &HostRuntime,
+    names: &Names,
+    path: &str,
+) -> Result<T, Failure> {
+    let sources = read_sources(rt, path)?;
+    match read_first_table(rt.alloc(), names, &sources, Rule::Refuse) {
+        Ok(table) => Ok(table),
+        Err(_) => Err(Failure::Input),
+    }
+}
+
+/// A service over the old table.
+pub fn start_service(rt: &HostRuntime) -> Result<Service<PackedTable>, Failure> {
+    let names = read_names(rt)?;
+    let repertoire = read_repertoire(rt)?;
+    let sources = read_sources(rt, "old")?;
+    let certificate = read_file(rt, "certificate")?;
+    match Service::start(
+        rt.alloc(),
+        names,
+        repertoire,
+        sources,
+        Rule::Refuse,
+        &certificate,
+    ) {
+        Ok(service) => Ok(service),
+        Err(_) => Err(Failure::Input),
+    }
+}
+
+/// A feeder that holds what a file does.
+pub fn feed_file(rt: &HostRuntime, path: &str) -> Result<Feeder, Failure> {
+    let bytes = read_file(rt, path)?;
+    let mut feeder = Feeder::new(rt.alloc());
+    match feeder.feed(&bytes) {
+        Ok(()) => Ok(feeder),
+        Err(_) => Err(Failure::NoMemory),
+    }
+}
+
+/// The requests of a file.
+pub fn read_requests(rt: &HostRuntime, path: &str) -> Result<Vec<Request>, Failure> {
+    let mut feeder = feed_file(rt, path)?;
+    let mut requests = Vec::new(rt.alloc());
+    for _ in 0..feeder.held() {
+        match feeder.next_request(rt.alloc()) {
+            Ok(Some(request)) => keep(&mut requests, request)?,
+            Ok(None) => return Ok(requests),
+            Err(_) => return Err(Failure::Input),
+        }
+    }
+    Ok(requests)
+}
+
+/// Puts a request behind the others.
+fn keep(requests: &mut Vec<Request>, request: Request) -> Result<(), Failure> {
+    match requests.push(request) {
+        Ok(()) => Ok(()),
+        Err(_) => Err(Failure::NoMemory),
+    }
+}

@@ -1,0 +1,68 @@
+//! Single calls and failing devices, for `tests/calls.py` and `tests/devices.py`: `compose_trials WHAT [CALL]` reads what a trial needs
+//! from files of fixed names in the folder that it runs in, and prints what came of it.
+#![tactic(auto)]
+
+mod answering;
+mod certificates;
+mod devices;
+mod endless;
+mod failure;
+mod input;
+mod marks;
+mod output;
+mod planted;
+mod reading;
+mod serving;
+mod sockets;
+mod streams;
+mod tables;
+
+use failure::Failure;
+use std::process::ExitCode;
+
+/// Tries what the words say.
+fn run(rt: &HostRuntime, words: &[&str]) -> Result<(), Failure> {
+    match words {
+        ["read", call] => reading::try_call(rt, call),
+        ["table", call] => tables::try_call(rt, call),
+        ["answer", call] => answering::try_call(rt, call),
+        ["stream", call] => streams::try_call(rt, call),
+        ["planted", call] => planted::try_call(rt, call),
+        ["certificates"] => certificates::try_all(rt),
+        ["devices"] => serving::try_all(rt),
+        ["sockets"] => sockets::try_all(rt),
+        ["endless"] => endless::serve_endless(rt),
+        _ => Err(Failure::Words),
+    }
+}
+
+/// The words behind the program's name.
+fn words_given(rt: &HostRuntime) -> Result<Vec<String>, Failure> {
+    let Ok(words) = std::env::args(rt) else {
+        return Err(Failure::Words);
+    };
+    let Ok(words) = words.skip(1).collect(rt.alloc()) else {
+        return Err(Failure::NoMemory);
+    };
+    Ok(words)
+}
+
+/// Runs with the words behind the program's name.
+fn run_given(rt: &HostRuntime) -> Result<(), Failure> {
+    let given = words_given(rt)?;
+    let Ok(words) = given
+        .iter()
+        .map(|word| word.as_str())
+        .collect::<Vec<&str>>(rt.alloc())
+    else {
+        return Err(Failure::NoMemory);
+    };
+    run(rt, &words)
+}
+
+fn main(rt: HostRuntime) -> ExitCode {
+    match run_given(&rt) {
+        Ok(()) => ExitCode::from(0),
+        Err(failure) => ExitCode::from(failure.status()),
+    }
+}

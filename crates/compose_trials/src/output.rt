@@ -1,0 +1,27 @@
+//! What is printed.
+use crate::failure::Failure;
+use compose_wire::{Reply, put_reply};
+use std::fmt::Display;
+
+/// Prints a line.
+pub fn say<D: Display + Drop>(rt: &HostRuntime, line: D) -> Result<(), Failure> {
+    match println!(rt; "{line}") {
+        Ok(()) => Ok(()),
+        Err(_) => Err(Failure::System),
+    }
+}
+
+/// The bytes in hexadecimal.
+pub fn hexadecimal(rt: &HostRuntime, bytes: &[u8]) -> Result<String, Failure> {
+    match hex::encode(rt.alloc(), bytes) {
+        Ok(text) => Ok(text),
+        Err(_) => Err(Failure::NoMemory),
+    }
+}
+
+/// Prints the frame of a reply in hexadecimal.
+pub fn say_reply(rt: &HostRuntime, reply: &Reply) -> Result<(), Failure> {
+    let frame = put_reply(reply);
+    let text = hexadecimal(rt, frame.as_slice())?;
+    say(rt, text.as_str())
+}

@@ -1,0 +1,76 @@
+//! Calls that are wrong on purpose: the scripts have to tell each.
+use crate::answering::answer_all;
+use crate::failure::Failure;
+use crate::input::{read_requests, start_service};
+use crate::marks::mark;
+use crate::output::{say, say_reply};
+use compose_wire::Answer;
+use std::mem;
+
+/// Does the wrong call that the word names.
+pub fn try_call(rt: &HostRuntime, call: &str) -> Result<(), Failure> {
+    match call {
+        "leak" => leak(rt),
+        "leak-at-a-refusal" => leak_at_a_refusal(rt),
+        "refusal-of-nothing" => refuse_nothing(rt),
+        "change-before-a-refusal" => change_before_a_refusal(rt),
+        _ => Err(Failure::Words),
+    }
+}
+
+/// Takes a block, and never gives it back.
+fn leak(rt: &HostRuntime) -> Result<(), Failure> {
+    mark(rt);
+    let taken: Result<_, _> = Vec::from_slice(rt.alloc(), b"lost");
+    mark(rt);
+    match taken {
+        Ok(block) => {
+            mem::forget(block);
+            say(rt, "yes")
+        }
+        Err(_) => say(rt, "NoMemory"),
+    }
+}
+
+/// Takes two blocks, and loses the first where the second is refused.
+fn leak_at_a_refusal(rt: &HostRuntime) -> Result<(), Failure> {
+    mark(rt);
+    let first: Result<_, _> = Vec::from_slice(rt.alloc(), b"lost");
+    let second: Result<_, _> = Vec::from_slice(rt.alloc(), b"refused");
+    mark(rt);
+    if second.is_ok() && first.is_ok() {
+        return say(rt, "yes");
+    }
+    mem::forget(first);
+    say(rt, "NoMemory")
+}
+
+/// Answers that memory was refused, though none was asked for.
+fn refuse_nothing(rt: &HostRuntime) -> Result<(), Failure> {
+    mark(rt);
+    let taken: Result<_, _> = Vec::from_slice(rt.alloc(), b"given");
+    mark(rt);
+    match taken {
+        Ok(_) => say(rt, "NoMemory"),
+        Err(_) => say(rt, "NoMemory"),
+    }
+}
+
+/// Answers that memory was refused to the first request, which has changed the service.
+fn change_before_a_refusal(rt: &HostRuntime) -> Result<(), Failure> {
+    let mut service = start_service(rt)?;
+    answer_all(rt, &mut service, "before")?;
+    let requests = read_requests(rt, "tried")?;
+    let Some(request) = requests.first() else {
+        return Err(Failure::Input);
+    };
+    mark(rt);
+    let room: Result<_, _> = Vec::from_slice(rt.alloc(), b"room");
+    mark(rt);
+    let mut reply = service.answer(rt.alloc(), request);
+    if room.is_err() {
+        reply.answer = Answer::Refused(9);
+    }
+    say_reply(rt, &reply)?;
+    answer_all(rt, &mut service, "after")
+}

@@ -1,0 +1,61 @@
+//! Streams over a Unix socket inside this process.
+use crate::failure::Failure;
+use crate::input::{read_file, start_service};
+use crate::output::{hexadecimal, say};
+use crate::serving::say_end;
+use compose_serve::{Device, Ended, ServeFault};
+use std::io::{Read, Write};
+use std::net::Shutdown;
+use std::os::unix::net::{UnixListener, UnixStream};
+
+/// Serves the file `stream` over a socket file; prints how it ends, and what comes back.
+///
+/// The stream is sent before it is served, and its replies are read afterwards, so both have to find room in the socket.
+pub fn try_all(rt: &HostRuntime) -> Result<(), Failure> {
+    let stream = read_file(rt, "stream")?;
+    let Ok(listener) = UnixListener::bind(rt, "socket") else {
+        return Err(Failure::System);
+    };
+    let client = send(rt, &stream)?;
+    let ended = serve_next(rt, &listener)?;
+    let replies = receive(rt, client)?;
+    say_end(rt, ended)?;
+    let replies = hexadecimal(rt, &replies)?;
+    say(rt, replies.as_str())
+}
+
+/// Connects, sends the stream, and ends its side.
+fn send(rt: &HostRuntime, stream: &[u8]) -> Result<UnixStream, Failure> {
+    let Ok(client) = UnixStream::connect(rt, "socket") else {
+        return Err(Failure::System);
+    };
+    if (&client).write_all(stream).is_err() || client.shutdown(Shutdown::Write).is_err() {
+        return Err(Failure::System);
+    }
+    Ok(client)
+}
+
+/// Serves the next connection, and closes it.
+fn serve_next(
+    rt: &HostRuntime,
+    listener: &UnixListener,
+) -> Result<Result<Ended, ServeFault>, Failure> {
+    let mut service = start_service(rt)?;
+    let Ok((stream, _)) = listener.accept() else {
+        return Err(Failure::System);
+    };
+    Ok(service.serve(
+        rt.alloc(),
+        &mut Device::new(&stream),
+        &mut Device::new(&stream),
+    ))
+}
+
+/// All that comes back.
+fn receive(rt: &HostRuntime, client: UnixStream) -> Result<Vec<u8>, Failure> {
+    let mut replies = Vec::new(rt.alloc());
+    match (&client).read_to_end(&mut replies) {
+        Ok(_) => Ok(replies),
+        Err(_) => Err(Failure::System),
+    }
+}
