@@ -21,6 +21,8 @@ CHARACTERS = 1000
 MOST_NODES = 1_048_576
 MOST_CHARACTERS = 65_536
 ADDED = 20
+KEYS_IN_SESSIONS = 1_000_000
+MOST_SESSIONS = 4_096
 
 
 def figures(command, folder):
@@ -147,6 +149,24 @@ def measure_migration(program, folder, reading):
         print(f"{name}, {len(characters)} characters: {seconds * 1000:.2f} ms; {seconds / reading:.2f} of reading")
 
 
+def measure_service(program, bench, folder):
+    """Calls of a service: keys beside a bare `feed`, and opening and closing sessions."""
+    write(folder, "nobody", "")
+    made = subprocess.run([program, "make", "--names", "names", "english", "english", "nobody"], cwd=folder, capture_output=True, text=True, check=True)
+    write(folder, "itself", made.stdout)
+    keys = key_streams.stream(key_streams.sequences(ENGLISH, key_streams.header_values()), KEYS_IN_SESSIONS, 2)
+    key_streams.write(keys, os.path.join(folder, "pressed"))
+    service = ["names", ENGLISH, "itself"]
+    for sessions in (1, 100, MOST_SESSIONS):
+        times = least_figures({"keys": [bench, "keys", *service, "pressed", str(sessions)]}, folder, 5)["keys"]
+        bare, served = times["feed"] / times["keys"], times["key"] / times["keys"]
+        print(f"keys in {sessions} sessions: {served:.1f} ns a key through a service, {bare:.1f} by a bare feed; ratio {served / bare:.2f}")
+    times = least_figures({"sessions": [bench, "sessions", *service, str(MOST_SESSIONS)]}, folder, 5)["sessions"]
+    each = times["close the others"] / (MOST_SESSIONS - 1) / 1000
+    print(f"opening {MOST_SESSIONS} sessions: {times['open all'] / MOST_SESSIONS / 1000:.2f} us each")
+    print(f"closing them, the first one first: {times['close the first'] / 1000:.1f} us for the first, {each:.1f} us each for the others")
+
+
 def measure_limits(program, bench, folder):
     """Tables, repertoires and certificates at their limits."""
     write(folder, "deep", "".join(f"<0x{0x1000100 + i:x}>{'<a>' * 31} : \"x\"\n" for i in range((MOST_NODES - 1) // 31)))
@@ -174,6 +194,7 @@ def main():
         compare_typing(bench, folder)
         reading = compare_processes(program, folder)
         measure_migration(program, folder, reading)
+        measure_service(program, bench, folder)
         measure_limits(program, bench, folder)
 
 

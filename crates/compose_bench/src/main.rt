@@ -7,9 +7,12 @@ mod failure;
 mod figures;
 mod input;
 mod reading;
+mod serving;
+mod sessions;
 mod stopwatch;
 mod typing;
 
+use compose_tree::PackedTable;
 use failure::Failure;
 use std::process::ExitCode;
 
@@ -21,6 +24,16 @@ fn run(rt: &HostRuntime, words: &[&str]) -> Result<(), Failure> {
         ["certificate", certificate] => reading::read_certificate(rt, certificate),
         ["compile", header, table] => compiling::compile(rt, header, table),
         ["type", header, table, keys] => typing::type_keys(rt, header, table, keys),
+        ["sessions", header, table, certificate, sessions] => {
+            sessions::open_and_close::<PackedTable>(rt, header, table, certificate, sessions)
+        }
+        ["keys", header, table, certificate, keys, sessions] => {
+            sessions::type_in_sessions::<PackedTable>(
+                rt,
+                &[header, table, certificate, keys],
+                sessions,
+            )
+        }
         _ => Err(Failure::Words),
     }
 }

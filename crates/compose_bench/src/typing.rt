@@ -10,8 +10,8 @@ use compose_tree::PackedTable;
 use keysym_core::{Keysym, Names};
 
 /// How often each status came, and the bytes of all committed texts.
-#[derive(Clone, Copy, Drop)]
-struct Counts {
+#[derive(Clone, Copy, PartialEq, Eq, Drop)]
+pub struct Counts {
     nothing: u64,
     composing: u64,
     composed: u64,
@@ -21,7 +21,7 @@ struct Counts {
 
 impl Counts {
     /// No key yet.
-    fn new() -> Counts {
+    pub fn new() -> Counts {
         Counts {
             nothing: 0,
             composing: 0,
@@ -32,7 +32,7 @@ impl Counts {
     }
 
     /// Counts a key.
-    fn count(&mut self, status: Status, text_bytes: usize) {
+    pub fn count(&mut self, status: Status, text_bytes: usize) {
         let count = match status {
             Status::Nothing => &mut self.nothing,
             Status::Composing => &mut self.composing,
@@ -72,7 +72,7 @@ fn print_counts(rt: &HostRuntime, time: u64, counts: Counts) -> Result<(), Failu
 }
 
 /// The keysyms of a file.
-fn read_keys(rt: &HostRuntime, path: &str) -> Result<Vec<Keysym>, Failure> {
+pub fn read_keys(rt: &HostRuntime, path: &str) -> Result<Vec<Keysym>, Failure> {
     let bytes = read_file(rt, path)?;
     let mut keys = Vec::new(rt.alloc());
     for place in 0..bytes.len() / 4 {

@@ -1,0 +1,239 @@
+//! Keys in the sessions of a service, beside the same keys in as many compose states without one.
+use crate::failure::Failure;
+use crate::figures::print;
+use crate::input::read_names;
+use crate::serving::{ask, close_sessions, open_sessions, read_count, start};
+use crate::stopwatch::{Stopwatch, now};
+use crate::typing::{Counts, read_keys};
+use arrayvec::ArrayString;
+use compose_service::Service;
+use compose_state::ComposeState;
+use compose_tree::ComposeTable;
+use compose_wire::{Answer, Body};
+use keysym_core::{Keysym, Names};
+
+/// How often the same keys are typed, and the same sessions are opened and closed.
+const TYPINGS: u32 = 5;
+
+/// How many keys lie between the first key of a session and that of the next one.
+const APART: usize = 97;
+
+/// A key, and the session that it is for.
+#[derive(Clone, Copy, Drop)]
+struct Press {
+    session: u32,
+    keysym: Keysym,
+}
+
+/// The quickest times of opening sessions, of closing the first one, and of closing the others.
+#[derive(Clone, Copy, Drop)]
+struct Times {
+    opening: Stopwatch,
+    first: Stopwatch,
+    others: Stopwatch,
+}
+
+/// Types the keys of a file in as many sessions by turns, each from another place of the file: through a service, and without one.
+pub fn type_in_sessions<T: ComposeTable>(
+    rt: &HostRuntime,
+    files: &[&str; 4],
+    count: &str,
+) -> Result<(), Failure> {
+    let [header, path, certificate, keys] = files;
+    let count = read_count(count)?;
+    let presses = read_presses(rt, keys, count)?;
+    let mut service: Service<T> = start(rt, header, path, certificate)?;
+    let (bare, served) = measure_keys(rt, header, &mut service, &presses, count)?;
+    let keys = presses.len() as u64;
+    print(rt, &[("keys", keys), ("feed", bare), ("key", served)])
+}
+
+/// The quickest times of typing the keys without a service and through it.
+fn measure_keys<T: ComposeTable>(
+    rt: &HostRuntime,
+    header: &str,
+    service: &mut Service<T>,
+    presses: &[Press],
+    count: u32,
+) -> Result<(u64, u64), Failure> {
+    let names = read_names(rt, header)?;
+    measure_rounds(rt, &names, service, presses, count)
+}
+
+/// The same with these names, by turns; each key has the same answer in both.
+fn measure_rounds<T: ComposeTable>(
+    rt: &HostRuntime,
+    names: &Names,
+    service: &mut Service<T>,
+    presses: &[Press],
+    count: u32,
+) -> Result<(u64, u64), Failure> {
+    let mut bare = Stopwatch::new();
+    let mut served = Stopwatch::new();
+    for _ in 0..TYPINGS {
+        let fed = feed_round(rt, service.table(), names, presses, count, &mut bare)?;
+        let answered = answer_round(rt, service, presses, count, &mut served)?;
+        if fed != answered {
+            return Err(Failure::Input);
+        }
+    }
+    Ok((bare.least(), served.least()))
+}
+
+/// The keys of a file in the order in which they are typed.
+fn read_presses(rt: &HostRuntime, path: &str, count: u32) -> Result<Vec<Press>, Failure> {
+    let keys = read_keys(rt, path)?;
+    presses_of(rt, &keys, count)
+}
+
+/// The keys in the order in which they are typed.
+fn presses_of(rt: &HostRuntime, keys: &[Keysym], count: u32) -> Result<Vec<Press>, Failure> {
+    let mut presses = Vec::new(rt.alloc());
+    for place in 0..keys.len() {
+        let Some(press) = press_at(keys, count as usize, place) else {
+            return Err(Failure::Words);
+        };
+        if presses.push(press).is_err() {
+            return Err(Failure::NoMemory);
+        }
+    }
+    Ok(presses)
+}
+
+/// The key at this place of the order; none where there are no sessions.
+fn press_at(keys: &[Keysym], count: usize, place: usize) -> Option<Press> {
+    let session = place.checked_rem(count)?;
+    let round = place.checked_div(count)?;
+    let from = session.wrapping_mul(APART).wrapping_add(round);
+    let keysym = keys.get(from.checked_rem(keys.len())?)?;
+    Some(Press {
+        session: u32::try_from(session).ok()?,
+        keysym: *keysym,
+    })
+}
+
+/// Types the keys without a service.
+fn feed_round<T: ComposeTable>(
+    rt: &HostRuntime,
+    table: &T,
+    names: &Names,
+    presses: &[Press],
+    count: u32,
+    stopwatch: &mut Stopwatch,
+) -> Result<Counts, Failure> {
+    let mut states = states_at_rest(rt, count)?;
+    let start = now(rt)?;
+    let counts = feed_all(table, names, presses, &mut states);
+    stopwatch.stop(rt, start)?;
+    Ok(counts)
+}
+
+/// As many compose states as there are sessions.
+fn states_at_rest(rt: &HostRuntime, count: u32) -> Result<Vec<ComposeState>, Failure> {
+    let mut states = Vec::new(rt.alloc());
+    for _ in 0..count {
+        if states.push(ComposeState::new()).is_err() {
+            return Err(Failure::NoMemory);
+        }
+    }
+    Ok(states)
+}
+
+/// Feeds each key to the state of its session, and looks at the status and at the text each time.
+fn feed_all<T: ComposeTable>(
+    table: &T,
+    names: &Names,
+    presses: &[Press],
+    states: &mut [ComposeState],
+) -> Counts {
+    let mut counts = Counts::new();
+    let mut text: ArrayString<255> = ArrayString::new();
+    for press in presses {
+        if let Some(state) = states.get_mut(press.session as usize) {
+            let fed = state.feed(table, names, press.keysym);
+            fed.text_into(&mut text);
+            counts.count(fed.status, text.len());
+        }
+    }
+    counts
+}
+
+/// Types the keys through the service, in sessions that are opened for it.
+fn answer_round<T: ComposeTable>(
+    rt: &HostRuntime,
+    service: &mut Service<T>,
+    presses: &[Press],
+    count: u32,
+    stopwatch: &mut Stopwatch,
+) -> Result<Counts, Failure> {
+    open_sessions(rt, service, count)?;
+    let start = now(rt)?;
+    let counts = answer_all(rt, service, presses)?;
+    stopwatch.stop(rt, start)?;
+    close_sessions(rt, service, 0, count)?;
+    Ok(counts)
+}
+
+/// Has the service answer each key, and looks at the status and at the text each time.
+fn answer_all<T: ComposeTable>(
+    rt: &HostRuntime,
+    service: &mut Service<T>,
+    presses: &[Press],
+) -> Result<Counts, Failure> {
+    let mut counts = Counts::new();
+    for press in presses {
+        let body = Body::Key(press.keysym.value());
+        let reply = ask(rt, service, press.session, body);
+        let Answer::Fed(status, _, text) = &reply.answer else {
+            return Err(Failure::Input);
+        };
+        counts.count(*status, text.len());
+    }
+    Ok(counts)
+}
+
+/// Opens as many sessions, and closes them from the first one to the last: the first apart, before which all others stand.
+pub fn open_and_close<T: ComposeTable>(
+    rt: &HostRuntime,
+    header: &str,
+    path: &str,
+    certificate: &str,
+    count: &str,
+) -> Result<(), Failure> {
+    let count = read_count(count)?;
+    let mut service: Service<T> = start(rt, header, path, certificate)?;
+    let mut times = Times {
+        opening: Stopwatch::new(),
+        first: Stopwatch::new(),
+        others: Stopwatch::new(),
+    };
+    for _ in 0..TYPINGS {
+        open_and_close_round(rt, &mut service, count, &mut times)?;
+    }
+    print(
+        rt,
+        &[
+            ("open all", times.opening.least()),
+            ("close the first", times.first.least()),
+            ("close the others", times.others.least()),
+        ],
+    )
+}
+
+/// Opens the sessions and closes them.
+fn open_and_close_round<T: ComposeTable>(
+    rt: &HostRuntime,
+    service: &mut Service<T>,
+    count: u32,
+    times: &mut Times,
+) -> Result<(), Failure> {
+    let start = now(rt)?;
+    open_sessions(rt, service, count)?;
+    times.opening.stop(rt, start)?;
+    let start = now(rt)?;
+    close_sessions(rt, service, 0, 1)?;
+    times.first.stop(rt, start)?;
+    let start = now(rt)?;
+    close_sessions(rt, service, 1, count)?;
+    times.others.stop(rt, start)
+}
