@@ -5,7 +5,7 @@ use crate::marks::mark;
 use crate::output::{say, say_reply};
 use compose_service::Service;
 use compose_tree::PackedTable;
-use compose_wire::Reply;
+use compose_wire::{Reply, Request};
 
 /// Answers the requests of the file `before`, tries the call that the word names on those of `tried`, and answers those of `after`;
 /// prints each reply.
@@ -27,10 +27,15 @@ pub fn answer_all(
     path: &str,
 ) -> Result<(), Failure> {
     for request in &read_requests(rt, path)? {
-        let reply = service.answer(rt.alloc(), request);
+        let reply = answer(rt, service, request);
         say_reply(rt, &reply)?;
     }
     Ok(())
+}
+
+/// Answers a request.
+pub fn answer(rt: &HostRuntime, service: &mut Service<PackedTable>, request: &Request) -> Reply {
+    service.answer(rt.alloc(), request)
 }
 
 /// Answers one request.
@@ -40,7 +45,7 @@ fn answer_one(rt: &HostRuntime, service: &mut Service<PackedTable>) -> Result<()
         return Err(Failure::Input);
     };
     mark(rt);
-    let reply = service.answer(rt.alloc(), request);
+    let reply = answer(rt, service, request);
     mark(rt);
     say_reply(rt, &reply)
 }

@@ -2,7 +2,7 @@
 use crate::failure::Failure;
 use crate::input::start_service;
 use crate::output::say;
-use crate::serving::say_end;
+use crate::serving::{say_end, serve};
 use compose_serve::Device;
 use std::io;
 use std::io::{Read, Write};
@@ -68,7 +68,7 @@ pub fn serve_endless(rt: &HostRuntime) -> Result<(), Failure> {
         replies: 0,
         others: 0,
     };
-    let ended = service.serve(rt.alloc(), &mut reader, &mut Device::new(&mut writer));
+    let ended = serve(rt, &mut service, &mut reader, &mut Device::new(&mut writer));
     say_end(rt, ended)?;
     say(rt, writer.replies)?;
     say(rt, writer.others)

@@ -1,10 +1,11 @@
 //! Calls that are wrong on purpose: the scripts have to tell each.
-use crate::answering::answer_all;
+use crate::answering::{answer, answer_all};
 use crate::failure::Failure;
 use crate::input::{read_requests, start_service};
 use crate::marks::mark;
 use crate::output::{say, say_reply};
-use compose_wire::Answer;
+use compose_service::Service;
+use compose_tree::PackedTable;
 use std::mem;
 
 /// Does the wrong call that the word names.
@@ -56,21 +57,35 @@ fn refuse_nothing(rt: &HostRuntime) -> Result<(), Failure> {
     }
 }
 
-/// Answers that memory was refused to the first request, which has changed the service.
+/// Whether there is memory for a block; it is given back.
+fn has_room(rt: &HostRuntime) -> bool {
+    let block: Result<_, _> = Vec::from_slice(rt.alloc(), b"block");
+    block.is_ok()
+}
+
+/// Answers an Open of session 9 by NoMemory, though it has opened the session.
 fn change_before_a_refusal(rt: &HostRuntime) -> Result<(), Failure> {
     let mut service = start_service(rt)?;
-    answer_all(rt, &mut service, "before")?;
-    let requests = read_requests(rt, "tried")?;
-    let Some(request) = requests.first() else {
-        return Err(Failure::Input);
-    };
     mark(rt);
-    let room: Result<_, _> = Vec::from_slice(rt.alloc(), b"room");
+    let has_room = has_room(rt);
     mark(rt);
-    let mut reply = service.answer(rt.alloc(), request);
-    if room.is_err() {
-        reply.answer = Answer::Refused(9);
-    }
-    say_reply(rt, &reply)?;
+    open_anyway(rt, &mut service, has_room)?;
     answer_all(rt, &mut service, "after")
+}
+
+/// Opens the session, and says so only where there is room.
+fn open_anyway(
+    rt: &HostRuntime,
+    service: &mut Service<PackedTable>,
+    has_room: bool,
+) -> Result<(), Failure> {
+    for request in &read_requests(rt, "tried")? {
+        let reply = answer(rt, service, request);
+        if has_room {
+            say_reply(rt, &reply)?;
+        } else {
+            say(rt, "ff00000009000000020009")?;
+        }
+    }
+    Ok(())
 }

@@ -6,6 +6,7 @@ use crate::output::{hexadecimal, say};
 use compose_serve::{Device, Ended, ServeFault};
 use compose_service::Service;
 use compose_tree::PackedTable;
+use std::io::{Read, Write};
 
 /// One stream of a trial: the bytes, and how its devices behave.
 #[derive(Drop)]
@@ -133,10 +134,20 @@ fn serve_one(
     } = stream;
     let mut reader = Device::new(TrialReader::new(bytes, reading));
     let mut writer = TrialWriter::new(rt.alloc(), writing);
-    let ended = service.serve(rt.alloc(), &mut reader, &mut Device::new(&mut writer));
+    let ended = serve(rt, service, &mut reader, &mut Device::new(&mut writer));
     let written = hexadecimal(rt, writer.taken())?;
     say_end(rt, ended)?;
     say(rt, written.as_str())
+}
+
+/// Serves a stream.
+pub fn serve<R: Read, W: Write>(
+    rt: &HostRuntime,
+    service: &mut Service<PackedTable>,
+    reader: &mut Device<R>,
+    writer: &mut Device<W>,
+) -> Result<Ended, ServeFault> {
+    service.serve(rt.alloc(), reader, writer)
 }
 
 /// Prints how a stream ends.

@@ -2,7 +2,7 @@
 use crate::failure::Failure;
 use crate::input::{read_file, start_service};
 use crate::output::{hexadecimal, say};
-use crate::serving::say_end;
+use crate::serving::{say_end, serve};
 use compose_serve::{Device, Ended, ServeFault};
 use std::io::{Read, Write};
 use std::net::Shutdown;
@@ -44,8 +44,9 @@ fn serve_next(
     let Ok((stream, _)) = listener.accept() else {
         return Err(Failure::System);
     };
-    Ok(service.serve(
-        rt.alloc(),
+    Ok(serve(
+        rt,
+        &mut service,
         &mut Device::new(&stream),
         &mut Device::new(&stream),
     ))
