@@ -1,0 +1,104 @@
+-- What is told of replies, one after another (this project's profile).
+use Rattle.std.specs.Prelude.{ℕ, Bool, Option, Some, None, ◌==◌, if◌then◌else◌, List, [], ◌∷◌, ◌++◌, flat_map, codes, string_bytes}
+use Rattle.std.specs.Fmt.{decimal}
+use Rattle.keysym_core.specs.Names.{KeysymNames}
+use Rattle.keysym_core.specs.Printed.{printed}
+use Rattle.compose_lex.specs.Escape.{quote}
+use Rattle.compose_model.specs.declared.Status.{Status}
+use Rattle.compose_state.specs.Answers.{status_word}
+use Rattle.compose_wire.specs.declared.request.Body.{Body}
+use Rattle.compose_wire.specs.declared.request.Body.TheVariants as bodies
+use Rattle.compose_wire.specs.declared.request.Request.{Request}
+use Rattle.compose_wire.specs.declared.reply.Answer.{Answer}
+use Rattle.compose_wire.specs.declared.reply.Answer.TheVariants as answers
+use Rattle.compose_wire.specs.declared.reply.Reply.{Reply}
+use Rattle.compose_session.specs.Refusals.{refusal_words}
+use Rattle.compose_session.specs.declared.told.End.{End}
+use Rattle.compose_session.specs.declared.told.End.TheVariants.{Answered, Refused, Closed, Unexpected}
+use Rattle.compose_session.specs.declared.told.Report.{Report}
+use Rattle.compose_session.specs.declared.told.Told.{Told as SaidTold}
+use Rattle.compose_session.specs.declared.told.Told.TheVariants as said
+
+-- ---- lines
+
+-- as `type` prints a key: the word for what happened, and the text in quotes
+abbrev pub key_line : Status → Bool → List ℕ → List ℕ
+key_line status accepted text = (if accepted then status_word status else codes "ignored") ++ 32 ∷ (quote text ++ 10 ∷ [])
+
+-- each name after a blank
+abbrev pub pending_names : KeysymNames → List ℕ → List ℕ
+pending_names names keysyms = flat_map (λ k. 32 ∷ printed names k) keysyms
+
+abbrev pub state_line : KeysymNames → Status → List ℕ → List ℕ
+state_line names status pending = codes "state " ++ (status_word status ++ (pending_names names pending ++ 10 ∷ []))
+
+abbrev pub loaded_line : ℕ → List ℕ
+loaded_line count = codes "loaded " ++ (decimal count ++ 10 ∷ [])
+
+abbrev pub refused_line : ℕ → List ℕ
+refused_line code = codes "refused: " ++ (refusal_words code ++ 10 ∷ [])
+
+-- ---- one reply
+
+-- what is told of a reply: a text, and the exchange goes on; a refusal, and it ends; or that it is no reply to the request
+pub data Told : Type 0 where
+  line : List ℕ → Told
+  refusal : List ℕ → Told
+  unexpected : Told
+
+abbrev pub told_body : KeysymNames → Body → Answer → Told
+told_body names body (answers.Refused code) = refusal (refused_line code)
+told_body names bodies.Open answers.Opened = line []
+told_body names bodies.Reset answers.WasReset = line []
+told_body names bodies.Close answers.Closed = line []
+told_body names (bodies.Key k) (answers.Fed status accepted text) = line (key_line status accepted text.bytes)
+told_body names bodies.Ask (answers.State status pending) = line (state_line names status pending.items)
+told_body names (bodies.Load payload) (answers.Loaded count) = line (loaded_line count)
+told_body names (bodies.LoadLongest payload) (answers.Loaded count) = line (loaded_line count)
+told_body names body answer = unexpected
+
+-- the reply is to be of the request's session
+abbrev pub told : KeysymNames → Request → Reply → Told
+told names q r = if q.session == r.session then told_body names q.body r.answer else unexpected
+
+-- ---- all of them
+
+-- what is printed, and how the exchange ended
+pub record Reported : Type 0 where
+  pub text : List ℕ
+  pub end : End
+
+-- the text so far, or the whole
+pub data Course : Type 0 where
+  goes_on : List ℕ → Course
+  ended : Reported → Course
+
+abbrev pub after : List ℕ → Told → Course
+after text (line more) = goes_on (text ++ more)
+after text (refusal more) = ended (record { text = text ++ more; end = Refused })
+after text unexpected = ended (record { text = text; end = Unexpected })
+
+-- the text so far, and the end of the exchange where it has come to it
+abbrev pub course_of : List ℕ → Option End → Course
+course_of text None = goes_on text
+course_of text (Some end) = ended (record { text = text; end = end })
+
+-- each request with its reply, until one is refused
+abbrev pub reported_on : KeysymNames → List Request → List Reply → Course → Reported
+reported_on names requests replies (ended report) = report
+reported_on names [] replies (goes_on text) = record { text = text; end = Answered }
+reported_on names (q ∷ requests) [] (goes_on text) = record { text = text; end = Closed }
+reported_on names (q ∷ requests) (r ∷ replies) (goes_on text) = reported_on names requests replies (after text (told names q r))
+
+abbrev pub reported : KeysymNames → List Request → List Reply → Reported
+reported names requests replies = reported_on names requests replies (goes_on [])
+
+-- ---- the program's values
+
+abbrev pub told_of : SaidTold → Told
+told_of (said.Line text) = line (string_bytes text)
+told_of (said.Refusal text) = refusal (string_bytes text)
+told_of said.Unexpected = unexpected
+
+abbrev pub report_of : Report → Reported
+report_of report = record { text = string_bytes report.text; end = report.end }

@@ -1,0 +1,21 @@
+//! What a client of the typing service asks, and what is told of the replies: the commands `load` and `session` over values.
+//!
+//! A command makes its requests, sends each and waits for its reply, until one is refused. [`report_replies`] says what is then printed
+//! and how the exchange ended.
+//!
+//! ```text
+//! session 7, open, keys Multi_key apostrophe, ask
+//!
+//! composing ""
+//! composing ""
+//! state composing Multi_key apostrophe
+//! ```
+#![tactic(auto)]
+
+mod asked;
+mod refusals;
+mod told;
+
+pub use asked::{Asked, load_request, session_requests};
+pub use refusals::refusal_words;
+pub use told::{End, Report, report_replies};
