@@ -1,4 +1,5 @@
 //! The commands as clap reads them.
+use crate::client_commands::add_client_commands;
 use crate::serve_command::serve_command;
 use clap::{Arg, ArgAction, Command};
 use std::alloc::{AllocError, Global};
@@ -122,5 +123,6 @@ pub fn command_line<'a>(alloc: Global) -> Result<Command<'a>, AllocError> {
         )
         .subcommand_required(true)
         .subcommand(type_command(alloc)?)?;
-    add_move_commands(alloc, command)?.subcommand(serve_command(alloc)?)
+    let command = add_move_commands(alloc, command)?.subcommand(serve_command(alloc)?)?;
+    add_client_commands(alloc, command)
 }

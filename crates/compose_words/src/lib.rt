@@ -3,10 +3,13 @@
 //! A command is a variant of [`Request`], a `Command` of clap in `commands`, and a line of `request_of`.
 #![tactic(auto)]
 
+mod client_commands;
+mod client_words;
 mod commands;
 mod request;
 mod serve_command;
 mod serve_words;
 
+pub use client_words::{LoadWords, SessionWords};
 pub use request::{Request, TablePaths, read_request};
 pub use serve_words::ServeWords;

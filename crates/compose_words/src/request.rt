@@ -2,6 +2,7 @@
 ghost use Rattle.std.specs.Prelude.{◌≡◌, ◌==◌, map, IfOk};
 ghost use Rattle.std.specs.List.{slice_split};
 
+use crate::client_words::{LoadWords, SessionWords, load_words, session_words};
 use crate::commands::command_line;
 use crate::serve_words::{ServeWords, serve_words};
 use clap::error::ErrorKind;
@@ -43,6 +44,10 @@ pub enum Request<'a> {
     },
     /// Serve typing sessions on a socket.
     Serve(ServeWords<'a>),
+    /// Load a table into a running service.
+    Load(LoadWords<'a>),
+    /// Type in a session of a running service.
+    Session(SessionWords<'a>),
 }
 
 /// The paths of what an old and a new table are read from.
@@ -82,6 +87,8 @@ fn request_of<'a>(
         Some(("explain", given)) => explain_request(alloc, given),
         Some(("make", given)) => make_request(alloc, given),
         Some(("serve", given)) => Ok(serve_words(given).map(Request::Serve)),
+        Some(("load", given)) => Ok(load_words(given).map(Request::Load)),
+        Some(("session", given)) => Ok(session_words(alloc, given)?.map(Request::Session)),
         _ => Ok(None),
     }
 }

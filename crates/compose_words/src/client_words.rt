@@ -1,0 +1,69 @@
+//! What `load` and `session` ask for.
+use clap::ArgMatches;
+use std::alloc::{AllocError, Global};
+
+/// The words of `load`.
+#[derive(Clone, Copy)]
+pub struct LoadWords<'a> {
+    /// The path of the service's socket.
+    pub socket: &'a str,
+    /// The path of the new table's manifest.
+    pub new: &'a str,
+    /// The path of the certificate.
+    pub certificate: &'a str,
+}
+
+/// The words of `session`.
+#[derive(Drop)]
+pub struct SessionWords<'a> {
+    /// The path of a header of names.
+    pub names: Option<&'a str>,
+    /// The path of the service's socket.
+    pub socket: &'a str,
+    /// The number of the session.
+    pub session: u32,
+    /// Whether the session is opened first.
+    pub open: bool,
+    /// Whether it is put to rest before the keys.
+    pub reset: bool,
+    /// The names of the keysyms.
+    pub keys: Vec<&'a str>,
+    /// Whether it is asked where the session stands, after the keys.
+    pub ask: bool,
+    /// Whether the session is closed at the end.
+    pub close: bool,
+}
+
+/// The words of `load`, if they are all there.
+pub fn load_words<'a>(given: &ArgMatches<'a>) -> Option<LoadWords<'a>> {
+    Some(LoadWords {
+        socket: given.get_str("SOCKET")?,
+        new: given.get_str("NEW")?,
+        certificate: given.get_str("CERTIFICATE")?,
+    })
+}
+
+/// The words of `session`, if they are all there.
+pub fn session_words<'a>(
+    alloc: Global,
+    given: &ArgMatches<'a>,
+) -> Result<Option<SessionWords<'a>>, AllocError> {
+    let (Some(socket), Some(session)) = (given.get_str("SOCKET"), given.get_one::<u32>("NUMBER"))
+    else {
+        return Ok(None);
+    };
+    let keys = match given.get_strs("KEY") {
+        Some(keys) => Vec::from_slice(alloc, keys)?,
+        None => Vec::new(alloc),
+    };
+    Ok(Some(SessionWords {
+        names: given.get_str("names"),
+        socket,
+        session,
+        open: given.get_flag("open"),
+        reset: given.get_flag("reset"),
+        keys,
+        ask: given.get_flag("ask"),
+        close: given.get_flag("close"),
+    }))
+}
