@@ -300,9 +300,54 @@ def check_handed_over(program, results):
         handed_over.stdout.close()
 
 
+# ---- the commands that are clients
+
+def ran(program, service, *words):
+    """What a command prints in the folder of a service, and its status."""
+    it = subprocess.run([program, *words], cwd=service.folder, stdin=subprocess.DEVNULL, capture_output=True, text=True, timeout=60)
+    return it.stdout, it.stderr, it.returncode
+
+
+def put_table(service, name, table, certificate):
+    """Puts a table, its manifest and a certificate into the folder of a service."""
+    for path, content in {f"{name}.compose": table, f"{name}.manifest": f"root\t{name}.compose\n".encode(), f"{name}.certificate": certificate}.items():
+        with open(os.path.join(service.folder, path), "wb") as file:
+            file.write(content)
+
+
+def check_client_commands(program, results):
+    """Each command is a connection of its own; the session stays in the service between them, and a load comes in the middle of a sequence."""
+    with Serving(program, connections=6) as service:
+        put_table(service, "dropped", NEW, DROPPED)
+        put_table(service, "empty", b"", NOTHING_FOLLOWS)
+        rows = {
+            "a session in the middle of a sequence": (
+                ("session", "--open", "--ask", "socket", "7", "dead_grave", "dead_acute"), ('composing ""\ncomposing ""\nstate composing dead_grave dead_acute\n', "", 0)),
+            "a load that is accepted": (("load", "socket", "dropped.manifest", "dropped.certificate"), ("loaded 1\n", "", 0)),
+            "a load that is refused": (
+                ("load", "socket", "empty.manifest", "empty.certificate"), ("refused: the certificate does not show that the new table follows the one in use\n", "", 1)),
+            "a session in which a load came": (("session", "--ask", "socket", "7"), ("state composing dead_acute\n", "", 0)),
+            "the rest of the sequence": (("session", "--close", "socket", "7", "e"), ('composed "x"\n', "", 0)),
+            "a session that is not open": (("session", "socket", "7", "dead_acute", "e"), ("refused: no session with this number is open\n", "", 1)),
+        }
+        for what, (words, wanted) in rows.items():
+            results.expect(what, ran(program, service, *words), wanted)
+        results.expect("the connections of the commands", service.ended()[0], "listening\n" + "".join(f"connection {it}: ended\n" for it in range(1, 7)))
+        os.unlink(service.path)
+        results.expect("a load without a socket", ran(program, service, "load", "socket", "empty.manifest", "empty.certificate"), ("", "refused: socket: socket\n", 2))
+        with socket.socket(socket.AF_UNIX, socket.SOCK_STREAM) as listener:
+            listener.bind(service.path)
+            listener.listen()
+            closing = threading.Thread(target=lambda: listener.accept()[0].close())
+            closing.start()
+            got = ran(program, service, "session", "--open", "socket", "7")
+            closing.join()
+        results.expect("a service that closes the connection", got, ("", "refused: connection: closed before the reply\n", 2))
+
+
 def main():
     program, results = os.path.abspath(sys.argv[1]), Results()
-    for check in (check_worked, check_cuts, check_overlaps, check_start, check_clients, check_socket_file, check_signal, check_handed_over):
+    for check in (check_worked, check_cuts, check_overlaps, check_start, check_clients, check_socket_file, check_signal, check_handed_over, check_client_commands):
         check(program, results)
     print(f"{results.passed} passed, {results.failed} failed")
     return 1 if results.failed else 0

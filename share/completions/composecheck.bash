@@ -3,7 +3,7 @@ _composecheck() {
     local word=${COMP_WORDS[COMP_CWORD]} before=${COMP_WORDS[COMP_CWORD-1]} options=
     COMPREPLY=()
     if [ "$COMP_CWORD" -eq 1 ]; then
-        COMPREPLY=($(compgen -W "type check explain make serve --help --version" -- "$word"))
+        COMPREPLY=($(compgen -W "type check explain make serve load session --help --version" -- "$word"))
         return
     fi
     case $before in
@@ -16,6 +16,8 @@ _composecheck() {
         explain) options="--names --fresh --all --help" ;;
         make) options="--names --fresh --help" ;;
         serve) options="--names --mode --replace --unlink --help" ;;
+        load) options="--help" ;;
+        session) options="--names --open --reset --ask --close --help" ;;
     esac
     case $word in
         -*) COMPREPLY=($(compgen -W "$options" -- "$word")) ;;

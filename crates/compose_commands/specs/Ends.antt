@@ -2,6 +2,8 @@
 use Rattle.std.specs.Prelude.{◌≡◌, ◌⊎◌, Result, Ok, Err}
 use Rattle.clap.specs.declared.error.kind.ErrorKind.{ErrorKind}
 use Rattle.clap.specs.declared.error.kind.ErrorKind.TheVariants as kinds
+use Rattle.compose_session.specs.declared.told.End.{End}
+use Rattle.compose_session.specs.declared.told.End.TheVariants as exchanges
 use Rattle.compose_tool.specs.declared.answer.Ended.{Ended}
 use Rattle.compose_tool.specs.declared.answer.Ended.TheVariants.{Yes, No, Refused, NoMemory}
 
@@ -27,3 +29,10 @@ words_end kind = Refused
 -- as it does where it is written, or where it can't be: the stream decides
 abbrev pub EndsPrinted : Ended → Ended → Type 0
 EndsPrinted ended end = (end ≡ ended) ⊎ (end ≡ unwritten_end ended)
+
+-- after an exchange with a service: no where a request was refused, and refused where the service did not answer
+abbrev pub exchange_end : End → Ended
+exchange_end exchanges.Answered = Yes
+exchange_end exchanges.Refused = No
+exchange_end exchanges.Closed = Refused
+exchange_end exchanges.Unexpected = Refused

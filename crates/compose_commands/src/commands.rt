@@ -1,5 +1,6 @@
 //! The commands. Each reads its files in their order, and prints what is answered on their bytes. An error is the end of a run whose
 //! refusal was told.
+use crate::client::{load_files, session_files};
 use crate::files::{MoveFiles, TableFiles, read_file, read_header};
 use crate::report::report;
 use crate::serving::serve_files;
@@ -32,6 +33,8 @@ pub fn answer<T: ComposeTable>(
             repertoire,
         } => make_files::<T>(rt, tables, fresh, *repertoire),
         Request::Serve(words) => serve_files::<T>(rt, process_id, words),
+        Request::Load(words) => load_files(rt, words),
+        Request::Session(words) => session_files(rt, words),
     }
 }
 

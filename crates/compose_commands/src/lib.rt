@@ -8,6 +8,7 @@
 //! ```
 #![tactic(auto)]
 
+mod client;
 mod commands;
 mod files;
 mod program;

@@ -1,5 +1,5 @@
 -- One reply more of an exchange.
-use Rattle.std.proofs.Common.{◌≡◌, ◌≤◌, ◌<◌, ◌+◌, ◌++◌, ℕ, List, [], ◌∷◌, length, drop, get_or, refl, sym, ◌∙◌, ap, ap₂}
+use Rattle.std.proofs.Common.{◌≡◌, ◌≤◌, ◌<◌, ◌+◌, ℕ, List, [], ◌∷◌, length, drop, get_or, refl, sym, ◌∙◌, ap, ap₂}
 use Rattle.std.specs.Prelude.{Option, Some, None}
 use Rattle.std.proofs.lemmas.List.{drop_more, drop_all}
 use Rattle.keysym_core.specs.Names.{KeysymNames}
@@ -7,7 +7,7 @@ use Rattle.compose_wire.specs.declared.request.Request.{Request}
 use Rattle.compose_wire.specs.declared.reply.Reply.{Reply}
 use Rattle.compose_session.specs.declared.told.End.{End}
 use Rattle.compose_session.specs.declared.told.End.TheVariants.{Answered, Closed}
-use Rattle.compose_session.specs.Told.{Course, Reported, goes_on, ended, after, told, course_of, reported_on}
+use Rattle.compose_session.specs.Told.{Reported, goes_on, ended, after, told, course_of, reported_on}
 
 -- an exchange that has ended is not looked at further
 stopped : (names : KeysymNames) (requests : List Request) (replies : List Reply) (report : Reported) → reported_on names requests replies (ended report) ≡ report

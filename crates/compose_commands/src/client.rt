@@ -1,0 +1,175 @@
+//! `load` and `session`: a client of a running service. An error is the end of a run whose refusal was told.
+ghost use Rattle.std.specs.Prelude.{◌≡◌};
+ghost use Rattle.compose_commands.specs.Ends.{exchange_end};
+
+use crate::files::{TableFiles, read_file, read_header};
+use crate::report::{no_memory, refused, report, written};
+use compose_bundle::BundleFault;
+use compose_client::{ReplyFeeder, RequestFault, put_request};
+use compose_migration::Named;
+use compose_session::{Asked, End, Report, load_request, report_replies, session_requests};
+use compose_tool::{Ended, Refusal};
+use compose_wire::{Answer, Reply, Request};
+use compose_words::{LoadWords, SessionWords};
+use keysym_core::Names;
+use std::io::{Read, Write};
+use std::net::Net;
+use std::os::unix::net::UnixStream;
+use std::rt::Files;
+
+/// The most bytes that are read at once.
+const PIECE: usize = 4096;
+
+/// Loads a new table into a running service.
+pub fn load_files(
+    rt: &(impl Files + Net + Print + Eprint + AllocGlobal),
+    words: &LoadWords<'_>,
+) -> Result<Ended, Ended> {
+    let (sources, rule) = TableFiles::read(rt, "new", words.new)?.into_parts();
+    let certificate = read_file(rt, words.certificate)?;
+    let names = read_names(rt, &[], &[])?.names;
+    match load_request(rt.alloc(), &sources, rule, &certificate) {
+        Ok(request) => exchange(rt, words.socket, &names, &[request]),
+        Err(BundleFault::NoMemory) => Err(no_memory(rt)),
+        Err(fault) => Err(refused(eprintln!(rt; "refused: load: {fault}"))),
+    }
+}
+
+/// Types in a session of a running service.
+pub fn session_files(
+    rt: &(impl Files + Net + Print + Eprint + AllocGlobal),
+    words: &SessionWords<'_>,
+) -> Result<Ended, Ended> {
+    let header = read_header(rt, words.names)?;
+    let named = read_names(rt, &header, &words.keys)?;
+    let asked = Asked {
+        session: words.session,
+        open: words.open,
+        reset: words.reset,
+        keys: &named.keys,
+        ask: words.ask,
+        close: words.close,
+    };
+    match session_requests(rt.alloc(), &asked) {
+        Ok(requests) => exchange(rt, words.socket, &named.names, &requests),
+        Err(_) => Err(no_memory(rt)),
+    }
+}
+
+/// The names of a header, and the keysyms of the words.
+fn read_names(
+    rt: &(impl Print + Eprint + AllocGlobal),
+    header: &[u8],
+    words: &[&str],
+) -> Result<Named, Ended> {
+    match Named::read(rt.alloc(), header, words) {
+        Ok(named) => Ok(named),
+        Err(fault) => Err(report(rt, &Err(Refusal::from(fault)), words)),
+    }
+}
+
+/// Sends the requests one after another, and prints what is told of the replies.
+fn exchange(
+    rt: &(impl Net + Print + Eprint + AllocGlobal),
+    path: &str,
+    names: &Names,
+    requests: &[Request],
+) -> Result<Ended, Ended> {
+    let Ok(stream) = UnixStream::connect(rt, path) else {
+        return Err(refused(eprintln!(rt; "refused: socket: {path}")));
+    };
+    let replies = replies_of(rt, &stream, requests)?;
+    match report_replies(rt.alloc(), names, requests, &replies) {
+        Ok(told) => Ok(report_exchange(rt, &told)),
+        Err(_) => Err(no_memory(rt)),
+    }
+}
+
+/// The replies to the requests, until one is refused or the other side closes.
+fn replies_of(
+    rt: &(impl Eprint + AllocGlobal),
+    stream: &UnixStream,
+    requests: &[Request],
+) -> Result<Vec<Reply>, Ended> {
+    let mut feeder = ReplyFeeder::new(rt.alloc());
+    let mut replies = Vec::new(rt.alloc());
+    for request in requests {
+        send(rt, stream, request)?;
+        let Some(reply) = receive(rt, stream, &mut feeder)? else {
+            return Ok(replies);
+        };
+        let is_refused = matches!(&reply.answer, Answer::Refused(_));
+        if replies.push(reply).is_err() {
+            return Err(no_memory(rt));
+        }
+        if is_refused {
+            return Ok(replies);
+        }
+    }
+    Ok(replies)
+}
+
+/// Sends a request. Where that fails the other side has closed, and what it said before may still be read.
+fn send(
+    rt: &(impl Eprint + AllocGlobal),
+    mut stream: &UnixStream,
+    request: &Request,
+) -> Result<(), Ended> {
+    match put_request(rt.alloc(), request) {
+        Ok(frame) => {
+            let _ = stream.write_all(&frame);
+            Ok(())
+        }
+        Err(RequestFault::NoMemory) => Err(no_memory(rt)),
+        Err(fault) => Err(refused(eprintln!(rt; "refused: load: {fault}"))),
+    }
+}
+
+/// The next reply; none where the other side closes before it.
+fn receive(
+    rt: &(impl Eprint + AllocGlobal),
+    mut stream: &UnixStream,
+    feeder: &mut ReplyFeeder,
+) -> Result<Option<Reply>, Ended> {
+    'pieces: for _ in 0..u64::MAX {
+        match feeder.next_reply() {
+            Ok(None) => {}
+            Ok(Some(reply)) => return Ok(Some(reply)),
+            Err(fault) => return Err(refused(eprintln!(rt; "refused: connection: {fault}"))),
+        }
+        let mut piece = [0u8; PIECE];
+        let Ok(count) = stream.read(&mut piece) else {
+            return Ok(None);
+        };
+        if count == 0 {
+            return Ok(None);
+        }
+        if feeder.feed(&piece[..count]).is_err() {
+            return Err(no_memory(rt));
+        }
+    }
+    Ok(None)
+}
+
+/// Prints what is told of an exchange, and why it has no end where it has none.
+fn report_exchange(rt: &(impl Print + Eprint), told: &Report) -> Ended {
+    let ended = written(rt, print!(rt; "{}", told.text), end_of_exchange(told.end));
+    match told.end {
+        End::Answered | End::Refused => ended,
+        End::Closed => refused(eprintln!(rt; "refused: connection: closed before the reply")),
+        End::Unexpected => {
+            refused(eprintln!(rt; "refused: connection: not the reply that was asked for"))
+        }
+    }
+}
+
+/// How a run ends after an exchange.
+fn end_of_exchange(end: End) -> Ended
+    ensures { result ≡ exchange_end end }
+{
+    match end {
+        End::Answered => Ended::Yes,
+        End::Refused => Ended::No,
+        End::Closed | End::Unexpected => Ended::Refused,
+    }
+}
