@@ -15,6 +15,9 @@ fn load_command<'a>(alloc: Global) -> Result<Command<'a>, AllocError> {
         .about(
             "Load a new table into a running service, by a certificate that it follows the table in use",
         )
+        .after_help(
+            "Exit status: 0 loaded, 1 refused by the service, 2 input refused, 3 out of memory\nExample: composecheck load compose.socket new.manifest certificate",
+        )
         .arg(socket(alloc))?
         .arg(file(alloc, "NEW", "The manifest of the new table"))?
         .arg(file(alloc, "CERTIFICATE", "The certificate"))
@@ -24,6 +27,9 @@ fn load_command<'a>(alloc: Global) -> Result<Command<'a>, AllocError> {
 fn session_command<'a>(alloc: Global) -> Result<Command<'a>, AllocError> {
     let command = Command::new(alloc, "session")
         .about("Type keys in a session of a running service, and print what happens at each")
+        .after_help(
+            "Exit status: 0 answered, 1 refused by the service, 2 input refused, 3 out of memory\nExample: composecheck session --open compose.socket 7 Multi_key apostrophe",
+        )
         .arg(names_option(alloc))?
         .arg(flag(alloc, "open", "Open the session first"))?
         .arg(flag(alloc, "reset", "Put the session to rest before the keys"))?

@@ -117,7 +117,7 @@ fn add_move_commands<'a>(alloc: Global, command: Command<'a>) -> Result<Command<
 /// All commands.
 pub fn command_line<'a>(alloc: Global) -> Result<Command<'a>, AllocError> {
     let command = Command::new(alloc, "composecheck")
-        .version("0.1.0")
+        .version("0.2.0")
         .about(
             "Check migrations between X11 Compose tables, type with them, and serve typing sessions",
         )
