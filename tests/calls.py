@@ -3,7 +3,7 @@
 
 The program does a call between two marks. A library that is preloaded (tests/refuse.c) refuses the first growth between them, in the
 next run the second one, and so on until a run meets no refusal. With no refusal the answer is the call's own. With one it is the call's
-own, or the outermost NoMemory and what has to follow it: after a request that was refused for want of memory each Ask is answered as
+own, or the outermost NoMemory and what has to follow it: after a request that was refused, out of memory, each Ask is answered as
 before, the request that is made again is answered, and so are the requests behind it; `add`, `feed` and `next_request` are tried again
 and go on. Each answer that is listed has to come. In every run all memory is given back, and no other descriptor is open at the end.
 

@@ -12,7 +12,7 @@ A line is blank, a comment, an include or a production, and blanks (space, tab, 
 between its tokens. A comment runs from `#`, outside a string, to the end. An event is `<`, a name and `>`; a string
 stands between double quotes, and a backslash in it takes the next character along. A production is 1 to 32 events, a
 colon, and a string, a name, or both in this order; an include is the word and a string. The first place from the left
-where no needed token begins is the fault.
+where the expected token is missing is the fault.
 """
 
 import os

@@ -99,7 +99,7 @@ typing_was line t h = go (divide 32 line) h (join_divide 32 line)
     go (c ∷ []) h j = cc
     go (c ∷ k ∷ ks) h j = told c k ks (character_of c) (keysyms_of (k ∷ ks)) refl refl h j
 
--- a line that starts so, and what stands behind
+-- a line that starts so, and what follows
 starts_was : (word line : List ℕ) → starts_with nat_eq line word ≡ true → line ≡ word ++ drop (length word) line
 starts_was [] line h = refl
 starts_was (b ∷ word) [] h = cc

@@ -28,7 +28,7 @@ number_of word = written decimal is_number (digits_value 10 word) word
 abbrev pub keysym_of : List ℕ → Option ℕ
 keysym_of word = written keysym_text is_keysym (digits_value 16 word) word
 
--- the digits stand behind `U+`
+-- the digits follow `U+`
 abbrev pub character_of : List ℕ → Option ℕ
 character_of word = written character_text is_character (digits_value 16 (drop 2 word)) word
 
@@ -93,7 +93,7 @@ times one (suc count) n lines = do
   more ← times one count (1 + n) first.1
   Ok (first.0 ∷ more.0, more.1)
 
--- nothing stands behind the last newline
+-- nothing follows the last newline
 abbrev pub end_at : ℕ → List (List ℕ) → Result (Unit {0}) CertFault
 end_at n ([] ∷ []) = Ok tt
 end_at n _ = Err (NotText n)

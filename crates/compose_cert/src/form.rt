@@ -37,7 +37,7 @@ pub fn character_form(word: &[u8]) -> Option<char>
     char::from_u32(number)
 }
 
-/// The first word of the bytes, and what stands behind it; none where there are blanks alone. O(bytes up to its end).
+/// The first word of the bytes, and what follows it; none where there are blanks alone. O(bytes up to its end).
 pub fn first_word(bytes: &[u8]) -> Option<(&[u8], &[u8])>
     ensures { MatchOption result (repertoire.words_in bytes.now ≡ []) (λ x. repertoire.words_in bytes.now ≡ x.0.now ∷ repertoire.words_in x.1.now) }
 {
@@ -61,7 +61,7 @@ fn without_blanks(bytes: &[u8]) -> &[u8]
     &[]
 }
 
-/// The word that the bytes begin with, and what stands behind the blank that ends it.
+/// The word that the bytes begin with, and what follows the blank that ends it.
 fn split_at_blank(bytes: &[u8]) -> (&[u8], &[u8])
     requires some { 0 < length bytes.now }
     requires first { repertoire.is_blank (slice_index bytes.now 0) ≡ false }

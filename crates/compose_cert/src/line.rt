@@ -11,7 +11,7 @@ use crate::word::{character_of, keysym_of, number_of, split_at_byte};
 use keysym_core::Keysym;
 use std::alloc::Global;
 
-/// The line with this number, and what stands behind its newline. O(its bytes).
+/// The line with this number, and what follows its newline. O(its bytes).
 pub fn take_line(bytes: &[u8], line: usize) -> Result<(&[u8], &[u8]), CertFault>
     ensures ok { IfOk result (λ x. divide 10 bytes.now ≡ x.0.now ∷ divide 10 x.1.now) }
     ensures err { IfErr result (λ e. (e ≡ CertFault.NotText line) × (divide 10 bytes.now ≡ bytes.now ∷ [])) }

@@ -11,7 +11,7 @@ use crate::word::keysym_of;
 use keysym_core::Keysym;
 use std::alloc::Global;
 
-/// The version, and what stands behind the first line.
+/// The version, and what follows the first line.
 pub fn version_at(bytes: &[u8]) -> Result<(u8, &[u8]), CertFault>
     ensures { Says (λ x. (x.0, divide 10 x.1.now)) result (reading.line_at reading.version_of 1 (divide 10 bytes.now)) }
 {
@@ -20,7 +20,7 @@ pub fn version_at(bytes: &[u8]) -> Result<(u8, &[u8]), CertFault>
     Ok((version, rest))
 }
 
-/// The number behind this word and a blank, and what stands behind its line.
+/// The number behind this word and a blank, and what follows its line.
 pub fn number_at<'a>(
     bytes: &'a [u8],
     word: &[u8],
@@ -34,7 +34,7 @@ pub fn number_at<'a>(
     Ok((number, rest))
 }
 
-/// The count behind this word and a blank, at most 1,048,576, and what stands behind its line.
+/// The count behind this word and a blank, at most 1,048,576, and what follows its line.
 pub fn count_at<'a>(
     bytes: &'a [u8],
     word: &[u8],
@@ -52,7 +52,7 @@ pub fn count_at<'a>(
     Ok((count, rest))
 }
 
-/// A pair, and what stands behind its line.
+/// A pair, and what follows its line.
 fn pair_at(bytes: &[u8], line: usize) -> Result<((u32, u32), &[u8]), CertFault>
     ensures { Says (λ x. (x.0, divide 10 x.1.now)) result (reading.line_at reading.pair_of line (divide 10 bytes.now)) }
 {
@@ -61,7 +61,7 @@ fn pair_at(bytes: &[u8], line: usize) -> Result<((u32, u32), &[u8]), CertFault>
     Ok((pair, rest))
 }
 
-/// A typing with at most 1,048,576 keys, and what stands behind its line.
+/// A typing with at most 1,048,576 keys, and what follows its line.
 fn typing_at(alloc: Global, bytes: &[u8], line: usize) -> Result<(Typing, &[u8]), CertFault>
     ensures { Says (λ x. (x.0, divide 10 x.1.now)) result (reading.typing_at line (divide 10 bytes.now)) }
 {
@@ -73,7 +73,7 @@ fn typing_at(alloc: Global, bytes: &[u8], line: usize) -> Result<(Typing, &[u8])
     Ok((typing, rest))
 }
 
-/// So many pairs, and what stands behind their lines.
+/// So many pairs, and what follows their lines.
 pub fn pairs_at(
     alloc: Global,
     bytes: &[u8],
@@ -93,7 +93,7 @@ pub fn pairs_at(
     Ok((pairs, rest))
 }
 
-/// So many typings, and what stands behind their lines.
+/// So many typings, and what follows their lines.
 pub fn typings_at(
     alloc: Global,
     bytes: &[u8],
@@ -113,7 +113,7 @@ pub fn typings_at(
     Ok((typings, rest))
 }
 
-/// So many keysyms, and what stands behind their lines.
+/// So many keysyms, and what follows their lines.
 fn keys_at(
     alloc: Global,
     bytes: &[u8],
@@ -165,7 +165,7 @@ fn some_fresh_at(alloc: Global, bytes: &[u8], line: usize) -> Result<Vec<Keysym>
     Ok(keys)
 }
 
-/// Nothing stands behind the last newline.
+/// Nothing follows the last newline.
 fn end_at(bytes: &[u8], line: usize) -> Result<(), CertFault>
     ensures { Says (λ _. tt) result (reading.end_at line (divide 10 bytes.now)) }
 {

@@ -46,7 +46,7 @@ fn code_point(digits: &[u8]) -> Option<u32>
     value_of(digits, Notation::UpperHexadecimal, 0x10ffff)
 }
 
-/// What stands before the first such byte, and what stands behind it. O(bytes before).
+/// What stands before the first such byte, and what follows it. O(bytes before).
 pub fn split_at_byte(bytes: &[u8], at: u8) -> Option<(&[u8], &[u8])>
     ensures cases { MatchOption result (divide at bytes.now ≡ bytes.now ∷ []) (λ x. divide at bytes.now ≡ x.0.now ∷ divide at x.1.now) }
     ensures shorter { MatchOption result (Unit {0}) (λ x. length x.1.now < length bytes.now) }

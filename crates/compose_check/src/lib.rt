@@ -2,7 +2,7 @@
 //!
 //! A certificate has pairs of an old and a new node, a bound, a typing for each character that people need, and the keysyms for
 //! which nothing is promised. [`check`] looks at the demands on it in a fixed order, without memory, and answers yes, or no with
-//! the first demand that fails. Its contract is the promise to people whose fingers know the old table: where the answer is yes,
+//! the first demand that fails. Its contract is the promise to people who type with the old table: where the answer is yes,
 //! what they type goes on to give the same text, key by key.
 //!
 //! An example: the old table is `<a> : "a"`, and the new one is empty. The certificate with the bound 0, the pair `0 0` and no

@@ -39,7 +39,7 @@ few_keysyms (a ∷ b ∷ []) = omega arith
 few_keysyms (a ∷ b ∷ c ∷ []) = omega arith
 few_keysyms (a ∷ b ∷ c ∷ d ∷ rest) = omega (arith, few_keysyms rest)
 
--- what stands behind two bytes, cut off where it ends
+-- what follows two bytes, cut off where it ends
 pub behind_two : (bytes : List ℕ) → take (length bytes - 2) (drop 2 bytes) ≡ drop 2 bytes
 behind_two bytes = take_all (length bytes - 2) (drop 2 bytes) (omega (arith, length-drop 2 bytes))
 

@@ -1,4 +1,4 @@
--- What stands behind a backslash: a code, a letter, or no escape.
+-- What follows a backslash: a code, a letter, or no escape.
 use Rattle.std.proofs.Common.{◌≡◌, ℕ, suc, zero, ◌+◌, ◌<◌, ◌≤◌, List, [], ◌∷◌, length, take, drop, Bool, true, false, cond, not, ◌&&◌, ◌||◌, nat_lt, refl, sym, ◌∙◌, ap, arith, lt-ltb, length-take}
 use Rattle.std.specs.Prelude.{◌==◌, nat_le, Option, None, Result, Ok, Err}
 use Rattle.std.specs.List.{list_all}

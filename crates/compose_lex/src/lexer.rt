@@ -1,4 +1,4 @@
-//! A line, read token by token from the left; the first place where no needed token begins is its fault.
+//! A line, read token by token from the left; the first place where the expected token is missing is its fault.
 ghost use Rattle.std.specs.Prelude.{◌≡◌, ◌-◌, ℕ, List, [], length, map, option_copied, drop, false, true, IfOk, MatchOption};
 ghost use Rattle.std.specs.Char.{is_ascii_alphabetic};
 ghost use Rattle.compose_lex.specs.Line.{IsLine, include};
@@ -26,7 +26,7 @@ pub enum Said<'a> {
     },
 }
 
-/// What stands behind an event: the colon, or the `<` of a further event; with what stands behind it.
+/// What follows an event: the colon, or the `<` of a further event; with what follows it.
 #[derive(Clone, Copy, Debug, Drop)]
 pub(crate) enum Next<'a> {
     Colon(&'a str),
@@ -36,7 +36,7 @@ pub(crate) enum Next<'a> {
 /// The names of the events of a production.
 type Events<'a> = ArrayVec<&'a str, 32>;
 
-/// The result of a production: its raw text, the name of its keysym, and what stands behind them.
+/// The result of a production: its raw text, the name of its keysym, and what follows them.
 type Outcome<'a> = (Option<&'a str>, Option<&'a str>, &'a str);
 
 /// Where an event may begin and none does: `!`, `~` or a letter begins a modifier list.
@@ -52,7 +52,7 @@ fn event_fault(line_len: usize, rest: &str) -> LexFault
     }
 }
 
-/// A name and `>`, behind a `<`; and what stands behind them.
+/// A name and `>`, behind a `<`; and what follows them.
 #[inline(always)]
 fn event_at(line_len: usize, rest: &str) -> Result<(&str, &str), LexFault>
     ensures { Is (λ x. (x.0.now, x.1.now)) result (fault.event_at line_len rest.now) }
@@ -74,7 +74,7 @@ fn next_at(line_len: usize, rest: &str) -> Result<Next<'_>, LexFault>
     }
 }
 
-/// Puts the names of the further events, up to the colon, behind those in the list, and gives what stands behind the
+/// Puts the names of the further events, up to the colon, behind those in the list, and gives what follows the
 /// colon. O(bytes).
 fn events_at<'a>(
     line_len: usize,
@@ -97,7 +97,7 @@ fn events_at<'a>(
     }
 }
 
-/// Perhaps a name, and what stands behind it.
+/// Perhaps a name, and what follows it.
 fn name_if(rest: &str) -> (Option<&str>, &str)
     ensures name { option_copied result.0 ≡ (fault.name_if rest.now).0 }
     ensures rest { result.1.now ≡ (fault.name_if rest.now).1 }
@@ -158,7 +158,7 @@ fn include_at(line_len: usize, rest: &str) -> Result<&str, LexFault>
     Ok(raw)
 }
 
-/// What stands behind the word `include` at the front, which no letter, digit or underscore follows.
+/// What follows the word `include` at the front, which no letter, digit or underscore follows.
 fn behind_include(rest: &str) -> Option<&str>
     ensures { MatchOption result (fault.is_include rest.now ≡ false) (λ behind. (fault.is_include rest.now ≡ true) × (behind.now ≡ drop 7 rest.now)) }
 {

@@ -1,7 +1,7 @@
 //! One line of a Compose file, the escapes of its texts, and quoting.
 //!
 //! `lex_line` gives what a line says by the grammar, each token a slice of the line, or the fault of the first place
-//! from the left where no needed token begins; it takes no memory. So
+//! from the left where the expected token is missing; it takes no memory. So
 //! `<Multi_key> <apostrophe> <e> : "é" eacute # e acute` is a production of three events with the raw text `é` and the
 //! result name `eacute`, and `Ctrl<a> : "x"` is a modifier list at 0. `lex_line_into` gives the same with the names of
 //! the events in the caller's list, so that one list serves every line of a file. A raw text is the string as it

@@ -16,14 +16,14 @@ pub(crate) fn offset(line_len: usize, rest: &str) -> usize
     line_len.saturating_sub(rest.len())
 }
 
-/// What stands behind the blanks at the front. O(blanks).
+/// What follows the blanks at the front. O(blanks).
 pub(crate) fn skip_blanks(text: &str) -> &str
     ensures { result.now ≡ fault.skip_blanks text.now }
 {
     &text[blank_len(text.as_bytes())..]
 }
 
-/// The bytes of a name at the front, perhaps none, and what stands behind them. O(bytes of the name).
+/// The bytes of a name at the front, perhaps none, and what follows them. O(bytes of the name).
 pub(crate) fn split_name(text: &str) -> (&str, &str)
     ensures name { result.0.now ≡ front is_name_byte text.now }
     ensures rest { result.1.now ≡ behind is_name_byte text.now }
@@ -32,7 +32,7 @@ pub(crate) fn split_name(text: &str) -> (&str, &str)
     (&text[..len], &text[len..])
 }
 
-/// A name, and what stands behind it.
+/// A name, and what follows it.
 pub(crate) fn name_at(line_len: usize, rest: &str) -> Result<(&str, &str), LexFault>
     ensures { Is (λ x. (x.0.now, x.1.now)) result (fault.name_at line_len rest.now) }
 {
@@ -45,7 +45,7 @@ pub(crate) fn name_at(line_len: usize, rest: &str) -> Result<(&str, &str), LexFa
     Ok((name, behind))
 }
 
-/// What stands behind this byte, which is ASCII.
+/// What follows this byte, which is ASCII.
 pub(crate) fn byte_at(line_len: usize, wanted: u8, rest: &str) -> Result<&str, LexFault>
     requires { wanted < 128 }
     ensures { Is (λ x. x.now) result (fault.byte_at line_len wanted rest.now) }
@@ -58,7 +58,7 @@ pub(crate) fn byte_at(line_len: usize, wanted: u8, rest: &str) -> Result<&str, L
     }
 }
 
-/// Behind an opening quote: the raw text, and what stands behind the closing quote. O(bytes of the string).
+/// Behind an opening quote: the raw text, and what follows the closing quote. O(bytes of the string).
 pub(crate) fn string_at(line_len: usize, rest: &str) -> Result<(&str, &str), LexFault>
     ensures { Is (λ x. (x.0.now, x.1.now)) result (fault.string_at line_len rest.now) }
 {

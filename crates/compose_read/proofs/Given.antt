@@ -46,7 +46,7 @@ module _ (names : KeysymNames) (sources : List Source) where
   read_to_end [] lines definitions table h = (refl, sym (ap in_ok h))
   read_to_end (v ∷ vs) lines definitions table h = by_line v vs lines definitions table (λ n m t e. read_to_end vs n m t e) (nat_le max_lines lines) (line_gives names sources v) h
 
-  -- also where others come behind them
+  -- also where others come after them
   pub read_through : (vs : List Visit) (p q : Progress) → ((ws : List Visit) → reading_on names sources p (vs ++ ws) ≡ reading_on names sources q ws)
       → (are_faultless names sources vs ≡ true) × (q.draft.table ≡ p.draft.table ++ given names sources vs)
   read_through vs p q h = go (read_on names sources p.lines (length p.draft.table) vs) refl (ap (reading_on names sources p) (sym (append-nil vs)) ∙ h [] ∙ ap Ok (append-nil q.draft.table))

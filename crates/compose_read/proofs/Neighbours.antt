@@ -112,7 +112,7 @@ first_leaf e (f ∷ rows) a = go (slice_cmp nat_cmp e.sequence f.sequence) refl 
         let less : slice_cmp nat_cmp f.sequence e.sequence ≡ Less = nat_list_cmp_total.antisymm f.sequence e.sequence ∙ ap ordering_reverse b in
         let clash : true ≡ false = sym (ap is_lt less) ∙ a.0 in cc)
 
--- ---- one row in front of rows that come behind it
+-- ---- one row in front of rows that come after it
 
 module _ (d : Definition) (rows : List Definition) (above : Above d.sequence rows) where
   front_leaves : leaves (d ∷ rows) ≡ d.sequence ∷ leaves rows

@@ -31,7 +31,7 @@ not_same s t h = elim (cases_Bool (same t s)) [
   | inr e ↦ e
 ]
 
--- before s, and s does not come behind t: before t
+-- before s, and s does not come after t: before t
 pub before_later : (r s t : List ℕ) → Before r s → is_lt (slice_cmp nat_cmp t s) ≡ false → Before r t
 before_later r s t h l = go (slice_cmp nat_cmp s t) refl
   where

@@ -25,7 +25,7 @@ pub piece_stays : {X : Type 0} (a n : ℕ) (xs ys : List X) → a + n ≤ length
 piece_stays a n xs ys h =
     ap (take n) (drop-append-le a xs ys (omega arith)) ∙ take-append-le n (drop a xs) ys (let l = length-drop a xs in omega arith)
 
--- what stands behind a place is a piece
+-- what follows a place is a piece
 rest_taken : {X : Type 0} (first : ℕ) (xs : List X) (count from : ℕ) → from ≡ first → count ≡ length xs - first → take count (drop from xs) ≡ drop first xs
 rest_taken first xs count from e f =
     (let l = length-drop first xs in let n : count ≡ length (drop first xs) = omega arith in ap₂ (λ n a. take n (drop a xs)) n e) ∙ take-length (drop first xs)

@@ -1,4 +1,4 @@
--- What the calls give, beside want of memory.
+-- What the calls give, unless memory runs out.
 use Rattle.std.specs.Prelude.{◌≡◌, Result, Ok, Err}
 use Rattle.compose_read.specs.Settle.{Overlap}
 use Rattle.compose_read.specs.declared.ReadFault.{ReadFault}

@@ -56,11 +56,11 @@ front table (Err e) = Err e
 abbrev pub read_so_far : ℕ → Drafted → Progress
 read_so_far lines draft = record { lines = lines; draft = draft }
 
--- all definitions, where these lines come behind what is read so far
+-- all definitions, where these lines come after what is read so far
 abbrev pub reading_on : KeysymNames → List Source → Progress → List Visit → Result (List Definition) ReadFault
 reading_on names sources p vs = front p.draft.table (read_on names sources p.lines (length p.draft.table) vs)
 
--- these lines lead from the one to the other, whatever comes behind them, or to the fault
+-- these lines lead from the one to the other, whatever comes after them, or to the fault
 abbrev pub ReadsOn : {X : Type 0} → KeysymNames → List Source → List Visit → Progress → Progress → Result X ReadFault → Type 0
 ReadsOn names sources vs before after (Ok x) = (ws : List Visit) → reading_on names sources before (vs ++ ws) ≡ reading_on names sources after ws
 ReadsOn names sources vs before after (Err faults.NoMemory) = Unit {0}

@@ -49,7 +49,7 @@ pub enum ReadFault {
         source: usize,
         line: usize,
     },
-    /// A line that is in no case of the grammar, or whose string is no text.
+    /// A line with a syntax error, or whose string is no text.
     #[error("3 Lex source={source} line={line}: {fault}")]
     Lex {
         source: usize,

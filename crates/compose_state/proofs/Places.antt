@@ -117,7 +117,7 @@ at_next table keys count number k d next at less is e =
         some-number e = ap (λ o. option_map_or (λ (n : NodeId). n.0) o 0) e
     go false f e = cc
 
--- where no node stands behind the next keysym, the keysyms are no node
+-- where no node follows the next keysym, the keysyms are no node
 pub at_stop : (table : List Definition) (keys : List ℕ) (count number k d : ℕ) → IsAt table keys count number → count < length keys → k ≡ get_or keys count d
     → node_id table (node table number ++ k ∷ []) ≡ None → node_id table keys ≡ None
 at_stop table keys count number k d at less is e =

@@ -92,7 +92,7 @@ static MANY_NODES: [(u32, &str); 2] = [
     (33_826, "3 Build: 1 TooManyNodes"),
 ];
 
-/// What stands behind the first keysym of each of these: 31 keysyms and a text.
+/// What follows the first keysym of each of these: 31 keysyms and a text.
 static TAIL: &str =
     "<a><a><a><a><a><a><a><a><a><a><a><a><a><a><a><a><a><a><a><a><a><a><a><a><a><a><a><a><a><a><a>:\"x\"\n";
 

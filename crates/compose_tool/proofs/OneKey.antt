@@ -31,7 +31,7 @@ line_is names table s k answer told =
     ∙ word_is (is_ignored k) (effect table s.pending k) s.status (ignored_key table s.pending k) (λ e. effect_tells table s.pending k ignores e) in
     ap₂ (λ w t. w ++ (32 ∷ (quote t ++ (10 ∷ [])))) word told.text
 
--- one key more: its line stands behind the lines so far
+-- one key more: its line follows the lines so far
 pub lines_more : (names : KeysymNames) (table : List Definition) (s next : Session) (keys : List ℕ) (i k d : ℕ) (text line more total : List ℕ) → i < length keys → k ≡ get_or keys i d
     → next ≡ fed table s k → line ≡ typed_line (step names table s.pending k) → more ≡ text ++ line
     → text ++ flat_map typed_line (steps_from names table s.pending (drop i keys)) ≡ total → more ++ flat_map typed_line (steps_from names table next.pending (drop (i + 1) keys)) ≡ total

@@ -179,7 +179,7 @@ module _ (table : List Definition) (d : Definition) (p : List ℕ) (k : ℕ) (re
       (all_found (λ x. AllByRecursion (λ y. slice_cmp nat_cmp x y ≡ Less) new_nodes) (nodes table) (λ x h. all_before_longer x (p ++ k ∷ []) (proper_prefixes rest) (node_before x h))))
       node_more
 
-  -- what stands behind the new place is no node and no sequence of the table
+  -- what follows the new place is no node and no sequence of the table
   pub no_node : (y : List ℕ) → is_node table ((p ++ k ∷ []) ++ y) ≡ false
   no_node y = elim (cases_Bool (is_node table ((p ++ k ∷ []) ++ y))) [
     | inl e ↦ absurd (not_before_prefix (p ++ k ∷ []) y (node_before ((p ++ k ∷ []) ++ y) e))

@@ -45,7 +45,7 @@ first_table names (s ∷ sources) rule = table_of names (s ∷ sources) s.name r
 
 -- ---- what a call answers
 
--- a fault of a part as one of the whole; want of memory is the whole's own
+-- a fault of a part as one of the whole; out of memory is the whole's own
 abbrev pub read_raised : ReadFault → TableFault
 read_raised read_faults.NoMemory = NoMemory
 read_raised fault = Read fault

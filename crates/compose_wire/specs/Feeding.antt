@@ -33,7 +33,7 @@ GivesSo (Err BadLength) held held' = (fault_at held ≡ Some bad_length) × (hel
 GivesSo (Err TooLong) held held' = (fault_at held ≡ Some too_long) × (held' ≡ held)
 GivesSo (Err NoMemory) held held' = BeginsWithLoad held × (held' ≡ held)
 
--- what is given out where the bytes begin with a frame: its request, or nothing for want of memory
+-- what is given out where the bytes begin with a frame: its request, or nothing, out of memory
 abbrev pub GivesRequest : RequestValue → List ℕ → Result (Option Request) WireFault → List ℕ → Type 0
 GivesRequest q more (Ok (Some r)) held' = (request_of r ≡ q) × (held' ≡ more)
 GivesRequest q more (Err NoMemory) held' = IsLoaded q.body × (held' ≡ frame q ++ more)

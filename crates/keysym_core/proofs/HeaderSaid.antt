@@ -81,7 +81,7 @@ value_said name number entry e =
 
 -- ---- the line
 
--- what stands behind `#define XK_`, from its parts
+-- what follows `#define XK_`, from its parts
 joined : (bytes name own rest blanks number value : List ℕ) → bytes ≡ name ++ rest → name ≡ own → rest ≡ blanks ++ number → number ≡ value → bytes ≡ own ++ (blanks ++ value)
 joined bytes name own rest blanks number value p q r s = p ∙ ap (λ t. name ++ t) (r ∙ ap (λ t. blanks ++ t) s) ∙ ap (λ t. t ++ (blanks ++ value)) q
 

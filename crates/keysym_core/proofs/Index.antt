@@ -46,7 +46,7 @@ module _ (entries : List CharacterRow) (d : CharacterRow) (c low place : ℕ)
     (sorted : IsNonDecreasingBy rank entries)
     (keysyms : (x k : ℕ) → list_any (is_entry x k) entries ≡ true → k ≤ max_keysym)
     (split : IsPartitionPoint (λ (e : CharacterRow). ltb (rank e) (c * 0x1_0000_0000 + low) ≡ true) (λ (e : CharacterRow). ltb (rank e) (c * 0x1_0000_0000 + low) ≡ false) entries place) where
-  -- an entry from `low` on stands behind the place
+  -- an entry from `low` on follows the place
   pub behind_place : (k : ℕ) → low ≤ k → (e : EntryAt c k entries d) → place ≤ e.place
   behind_place k more e = ⊎_elim
       (λ before. absurd (let low_rank = ltb-true (rank (get_or entries e.place d)) (c * 0x1_0000_0000 + low) (split.0 e.place d (omega arith) before) in omega (arith, low_rank, e.character, e.value, more)))

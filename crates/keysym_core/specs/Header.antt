@@ -129,7 +129,7 @@ with_lines (Ok names) n (line ∷ lines) = with_lines (with_line names n line) (
 abbrev pub names_of : List ℕ → Result KeysymNames NameFault
 names_of header = with_lines (Ok core_names) 1 (lines_of header)
 
--- ---- what a call gives, want of memory aside
+-- ---- what a call gives, unless memory runs out
 
 abbrev pub NamesGives : Result KeysymNames NameFault → Result KeysymNames NameFault → Type 0
 NamesGives (Ok names) said = said ≡ Ok names

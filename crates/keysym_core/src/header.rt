@@ -25,7 +25,7 @@ impl<'a> Model for Entry<'a> {
     ghost view = { λ e. record { name = e.name.now; value = e.value; character = e.character } };
 }
 
-/// The definition that stands behind `#define XK_`, if it is one. O(n) in the bytes.
+/// The definition that follows `#define XK_`, if it is one. O(n) in the bytes.
 pub(crate) fn entry_of(bytes: &[u8]) -> Option<Entry<'_>>
     ensures { result ≡ words.entry_of bytes.now }
 {
