@@ -201,9 +201,9 @@ static CHAINS: [(usize, usize, &str); 3] = [
 ];
 
 /// The lines of `s0`, `s1` and `s2`, how often each stands there, and what is printed. The long ones would take hours if they were gone through at each include.
-static INCLUDED_OFTEN: [([(&str, usize); 3], &str); 7] = [
+static INCLUDED_OFTEN: [(&[(&str, usize)], &str); 7] = [
     (
-        [
+        &[
             ("include \"s1\"\n", 300),
             ("include \"s2\"\n", 300),
             ("########", 524_288),
@@ -211,7 +211,7 @@ static INCLUDED_OFTEN: [([(&str, usize); 3], &str); 7] = [
         "",
     ),
     (
-        [
+        &[
             ("include \"s1\"\n", 300),
             ("include \"s2\"\n", 300),
             ("<a> : \"x\" #", 349_525),
@@ -219,24 +219,24 @@ static INCLUDED_OFTEN: [([(&str, usize); 3], &str); 7] = [
         "0x61=x;",
     ),
     (
-        [("include \"s1\"\n", 100), ("<a> : \"x\"\n", 1_000), ("", 1)],
+        &[("include \"s1\"\n", 100), ("<a> : \"x\"\n", 1_000), ("", 1)],
         "0x61=x;",
     ),
     (
-        [
+        &[
             ("<a> : \"x\"\ninclude \"s1\"\n", 100),
             ("<b> : \"x\"\n", 1_000),
             ("", 1),
         ],
         "9 TooManyDefinitions source=1 line=901",
     ),
-    ([("include \"s1\"\n", 1_000), ("\n", 999), ("", 1)], ""),
+    (&[("include \"s1\"\n", 1_000), ("\n", 999), ("", 1)], ""),
     (
-        [("include \"s1\"\n", 1_000), ("\n", 1_000), ("", 1)],
+        &[("include \"s1\"\n", 1_000), ("\n", 1_000), ("", 1)],
         "8 TooManyLines source=1 line=1",
     ),
     (
-        [
+        &[
             ("include \"s1\"\n<b> : \"y\"\ninclude \"s2\"\n", 2),
             ("include \"s2\"\n<a> : \"1\"\n", 1),
             ("<b> : \"2\"\n<c> : \"3\"\n", 1),
@@ -356,13 +356,24 @@ fn long_lines(rt: HostRuntime) -> Result<(), Fail> {
     check_large(&rt, rt.alloc(), &LONG_LINES)
 }
 
+/// Adds the source of this number, which has this line so many times.
+fn add_lines(
+    sources: &mut Sources,
+    alloc: Global,
+    number: usize,
+    line: &str,
+    times: usize,
+) -> Result<(), Fail> {
+    let name = format!(in alloc; "s{number}")?;
+    sources.add(name.as_str(), repeated(alloc, line, times)?)?;
+    Ok(())
+}
+
 /// Adds the source of this number, which includes the next one so many times.
 fn add_link(sources: &mut Sources, alloc: Global, number: usize, times: usize) -> Result<(), Fail> {
     let next = number.wrapping_add(1);
-    let name = format!(in alloc; "s{number}")?;
     let line = format!(in alloc; "include \"s{next}\"\n")?;
-    sources.add(name.as_str(), repeated(alloc, line.as_str(), times)?)?;
-    Ok(())
+    add_lines(sources, alloc, number, line.as_str(), times)
 }
 
 fn check_chains(
@@ -394,8 +405,7 @@ fn sources_included_often(rt: HostRuntime) -> Result<(), Fail> {
     for (lines, expected) in &INCLUDED_OFTEN {
         let mut sources = Sources::new(alloc);
         for (number, (line, times)) in lines.iter().enumerate() {
-            let name = format!(in alloc; "s{number}")?;
-            sources.add(name.as_str(), repeated(alloc, line, *times)?)?;
+            add_lines(&mut sources, alloc, number, line, *times)?;
         }
         let text = printed(alloc, &sources, "s0", Rule::Refuse)?;
         assert_eq!(rt; text.as_str(), *expected);
