@@ -17,7 +17,7 @@ pub record Decodes (raw : List ℕ) (at : ℕ) (kept : List ℕ) (len : ℕ) : T
   pub read : bytes_from 0 0 raw ≡ with_bytes done (bytes_from at 0 (drop at raw))
 
 -- what still belongs to the piece before is passed over
-skipped_to : (at left : ℕ) (rest : List ℕ) → bytes_from at left rest ≡ bytes_from (at + left) 0 (drop left rest)
+pub skipped_to : (at left : ℕ) (rest : List ℕ) → bytes_from at left rest ≡ bytes_from (at + left) 0 (drop left rest)
 skipped_to at zero rest = let e : at ≡ at + 0 = omega arith in ap (λ x. bytes_from x 0 rest) e
 skipped_to at (suc left) [] = refl
 skipped_to at (suc left) (b ∷ rest) = let e : 1 + at + left ≡ at + suc left = omega arith in skipped_to (1 + at) left rest ∙ ap (λ x. bytes_from x 0 (drop left rest)) e
@@ -45,7 +45,7 @@ kept_again (suc n) [] byte = refl
 kept_again (suc n) (d ∷ done) byte = ap (λ t. d ∷ t) (kept_again n done byte)
 
 -- a piece takes no more than there is
-piece_fits : (b : ℕ) (rest : List ℕ) → first_len (b ∷ rest) ≤ length rest
+pub piece_fits : (b : ℕ) (rest : List ℕ) → first_len (b ∷ rest) ≤ length rest
 piece_fits b rest = go (b == 92)
   where
     go : (x : Bool) → cond x (escape_len rest) 0 ≤ length rest

@@ -13,3 +13,4 @@ pub mod LineRead
 pub mod LineSaid
 pub mod IncludeWord
 pub mod TextRead
+pub mod TextFaults

@@ -1,5 +1,6 @@
 pub mod Line
 pub mod Fault
 pub mod Escape
+pub mod TextFault
 pub mod Lexed
 pub mod Steps

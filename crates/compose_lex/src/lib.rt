@@ -18,6 +18,7 @@ ghost use Rattle.std.specs.List.{list_all};
 ghost use Rattle.compose_lex.specs.Line.{Reading, IsLine};
 ghost use Rattle.compose_lex.specs.Fault.{reading_of};
 ghost use Rattle.compose_lex.specs.Escape.{Unescapes, IsText, text_of, quote_inside};
+ghost use Rattle.compose_lex.specs.TextFault.{IsTextFault};
 ghost use Rattle.compose_lex.specs.declared.LexFault.{LexFault};
 ghost use Rattle.compose_lex.specs.declared.LexFault.TheVariants as faults;
 
@@ -116,6 +117,12 @@ pub fn law_one_text()
     ensures one { (raw a b : List ℕ) → Unescapes raw a → Unescapes raw b → a ≡ b }
     ensures read { (raw bytes : List ℕ) → Unescapes raw bytes → IsText bytes → text_of raw ≡ Ok bytes }
     ensures said { (raw bytes : List ℕ) → text_of raw ≡ Ok bytes → Unescapes raw bytes × IsText bytes }
+{}
+
+/// A raw text is at fault as the grammar of escapes says, and in no other way.
+pub fn law_text_fault()
+    ensures said { (raw : List ℕ) (fault : LexFault) → text_of raw ≡ Err fault → IsTextFault raw fault }
+    ensures read { (raw : List ℕ) (fault : LexFault) → IsTextFault raw fault → text_of raw ≡ Err fault }
 {}
 
 /// What stands between the quotes of a quoted text stands for the text.
