@@ -9,7 +9,7 @@ use Rattle.compose_lex.proofs.Runs.{parts_of, front_all}
 use Rattle.compose_lex.proofs.LineSaid.{starts_is}
 
 -- a run of bytes that pass ends where none passes
-behind_stops : (p : ℕ → Bool) (xs : List ℕ) → begins p (behind p xs) ≡ false
+pub behind_stops : (p : ℕ → Bool) (xs : List ℕ) → begins p (behind p xs) ≡ false
 behind_stops p [] = refl
 behind_stops p (x ∷ xs) = go (p x) refl (behind_stops p xs)
   where

@@ -14,3 +14,9 @@ pub mod LineSaid
 pub mod IncludeWord
 pub mod TextRead
 pub mod TextFaults
+pub mod Tokens
+pub mod Stages
+pub mod LineStops
+pub mod LineEvents
+pub mod LineResults
+pub mod LineFaults

@@ -14,20 +14,20 @@ use Rattle.compose_lex.proofs.Runs.{parts_of, front_passes}
 
 -- ---- what an Ok came from
 
-bind_with : {A B P : Type 0} (r : Result A LexFault) (f : A → Result B LexFault) (y : B) → (r >>= f) ≡ Ok y → ((x : A) → r ≡ Ok x → f x ≡ Ok y → P) → P
+pub bind_with : {A B P : Type 0} (r : Result A LexFault) (f : A → Result B LexFault) (y : B) → (r >>= f) ≡ Ok y → ((x : A) → r ≡ Ok x → f x ≡ Ok y → P) → P
 bind_with (Ok x) f y e k = k x refl e
 bind_with (Err e) f y h k = cc
 
-pair_is : {A B : Type 0} (a c : A) (b d : B) → ◌≡◌ {A = A × B} (a, b) (c, d) → (a ≡ c) × (b ≡ d)
+pub pair_is : {A B : Type 0} (a c : A) (b d : B) → ◌≡◌ {A = A × B} (a, b) (c, d) → (a ≡ c) × (b ≡ d)
 pair_is {A} {B} a c b d e = (ap (λ (x : A × B). x.0) e, ap (λ (x : A × B). x.1) e)
 
-ok_pair : {A B : Type 0} (a c : A) (b d : B) → ◌≡◌ {A = Result (A × B) LexFault} (Ok (a, b)) (Ok (c, d)) → (a ≡ c) × (b ≡ d)
+pub ok_pair : {A B : Type 0} (a c : A) (b d : B) → ◌≡◌ {A = Result (A × B) LexFault} (Ok (a, b)) (Ok (c, d)) → (a ≡ c) × (b ≡ d)
 ok_pair {A} {B} a c b d e = let q : ◌≡◌ {A = A × B} (a, b) (c, d) = cc in pair_is a c b d q
 
 some_pair : {A B : Type 0} (a c : A) (b d : B) → ◌≡◌ {A = Option (A × B)} (Some (a, b)) (Some (c, d)) → (a ≡ c) × (b ≡ d)
 some_pair {A} {B} a c b d e = let q : ◌≡◌ {A = A × B} (a, b) (c, d) = cc in pair_is a c b d q
 
-chosen : {A : Type 0} (b : Bool) (x y z : A) → cond b x y ≡ z → ((b ≡ true) × (x ≡ z)) ⊎ ((b ≡ false) × (y ≡ z))
+pub chosen : {A : Type 0} (b : Bool) (x y z : A) → cond b x y ≡ z → ((b ≡ true) × (x ≡ z)) ⊎ ((b ≡ false) × (y ≡ z))
 chosen true x y z e = inl (refl, e)
 chosen false x y z e = inr (refl, e)
 
@@ -44,14 +44,14 @@ put_token t ts bytes rest e u = (front is_blank bytes, rest, front_passes is_bla
 put_end : (bytes comment : List ℕ) → skip_blanks bytes ≡ comment → is_comment comment ≡ true → AreTokens [] bytes
 put_end bytes comment e h = (front is_blank bytes, comment, front_passes is_blank bytes, h, parts_of is_blank bytes ∙ ap (λ x. front is_blank bytes ++ x) e)
 
-comment_said : (n : ℕ) (bytes : List ℕ) (u : Unit {0}) → end_at n bytes ≡ Ok u → is_comment bytes ≡ true
+pub comment_said : (n : ℕ) (bytes : List ℕ) (u : Unit {0}) → end_at n bytes ≡ Ok u → is_comment bytes ≡ true
 comment_said n [] u e = refl
 comment_said n (b ∷ bytes) u e = elim (chosen (b == 35) (Ok tt) (Err (BadToken (n - length (b ∷ bytes)))) (Ok u) e) [ inl x ↦ x.0 | inr x ↦ (let w = x.1 in cc) ]
 
 end_said : (n : ℕ) (bytes : List ℕ) (u : Unit {0}) → end_at n (skip_blanks bytes) ≡ Ok u → AreTokens [] bytes
 end_said n bytes u e = put_end bytes (skip_blanks bytes) refl (comment_said n (skip_blanks bytes) u e)
 
-byte_said : (n wanted : ℕ) (bytes rest : List ℕ) → byte_at n wanted bytes ≡ Ok rest → bytes ≡ wanted ∷ rest
+pub byte_said : (n wanted : ℕ) (bytes rest : List ℕ) → byte_at n wanted bytes ≡ Ok rest → bytes ≡ wanted ∷ rest
 byte_said n wanted [] rest e = cc
 byte_said n wanted (b ∷ bytes) rest e = elim (chosen (b == wanted) (Ok bytes) (Err (BadToken (n - length (b ∷ bytes)))) (Ok rest) e) [
   | inl x ↦ (let is : b ≡ wanted = eqb-true b wanted x.0 in let w = x.1 in cc)
@@ -61,7 +61,7 @@ byte_said n wanted (b ∷ bytes) rest e = elim (chosen (b == wanted) (Ok bytes) 
 front_some : (p : ℕ → Bool) (b : ℕ) (bytes : List ℕ) → p b ≡ true → 0 < length (front p (b ∷ bytes))
 front_some p b bytes h = rw h (omega arith)
 
-taken : (p : ℕ → Bool) (f : LexFault) (bytes name rest : List ℕ) → cond {A = Result (List ℕ × List ℕ) LexFault} (begins p bytes) (Ok (front p bytes, behind p bytes)) (Err f) ≡ Ok (name, rest)
+pub taken : (p : ℕ → Bool) (f : LexFault) (bytes name rest : List ℕ) → cond {A = Result (List ℕ × List ℕ) LexFault} (begins p bytes) (Ok (front p bytes, behind p bytes)) (Err f) ≡ Ok (name, rest)
     → (bytes ≡ name ++ rest) × (0 < length name) × (list_all p name ≡ true)
 taken p f [] name rest e = cc
 taken p f (b ∷ bytes) name rest e = elim (chosen {A = Result (List ℕ × List ℕ) LexFault} (p b) (Ok (front p (b ∷ bytes), behind p (b ∷ bytes))) (Err f) (Ok (name, rest)) e) [
@@ -73,10 +73,10 @@ taken p f (b ∷ bytes) name rest e = elim (chosen {A = Result (List ℕ × List
   | inr x ↦ (let w = x.1 in cc)
 ]
 
-name_is : (name : List ℕ) → 0 < length name → list_all is_name_byte name ≡ true → is_name name ≡ true
+pub name_is : (name : List ℕ) → 0 < length name → list_all is_name_byte name ≡ true → is_name name ≡ true
 name_is name l a = and_from (nat_lt 0 (length name)) (list_all is_name_byte name) (lt-ltb 0 (length name) l) a
 
-name_said : (n : ℕ) (bytes name rest : List ℕ) → name_at n bytes ≡ Ok (name, rest) → (bytes ≡ name ++ rest) × (is_name name ≡ true)
+pub name_said : (n : ℕ) (bytes name rest : List ℕ) → name_at n bytes ≡ Ok (name, rest) → (bytes ≡ name ++ rest) × (is_name name ≡ true)
 name_said n bytes name rest e = let t = taken is_name_byte (BadToken (n - length bytes)) bytes name rest e in (t.0, name_is name t.1 t.2)
 
 inside_said : (kept : Bool) (bytes raw rest : List ℕ) → inside_from kept bytes ≡ Some (raw, rest) → (bytes ≡ raw ++ 34 ∷ rest) × (is_inside_from kept raw ≡ true)
@@ -100,11 +100,11 @@ inside_said false (b ∷ bytes) raw rest e = go (b == 34) refl e (inside_said (b
           ap (is_inside_from false) (sym is) ∙ and_from (not (b == 34)) (is_inside_from (b == 92) first) (ap not h) r.1,
         ))
 
-closed_said : {A : Type 0} (f : LexFault) (o : Option A) (x : A) → closed_or f o ≡ Ok x → o ≡ Some x
+pub closed_said : {A : Type 0} (f : LexFault) (o : Option A) (x : A) → closed_or f o ≡ Ok x → o ≡ Some x
 closed_said f None x e = cc
 closed_said f (Some y) x e = cc
 
-string_said : (n : ℕ) (bytes raw rest : List ℕ) → string_at n bytes ≡ Ok (raw, rest) → (34 ∷ bytes ≡ quoted raw ++ rest) × (is_inside raw ≡ true)
+pub string_said : (n : ℕ) (bytes raw rest : List ℕ) → string_at n bytes ≡ Ok (raw, rest) → (34 ∷ bytes ≡ quoted raw ++ rest) × (is_inside raw ≡ true)
 string_said n bytes raw rest e =
     let r = inside_said false bytes raw rest (closed_said _ (inside_from false bytes) (raw, rest) e) in
     (ap (λ t. 34 ∷ t) (r.0 ∙ sym (append_assoc raw (34 ∷ []) rest)), r.1)
@@ -122,7 +122,7 @@ event_said n bytes name rest ts e u =
       ap is_name (sym q.0) ∙ s.1,
     )))
 
-colon_said : (n : ℕ) (bytes : List ℕ) (f : List ℕ → Result (List (List ℕ) × List ℕ) LexFault) (x : List (List ℕ) × List ℕ) → colon_or n bytes f ≡ Ok x
+pub colon_said : (n : ℕ) (bytes : List ℕ) (f : List ℕ → Result (List (List ℕ) × List ℕ) LexFault) (x : List (List ℕ) × List ℕ) → colon_or n bytes f ≡ Ok x
     → ((rest : List ℕ) × (bytes ≡ 58 ∷ rest) × (x ≡ ([], rest))) ⊎ ((rest : List ℕ) × (bytes ≡ 60 ∷ rest) × (f rest ≡ Ok x))
 colon_said n [] f x e = cc
 colon_said n (b ∷ rest) f x e = go (b == 58) refl (b == 60) refl e
@@ -178,7 +178,7 @@ pub record Result_said (bytes : List ℕ) (raw name : Option (List ℕ)) : Type 
   pub named : option_map_or is_name name true ≡ true
   pub some : is_some raw || is_some name ≡ true
 
-behind_twice : (p : ℕ → Bool) (xs : List ℕ) → behind p (behind p xs) ≡ behind p xs
+pub behind_twice : (p : ℕ → Bool) (xs : List ℕ) → behind p (behind p xs) ≡ behind p xs
 behind_twice p [] = refl
 behind_twice p (x ∷ xs) = go (p x) refl (behind_twice p xs)
   where

@@ -18,6 +18,7 @@ ghost use Rattle.std.specs.List.{list_all};
 ghost use Rattle.compose_lex.specs.Line.{Reading, IsLine};
 ghost use Rattle.compose_lex.specs.Fault.{reading_of};
 ghost use Rattle.compose_lex.specs.Escape.{Unescapes, IsText, text_of, quote_inside};
+ghost use Rattle.compose_lex.specs.LineFault.{IsLineFault};
 ghost use Rattle.compose_lex.specs.TextFault.{IsTextFault};
 ghost use Rattle.compose_lex.specs.declared.LexFault.{LexFault};
 ghost use Rattle.compose_lex.specs.declared.LexFault.TheVariants as faults;
@@ -112,6 +113,12 @@ pub fn law_right_reading()
     ensures { (line : List ℕ) (reading : Reading) → reading_of line ≡ Ok reading → IsLine line reading }
 {}
 
+/// A line is at fault as the grammar says: where a right reading goes no further. Each line has one such fault at most.
+pub fn law_line_fault()
+    ensures said { (line : List ℕ) (fault : LexFault) → reading_of line ≡ Err fault → IsLineFault line fault }
+    ensures read { (line : List ℕ) (fault : LexFault) → IsLineFault line fault → reading_of line ≡ Err fault }
+{}
+
 /// A raw text stands for one list of bytes at most; where this is a text, it is what is read.
 pub fn law_one_text()
     ensures one { (raw a b : List ℕ) → Unescapes raw a → Unescapes raw b → a ≡ b }
@@ -119,7 +126,7 @@ pub fn law_one_text()
     ensures said { (raw bytes : List ℕ) → text_of raw ≡ Ok bytes → Unescapes raw bytes × IsText bytes }
 {}
 
-/// A raw text is at fault as the grammar of escapes says, and in no other way.
+/// A raw text is at fault as its escapes and the bytes that they stand for say. Each raw text has one such fault at most.
 pub fn law_text_fault()
     ensures said { (raw : List ℕ) (fault : LexFault) → text_of raw ≡ Err fault → IsTextFault raw fault }
     ensures read { (raw : List ℕ) (fault : LexFault) → IsTextFault raw fault → text_of raw ≡ Err fault }

@@ -1,0 +1,165 @@
+-- Where the reader finds a fault behind the colon of a line, no right reading goes on.
+use Rattle.std.proofs.Common.{◌≡◌, ℕ, suc, zero, ◌+◌, ◌-◌, ◌<◌, ◌≤◌, List, [], ◌∷◌, ◌++◌, length, drop, Bool, true, false, cond, not, ◌&&◌, ◌||◌, refl, sym, ◌∙◌, ap, subst, arith, append_assoc, ◌⊎◌, inl, inr, eqb-true}
+use Rattle.std.specs.Prelude.{◌==◌, nat_eq, Option, Some, None, is_some, Result, Ok, Err, flat_map, codes}
+use Rattle.std.specs.List.{list_all, starts_with}
+use Rattle.std.proofs.lemmas.List.{append-nil}
+use Rattle.std.proofs.lemmas.Bool.{and_parts, and_from, not-true}
+use Rattle.compose_text.specs.Bytes.{is_blank, is_name_byte, front, behind, begins}
+use Rattle.compose_lex.specs.Line.{Reading, blank, include, production, is_name, is_inside, is_comment, quoted, event_tokens, result_tokens, tokens, is_reading}
+use Rattle.compose_lex.specs.Fault.{◌>>=◌, skip_blanks, byte_at, name_at, inside_from, string_at, end_at, event_at, event_fault, events_at, name_if, result_at, production_at, include_at, is_include, reading_of, reading_at}
+use Rattle.compose_lex.specs.LineFault.{AreFirst, is_whole, GoesOn, IsLineFault}
+use Rattle.compose_lex.specs.declared.LexFault.{LexFault}
+use Rattle.compose_lex.specs.declared.LexFault.TheVariants.{BadToken, UnclosedString, NoResult, TooManyKeysyms}
+use Rattle.compose_lex.proofs.LineSaid.{bind_with, chosen, byte_said, name_said, name_is, string_said, taken, behind_twice, starts_is}
+use Rattle.compose_lex.proofs.IncludeWord.{behind_stops}
+use Rattle.compose_lex.proofs.Tokens.{RightProduction, right_from, quoted_no_name}
+use Rattle.compose_lex.proofs.Stages.{Stage, start, word, opened, colon, text, ended, goes, is_between, name_ends, behind_text, behind_colon, no_token_at}
+use Rattle.compose_lex.proofs.LineStops.{Reached, reached_more, at_start, whole_before, opened_right, stops, unlike, no_event, unclosed}
+use Rattle.compose_lex.proofs.LineEvents.{bind_fails, name_fails, byte_fails, end_fails, closed_fails, name_whole, may_not, Events, event_reached, event_broken, Colon, events_broken, events_reached}
+
+-- ---- the end of a line
+
+-- only a comment may follow
+pub record End (line : List ℕ) (rest : List ℕ) : Type 0 where
+  pub done : List (List ℕ)
+  pub stage : Stage
+  pub reached : Reached line done (skip_blanks rest) stage
+  pub none : begins (λ b. is_some (goes stage b)) (skip_blanks rest) ≡ false
+  pub behind : is_between stage ≡ false
+
+pub end_broken : (line rest : List ℕ) (f : LexFault) → End line rest → end_at (length line) (skip_blanks rest) ≡ Err f → IsLineFault line f
+end_broken line rest f s e = let b = end_fails (length line) (skip_blanks rest) f e in subst (IsLineFault line) b.1 (unlike line s.done (skip_blanks rest) s.stage s.reached s.none (λ _. b.0) s.behind)
+
+pub never : (rest : List ℕ) → begins (λ b. is_some (goes ended b)) rest ≡ false
+never [] = refl
+never (b ∷ rest) = refl
+
+pub string_whole : (raw more : List ℕ) → is_whole (quoted raw) more ≡ true
+string_whole raw more = ap (λ x. not (x && begins is_name_byte more)) (quoted_no_name raw)
+
+-- ---- the result
+
+abbrev colon_tokens : List (List ℕ) → List (List ℕ)
+colon_tokens events = flat_map event_tokens events ++ (58 ∷ []) ∷ []
+
+name_right : (events : List (List ℕ)) (name : List ℕ) → 0 < length events → length events ≤ 32 → list_all is_name events ≡ true → is_name name ≡ true → AreFirst (colon_tokens events ++ name ∷ [])
+name_right events name some few names is = (
+  production events None (Some name),
+  [],
+  right_from events None (Some name) (record { some = some; few = few; names = names; closed = refl; named = is; result = refl }),
+  sym (append_assoc (flat_map event_tokens events) ((58 ∷ []) ∷ []) (name ∷ [])) ∙ sym (append-nil (colon_tokens events ++ name ∷ [])),
+)
+
+string_right : (events : List (List ℕ)) (raw : List ℕ) → 0 < length events → length events ≤ 32 → list_all is_name events ≡ true → is_inside raw ≡ true → AreFirst (colon_tokens events ++ quoted raw ∷ [])
+string_right events raw some few names is = (
+  production events (Some raw) None,
+  [],
+  right_from events (Some raw) None (record { some = some; few = few; names = names; closed = is; named = refl; result = refl }),
+  sym (append_assoc (flat_map event_tokens events) ((58 ∷ []) ∷ []) (quoted raw ∷ [])) ∙ sym (append-nil (colon_tokens events ++ quoted raw ∷ [])),
+)
+
+both_right : (events : List (List ℕ)) (raw name : List ℕ) → 0 < length events → length events ≤ 32 → list_all is_name events ≡ true → is_inside raw ≡ true → is_name name ≡ true
+    → AreFirst ((colon_tokens events ++ quoted raw ∷ []) ++ name ∷ [])
+both_right events raw name some few names is named = (
+  production events (Some raw) (Some name),
+  [],
+  right_from events (Some raw) (Some name) (record { some = some; few = few; names = names; closed = is; named = named; result = refl }),
+  sym (append_assoc (flat_map event_tokens events) ((58 ∷ []) ∷ []) (quoted raw ∷ name ∷ [])) ∙ sym (append_assoc (colon_tokens events) (quoted raw ∷ []) (name ∷ []))
+      ∙ sym (append-nil ((colon_tokens events ++ quoted raw ∷ []) ++ name ∷ [])),
+)
+
+no_result : (line : List ℕ) (events : List (List ℕ)) (rest : List ℕ) → Reached line (colon_tokens events) rest colon → is_comment rest ≡ true → IsLineFault line NoResult
+no_result line events rest r comment = record {
+  at = length line - length rest;
+  done = colon_tokens events;
+  rest = rest;
+  stops = stops line (colon_tokens events) rest colon r (no_token_at (colon_tokens events) rest colon r.walked (neither rest comment)) (λ e. cc);
+  is = (events, refl, comment);
+}
+  where
+    neither : (rest : List ℕ) → is_comment rest ≡ true → begins (λ b. is_some (goes colon b)) rest ≡ false
+    neither [] h = refl
+    neither (b ∷ rest) h = ap (λ x. is_some (goes colon x)) (eqb-true b 35 h)
+
+pub result_broken : (line : List ℕ) (events : List (List ℕ)) (rest : List ℕ) (f : LexFault) → Colon line events rest → result_at (length line) (skip_blanks rest) ≡ Err f → IsLineFault line f
+result_broken line events rest f s e = go (skip_blanks rest) s.reached e
+  where
+    by : (b : ℕ) (rest : List ℕ) (c : Bool) → (b == 35) ≡ c → (d : Bool) → (b == 34) ≡ d → Reached line (colon_tokens events) (b ∷ rest) colon
+        → cond {A = Result (Option (List ℕ) × Option (List ℕ) × List ℕ) LexFault} c (Err NoResult) (cond {A = Result (Option (List ℕ) × Option (List ℕ) × List ℕ) LexFault} d
+        (string_at (length line) rest >>= λ string. Ok (Some string.0, (name_if (skip_blanks string.1)).0, (name_if (skip_blanks string.1)).1))
+        (name_at (length line) (b ∷ rest) >>= λ name. Ok (None, Some name.0, name.1))) ≡ Err f → IsLineFault line f
+    by b rest true h d i r e = let is : NoResult ≡ f = cc in subst (IsLineFault line) is (no_result line events (b ∷ rest) r h)
+    by b rest false h true i r e =
+        bind_fails (string_at (length line) rest) (λ string. Ok (Some string.0, (name_if (skip_blanks string.1)).0, (name_if (skip_blanks string.1)).1)) f e
+        (λ e.
+        let q = closed_fails (UnclosedString (length line - length (34 ∷ rest))) (inside_from false rest) f e in
+        let quote : Reached line (colon_tokens events) (34 ∷ rest) colon = subst (λ x. Reached line (colon_tokens events) (x ∷ rest) colon) (eqb-true b 34 i) r in
+        subst (IsLineFault line) q.1 (unclosed line (colon_tokens events) rest colon quote q.0 [] (string_right events [] s.some s.few s.names refl) refl))
+        (λ string is e. cc)
+    by b rest false h false i r e =
+        bind_fails (name_at (length line) (b ∷ rest)) (λ name. Ok (None, Some name.0, name.1)) f e
+        (λ e.
+        let q = name_fails (length line) (b ∷ rest) f e in
+        let none = q.0 in
+        subst (IsLineFault line) q.1 (unlike line (colon_tokens events) (b ∷ rest) colon r (rw (i, none) refl) (λ _. h) refl))
+        (λ name is e. cc)
+
+    go : (bytes : List ℕ) → Reached line (colon_tokens events) bytes colon → result_at (length line) bytes ≡ Err f → IsLineFault line f
+    go [] r e = let is : NoResult ≡ f = cc in subst (IsLineFault line) is (no_result line events [] r refl)
+    go (b ∷ rest) r e = by b rest (b == 35) refl (b == 34) refl r e
+
+-- behind a string, perhaps a name
+behind_string : (line : List ℕ) (events : List (List ℕ)) (rest raw more : List ℕ) → Colon line events rest → Reached line (colon_tokens events ++ quoted raw ∷ []) (skip_blanks more) text → is_inside raw ≡ true → End line (name_if (skip_blanks more)).1
+behind_string line events rest raw more s r is = go (begins is_name_byte (skip_blanks more)) refl
+  where
+    go : (x : Bool) → begins is_name_byte (skip_blanks more) ≡ x
+        → End line (let y : Option (List ℕ) × List ℕ = cond x (Some (front is_name_byte (skip_blanks more)), behind is_name_byte (skip_blanks more)) (None, skip_blanks more) in y).1
+    go true e =
+        let name = front is_name_byte (skip_blanks more) in
+        let after = behind is_name_byte (skip_blanks more) in
+        let t = taken is_name_byte TooManyKeysyms (skip_blanks more) name after (rw e refl) in
+        let named = name_is name t.1 t.2 in
+        record {
+          done = (colon_tokens events ++ quoted raw ∷ []) ++ name ∷ [];
+          stage = ended;
+          reached = reached_more line (colon_tokens events ++ quoted raw ∷ []) (skip_blanks more) text ended name after r t.0 (whole_before name after (behind_stops is_name_byte (skip_blanks more))) (name_ends name text behind_text named)
+              (both_right events raw name s.some s.few s.names is named);
+          none = never (skip_blanks after);
+          behind = refl;
+        }
+    go false e =
+        let same : skip_blanks more ≡ skip_blanks (skip_blanks more) = sym (behind_twice is_blank more) in
+        record {
+          done = colon_tokens events ++ quoted raw ∷ [];
+          stage = text;
+          reached = subst (λ x. Reached line (colon_tokens events ++ quoted raw ∷ []) x text) same r;
+          none = ap (begins (λ b. is_some (goes text b))) (sym same) ∙ may_not is_name_byte (λ b. is_some (goes text b)) (skip_blanks more) (λ b h. rw h refl) e;
+          behind = refl;
+        }
+
+pub result_reached : (line : List ℕ) (events : List (List ℕ)) (rest : List ℕ) (x : Option (List ℕ) × Option (List ℕ) × List ℕ) → Colon line events rest → result_at (length line) (skip_blanks rest) ≡ Ok x → End line x.2
+result_reached line events rest x s e = go (skip_blanks rest) s.reached e
+  where
+    by : (b : ℕ) (bytes : List ℕ) (c : Bool) (d : Bool) → (b == 34) ≡ d → Reached line (colon_tokens events) (b ∷ bytes) colon
+        → cond {A = Result (Option (List ℕ) × Option (List ℕ) × List ℕ) LexFault} c (Err NoResult) (cond {A = Result (Option (List ℕ) × Option (List ℕ) × List ℕ) LexFault} d
+        (string_at (length line) bytes >>= λ string. Ok (Some string.0, (name_if (skip_blanks string.1)).0, (name_if (skip_blanks string.1)).1))
+        (name_at (length line) (b ∷ bytes) >>= λ name. Ok (None, Some name.0, name.1))) ≡ Ok x → End line x.2
+    by b bytes true d i r e = cc
+    by b bytes false true i r e =
+        bind_with (string_at (length line) bytes) (λ string. Ok (Some string.0, (name_if (skip_blanks string.1)).0, (name_if (skip_blanks string.1)).1)) x e (λ string is e.
+        let q : ◌≡◌ {A = Option (List ℕ) × Option (List ℕ) × List ℕ} (Some string.0, (name_if (skip_blanks string.1)).0, (name_if (skip_blanks string.1)).1) x = cc in
+        let t = string_said (length line) bytes string.0 string.1 is in
+        let here : b ∷ bytes ≡ quoted string.0 ++ string.1 = ap (λ y. y ∷ bytes) (eqb-true b 34 i) ∙ t.0 in
+        let next = reached_more line (colon_tokens events) (b ∷ bytes) colon text (quoted string.0) string.1 r here (string_whole string.0 string.1) refl (string_right events string.0 s.some s.few s.names t.1) in
+        subst (λ (y : Option (List ℕ) × Option (List ℕ) × List ℕ). End line y.2) q (behind_string line events rest string.0 string.1 s next t.1))
+    by b bytes false false i r e =
+        bind_with (name_at (length line) (b ∷ bytes)) (λ name. Ok (None, Some name.0, name.1)) x e (λ name is e.
+        let q : ◌≡◌ {A = Option (List ℕ) × Option (List ℕ) × List ℕ} (None, Some name.0, name.1) x = cc in
+        let t = name_said (length line) (b ∷ bytes) name.0 name.1 is in
+        let next = reached_more line (colon_tokens events) (b ∷ bytes) colon ended name.0 name.1 r t.0 (whole_before name.0 name.1 (name_whole (length line) (b ∷ bytes) name.0 name.1 is)) (name_ends name.0 colon behind_colon t.1)
+        (name_right events name.0 s.some s.few s.names t.1) in
+        subst (λ (y : Option (List ℕ) × Option (List ℕ) × List ℕ). End line y.2) q (record { done = colon_tokens events ++ name.0 ∷ []; stage = ended; reached = next; none = never (skip_blanks name.1); behind = refl }))
+
+    go : (bytes : List ℕ) → Reached line (colon_tokens events) bytes colon → result_at (length line) bytes ≡ Ok x → End line x.2
+    go [] r e = cc
+    go (b ∷ bytes) r e = by b bytes (b == 35) (b == 34) refl r e

@@ -1,0 +1,87 @@
+-- The faults of a line, said with the grammar and not with the reader: how far the tokens of a right reading go, and what stands where none goes on.
+use Rattle.std.specs.Prelude.{◌≡◌, ℕ, Bool, not, ◌+◌, ◌&&◌, ◌||◌, ◌==◌, List, [], ◌∷◌, ◌++◌, length, flat_map, IsTrue}
+use Rattle.std.specs.Char.{is_ascii_alphabetic}
+use Rattle.std.specs.List.{list_all}
+use Rattle.compose_text.specs.Bytes.{is_blank, is_name_byte, begins}
+use Rattle.compose_lex.specs.Line.{Reading, is_name, is_comment, quoted, event_tokens, tokens, is_reading}
+use Rattle.compose_lex.specs.declared.LexFault.{LexFault}
+use Rattle.compose_lex.specs.declared.LexFault.TheVariants.{BadToken, ModifierList, UnclosedString, NoResult, TooManyKeysyms}
+
+-- ---- the tokens before a fault
+
+-- some right reading has these tokens first
+abbrev pub AreFirst : List (List ℕ) → Type 0
+AreFirst done = (reading : Reading) × (more : List (List ℕ)) × IsTrue (is_reading reading) × (tokens reading ≡ done ++ more)
+
+-- some right reading has these tokens and no more
+abbrev pub AreAll : List (List ℕ) → Type 0
+AreAll done = (reading : Reading) × IsTrue (is_reading reading) × (tokens reading ≡ done)
+
+-- no byte of a name follows a name or the word `include`
+abbrev pub is_whole : List ℕ → List ℕ → Bool
+is_whole token rest = not (is_name token && begins is_name_byte rest)
+
+-- the bytes are these tokens, each one whole, with blanks before and between them and behind the last; then this rest, which no blank begins
+abbrev pub BeginsWith : List (List ℕ) → List ℕ → List ℕ → Type 0
+BeginsWith [] bytes rest = (blanks : List ℕ) × IsTrue (list_all is_blank blanks) × IsTrue (not (begins is_blank rest)) × (bytes ≡ blanks ++ rest)
+BeginsWith (t ∷ ts) bytes rest = (blanks : List ℕ) × (more : List ℕ) × IsTrue (list_all is_blank blanks) × IsTrue (is_whole t more) × (bytes ≡ blanks ++ (t ++ more)) × BeginsWith ts more rest
+
+-- a token that some right reading has behind these tokens stands here
+abbrev pub GoesOn : List (List ℕ) → List ℕ → Type 0
+GoesOn done rest = (token : List ℕ) × (more : List ℕ) × AreFirst (done ++ token ∷ []) × IsTrue (is_whole token more) × (rest ≡ token ++ more)
+
+-- behind these tokens of a right reading, at this offset, the line has neither a token that may follow nor its end
+pub record StopsAt (line : List ℕ) (at : ℕ) (done : List (List ℕ)) (rest : List ℕ) : Type 0 where
+  pub begun : BeginsWith done line rest
+  pub right : AreFirst done
+  pub offset : length line ≡ at + length rest
+  pub no_token : GoesOn done rest → ⊥
+  pub no_end : AreAll done → IsTrue (is_comment rest) → ⊥
+
+-- ---- what is wrong there
+
+-- behind whole events, or none: where an event may begin, or the one too many
+abbrev pub AreEvents : List (List ℕ) → Type 0
+AreEvents done = (events : List (List ℕ)) × (done ≡ flat_map event_tokens events)
+
+abbrev pub is_modifier_first : ℕ → Bool
+is_modifier_first b = b == 33 || b == 126 || is_ascii_alphabetic b
+
+-- `!`, `~` or a letter in the place of an event
+abbrev pub IsModifierList : List (List ℕ) → List ℕ → Type 0
+IsModifierList done rest = AreEvents done × IsTrue (begins is_modifier_first rest)
+
+-- a quote where a string may stand
+abbrev pub IsUnclosedString : List (List ℕ) → List ℕ → Type 0
+IsUnclosedString done rest = (raw : List ℕ) × AreFirst (done ++ quoted raw ∷ []) × IsTrue (begins (λ b. b == 34) rest)
+
+-- only a comment behind the colon
+abbrev pub IsNoResult : List (List ℕ) → List ℕ → Type 0
+IsNoResult done rest = (events : List (List ℕ)) × (done ≡ flat_map event_tokens events ++ (58 ∷ []) ∷ []) × IsTrue (is_comment rest)
+
+-- `<` behind 32 events
+abbrev pub IsTooManyKeysyms : List (List ℕ) → List ℕ → Type 0
+IsTooManyKeysyms done rest = (events : List (List ℕ)) × (length events ≡ 32) × (done ≡ flat_map event_tokens events) × IsTrue (begins (λ b. b == 60) rest)
+
+-- none of these
+pub record IsBadToken (done : List (List ℕ)) (rest : List ℕ) : Type 0 where
+  pub no_modifier_list : IsModifierList done rest → ⊥
+  pub no_string : IsUnclosedString done rest → ⊥
+  pub result : IsNoResult done rest → ⊥
+  pub few : IsTooManyKeysyms done rest → ⊥
+
+-- the fault where a line stops at this offset
+abbrev pub IsFaultAt : ℕ → List (List ℕ) → List ℕ → LexFault → Type 0
+IsFaultAt n done rest (BadToken at) = (at ≡ n) × IsBadToken done rest
+IsFaultAt n done rest (ModifierList at) = (at ≡ n) × IsModifierList done rest
+IsFaultAt n done rest (UnclosedString at) = (at ≡ n) × IsUnclosedString done rest
+IsFaultAt n done rest NoResult = IsNoResult done rest
+IsFaultAt n done rest TooManyKeysyms = IsTooManyKeysyms done rest
+IsFaultAt n done rest fault = ⊥
+
+pub record IsLineFault (line : List ℕ) (fault : LexFault) : Type 0 where
+  pub at : ℕ
+  pub done : List (List ℕ)
+  pub rest : List ℕ
+  pub stops : StopsAt line at done rest
+  pub is : IsFaultAt at done rest fault
