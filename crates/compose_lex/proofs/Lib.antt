@@ -9,6 +9,7 @@ pub mod EscapeRead
 pub mod Decodes
 pub mod TextChecks
 pub mod QuoteRuns
+pub mod Productions
 pub mod LineRead
 pub mod LineSaid
 pub mod IncludeWord

@@ -1,21 +1,21 @@
 -- Where the reader finds a fault in the events of a line, no right reading goes on.
-use Rattle.std.proofs.Common.{◌≡◌, ℕ, suc, zero, ◌+◌, ◌-◌, ◌<◌, ◌≤◌, List, [], ◌∷◌, ◌++◌, length, drop, Bool, true, false, cond, not, ◌&&◌, ◌||◌, refl, sym, ◌∙◌, ap, subst, arith, append_assoc, ◌⊎◌, inl, inr, eqb-true, lt-ltb}
-use Rattle.std.specs.Prelude.{◌==◌, nat_eq, Option, Some, None, is_some, Result, Ok, Err, flat_map, nat_lt, codes}
-use Rattle.std.specs.List.{list_all, starts_with}
+use Rattle.std.proofs.Common.{◌≡◌, ℕ, suc, zero, ◌+◌, ◌-◌, ◌<◌, ◌≤◌, List, [], ◌∷◌, ◌++◌, length, Bool, true, false, cond, refl, sym, ◌∙◌, ap, subst, arith, append_assoc, ◌⊎◌, inl, inr, eqb-true, lt-ltb}
+use Rattle.std.specs.Prelude.{◌==◌, Option, Some, None, is_some, Result, Ok, Err, flat_map, codes}
+use Rattle.std.specs.List.{list_all}
 use Rattle.std.proofs.lemmas.List.{length_push, append-nil}
-use Rattle.std.proofs.lemmas.Bool.{and_parts, and_from, not-true}
+use Rattle.std.proofs.lemmas.Bool.{and_from}
 use Rattle.std.proofs.lemmas.List.Folds.{list_all-append}
 use Rattle.compose_text.specs.Bytes.{is_name_byte, front, behind, begins}
-use Rattle.compose_lex.specs.Line.{Reading, blank, include, production, is_name, is_inside, is_comment, quoted, event_tokens, result_tokens, tokens, is_reading}
-use Rattle.compose_lex.specs.Fault.{◌>>=◌, skip_blanks, byte_at, name_at, inside_from, closed_or, string_at, end_at, event_at, event_fault, colon_or, events_at, name_if, result_at, production_at, include_at, is_include, reading_of, reading_at}
-use Rattle.compose_lex.specs.LineFault.{AreFirst, is_whole, GoesOn, IsLineFault}
+use Rattle.compose_lex.specs.Line.{production, is_name, is_comment, event_tokens}
+use Rattle.compose_lex.specs.Fault.{◌>>=◌, skip_blanks, byte_at, name_at, closed_or, end_at, event_at, event_fault, colon_or, events_at}
+use Rattle.compose_lex.specs.LineFault.{AreFirst, IsLineFault}
 use Rattle.compose_lex.specs.declared.LexFault.{LexFault}
-use Rattle.compose_lex.specs.declared.LexFault.TheVariants.{BadToken, UnclosedString, NoResult, TooManyKeysyms}
+use Rattle.compose_lex.specs.declared.LexFault.TheVariants.{BadToken, TooManyKeysyms}
 use Rattle.compose_lex.proofs.IncludeWord.{behind_stops}
-use Rattle.compose_lex.proofs.LineSaid.{bind_with, ok_pair, chosen, byte_said, name_said, name_is, string_said, colon_said, taken, behind_twice, starts_is}
-use Rattle.compose_lex.proofs.Tokens.{RightProduction, right_from, quoted_no_name}
-use Rattle.compose_lex.proofs.Stages.{Stage, start, word, between, opened, named, colon, text, ended, goes, is_between, name_steps, name_ends, behind_text, behind_colon, no_token_at}
-use Rattle.compose_lex.proofs.LineStops.{Reached, reached_more, at_start, whole_before, opened_right, named_right, whole_event, events_right, stops, unlike, no_event, unclosed}
+use Rattle.compose_lex.proofs.LineSaid.{bind_with, ok_pair, chosen, byte_said, name_said, colon_said}
+use Rattle.compose_lex.proofs.Productions.{RightProduction, right_from}
+use Rattle.compose_lex.proofs.Stages.{between, opened, named, colon, goes, name_steps, no_token_at}
+use Rattle.compose_lex.proofs.LineStops.{Reached, reached_more, whole_before, opened_right, named_right, whole_event, events_right, stops, unlike, no_event}
 
 -- ---- what an Err came from
 
@@ -163,7 +163,7 @@ too_many line events rest behind s here =
       done = done;
       rest = skip_blanks rest;
       stops = stops line done (skip_blanks rest) (between k) s.reached (no_token_at done (skip_blanks rest) (between k) s.reached.walked full) (λ e. cc);
-      is = (events, all, refl, ap (begins (λ b. b == 60)) here);
+      is = (events, refl, all, ap (begins (λ b. b == 60)) here);
     }
 
 pub events_broken : (line : List ℕ) (left : ℕ) (events : List (List ℕ)) (rest : List ℕ) (f : LexFault) → Events line events left rest → events_at (length line) left rest ≡ Err f → IsLineFault line f

@@ -1,5 +1,5 @@
 -- What the reader finds wrong in a line is what the relation says, and back.
-use Rattle.std.proofs.Common.{◌≡◌, ℕ, ◌+◌, ◌-◌, ◌<◌, List, [], ◌∷◌, ◌++◌, length, drop, Bool, true, false, cond, not, refl, sym, ◌∙◌, ap, subst, arith, append_assoc, ◌⊎◌, inl, inr, eqb-true}
+use Rattle.std.proofs.Common.{◌≡◌, ℕ, ◌-◌, List, [], ◌∷◌, ◌++◌, length, drop, Bool, true, false, cond, not, refl, sym, ◌∙◌, ap, subst, arith, append_assoc, ◌⊎◌, inl, inr, eqb-true}
 use Rattle.std.specs.Prelude.{◌==◌, nat_eq, is_some, Result, Ok, Err, codes}
 use Rattle.std.specs.List.{starts_with}
 use Rattle.std.proofs.lemmas.List.{append-nil}
@@ -12,7 +12,7 @@ use Rattle.compose_lex.specs.declared.LexFault.{LexFault}
 use Rattle.compose_lex.specs.declared.LexFault.TheVariants.{BadToken, ModifierList, UnclosedString, UnknownEscape, BadCode, NoResult, TooManyKeysyms, EmptyText, TextTooLong, TextNotUtf8, NoMemory}
 use Rattle.compose_lex.proofs.Runs.{comment_first}
 use Rattle.compose_lex.proofs.LineSaid.{byte_said, string_said, starts_is, reading_said}
-use Rattle.compose_lex.proofs.Tokens.{AllTokens, right_tokens, all_before, reading_whole, is_token_first, Ahead, Compared, compare}
+use Rattle.compose_lex.proofs.Tokens.{AllTokens, right_tokens, all_before, reading_whole, is_token_first, Ahead, compare}
 use Rattle.compose_lex.proofs.Stages.{start, word, opened, ended, goes}
 use Rattle.compose_lex.proofs.LineStops.{Reached, reached_more, at_start, whole_before, opened_right, unlike, no_event, unclosed}
 use Rattle.compose_lex.proofs.LineEvents.{bind_fails, byte_fails, closed_fails, may_not, Events, event_reached, event_broken, Colon, events_broken, events_reached}
@@ -63,7 +63,7 @@ include_broken line rest f first ends e =
     (λ u is e. cc)))
 
 -- neither an event nor the word `include`
-nothing_begins : (b : ℕ) (rest : List ℕ) → is_include (b ∷ rest) ≡ false → (b == 60) ≡ false → GoesOn [] (b ∷ rest) → ⊥
+pub nothing_begins : (b : ℕ) (rest : List ℕ) → is_include (b ∷ rest) ≡ false → (b == 60) ≡ false → GoesOn [] (b ∷ rest) → ⊥
 nothing_begins b rest i l g = go g.2.0 g.2.2 g.2.3
   where
     go : (r : Reading) → is_reading r ≡ true → tokens r ≡ g.0 ∷ g.2.1 → ⊥
@@ -173,9 +173,9 @@ Kind n done rest f = ((f ≡ BadToken n) × IsBadToken done rest) ⊎ ((f ≡ sp
 kind_of : (n : ℕ) (done : List (List ℕ)) (rest : List ℕ) (f : LexFault) → IsFaultAt n done rest f → Kind n done rest f
 kind_of n done rest (BadToken at) x = inl (ap BadToken x.0, x.1)
 kind_of n done rest (ModifierList at) x = inr (ap ModifierList x.0 ∙ sym (modifier_special n rest x.1.1), λ b. b.no_modifier_list x.1)
-kind_of n done rest (UnclosedString at) x = inr (ap UnclosedString x.0 ∙ sym (string_special n rest x.1.2), λ b. b.no_string x.1)
-kind_of n done rest NoResult x = inr (sym (comment_special n rest x.2), λ b. b.result x)
-kind_of n done rest TooManyKeysyms x = inr (sym (event_special n rest x.3), λ b. b.few x)
+kind_of n done rest (UnclosedString at) x = inr (ap UnclosedString x.0 ∙ sym (string_special n rest x.1.2), λ b. b.no_unclosed_string x.1)
+kind_of n done rest NoResult x = inr (sym (comment_special n rest x.2), λ b. b.no_missing_result x)
+kind_of n done rest TooManyKeysyms x = inr (sym (event_special n rest x.3), λ b. b.no_33rd_event x)
 kind_of n done rest (UnknownEscape at) x = absurd x
 kind_of n done rest (BadCode at) x = absurd x
 kind_of n done rest EmptyText x = absurd x

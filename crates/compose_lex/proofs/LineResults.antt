@@ -1,21 +1,21 @@
 -- Where the reader finds a fault behind the colon of a line, no right reading goes on.
-use Rattle.std.proofs.Common.{◌≡◌, ℕ, suc, zero, ◌+◌, ◌-◌, ◌<◌, ◌≤◌, List, [], ◌∷◌, ◌++◌, length, drop, Bool, true, false, cond, not, ◌&&◌, ◌||◌, refl, sym, ◌∙◌, ap, subst, arith, append_assoc, ◌⊎◌, inl, inr, eqb-true}
-use Rattle.std.specs.Prelude.{◌==◌, nat_eq, Option, Some, None, is_some, Result, Ok, Err, flat_map, codes}
-use Rattle.std.specs.List.{list_all, starts_with}
+use Rattle.std.proofs.Common.{◌≡◌, ℕ, ◌-◌, ◌<◌, ◌≤◌, List, [], ◌∷◌, ◌++◌, length, Bool, true, false, cond, not, ◌&&◌, refl, sym, ◌∙◌, ap, subst, append_assoc, eqb-true}
+use Rattle.std.specs.Prelude.{◌==◌, Option, Some, None, is_some, Result, Ok, Err, flat_map}
+use Rattle.std.specs.List.{list_all}
 use Rattle.std.proofs.lemmas.List.{append-nil}
-use Rattle.std.proofs.lemmas.Bool.{and_parts, and_from, not-true}
 use Rattle.compose_text.specs.Bytes.{is_blank, is_name_byte, front, behind, begins}
-use Rattle.compose_lex.specs.Line.{Reading, blank, include, production, is_name, is_inside, is_comment, quoted, event_tokens, result_tokens, tokens, is_reading}
-use Rattle.compose_lex.specs.Fault.{◌>>=◌, skip_blanks, byte_at, name_at, inside_from, string_at, end_at, event_at, event_fault, events_at, name_if, result_at, production_at, include_at, is_include, reading_of, reading_at}
-use Rattle.compose_lex.specs.LineFault.{AreFirst, is_whole, GoesOn, IsLineFault}
+use Rattle.compose_lex.specs.Line.{production, is_name, is_inside, is_comment, quoted, event_tokens}
+use Rattle.compose_lex.specs.Fault.{◌>>=◌, skip_blanks, name_at, inside_from, string_at, end_at, name_if, result_at}
+use Rattle.compose_lex.specs.LineFault.{AreFirst, is_whole, IsLineFault}
 use Rattle.compose_lex.specs.declared.LexFault.{LexFault}
-use Rattle.compose_lex.specs.declared.LexFault.TheVariants.{BadToken, UnclosedString, NoResult, TooManyKeysyms}
-use Rattle.compose_lex.proofs.LineSaid.{bind_with, chosen, byte_said, name_said, name_is, string_said, taken, behind_twice, starts_is}
+use Rattle.compose_lex.specs.declared.LexFault.TheVariants.{UnclosedString, NoResult, TooManyKeysyms}
+use Rattle.compose_lex.proofs.LineSaid.{bind_with, name_said, name_is, string_said, taken, behind_twice}
 use Rattle.compose_lex.proofs.IncludeWord.{behind_stops}
-use Rattle.compose_lex.proofs.Tokens.{RightProduction, right_from, quoted_no_name}
-use Rattle.compose_lex.proofs.Stages.{Stage, start, word, opened, colon, text, ended, goes, is_between, name_ends, behind_text, behind_colon, no_token_at}
-use Rattle.compose_lex.proofs.LineStops.{Reached, reached_more, at_start, whole_before, opened_right, stops, unlike, no_event, unclosed}
-use Rattle.compose_lex.proofs.LineEvents.{bind_fails, name_fails, byte_fails, end_fails, closed_fails, name_whole, may_not, Events, event_reached, event_broken, Colon, events_broken, events_reached}
+use Rattle.compose_lex.proofs.Productions.{right_from}
+use Rattle.compose_lex.proofs.Tokens.{quoted_no_name}
+use Rattle.compose_lex.proofs.Stages.{Stage, colon, text, ended, goes, is_between, name_ends, behind_text, behind_colon, no_token_at}
+use Rattle.compose_lex.proofs.LineStops.{Reached, reached_more, whole_before, stops, unlike, unclosed}
+use Rattle.compose_lex.proofs.LineEvents.{bind_fails, name_fails, end_fails, closed_fails, name_whole, may_not, Colon}
 
 -- ---- the end of a line
 

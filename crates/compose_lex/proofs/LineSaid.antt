@@ -1,15 +1,16 @@
 -- What is read of a line is what it says.
-use Rattle.std.proofs.Common.{◌≡◌, ℕ, suc, zero, ◌<◌, ◌≤◌, ◌-◌, List, [], ◌∷◌, ◌++◌, length, take, drop, Bool, true, false, cond, not, ◌&&◌, ◌||◌, refl, sym, ◌∙◌, ap, subst, arith, append_assoc, ◌⊎◌, inl, inr, eqb-true, lt-ltb, take-append-drop}
-use Rattle.std.specs.Prelude.{◌==◌, nat_eq, Option, Some, None, is_some, Result, Ok, Err, flat_map, nat_lt, nat_le, codes}
+use Rattle.std.proofs.Common.{◌≡◌, ℕ, suc, zero, ◌<◌, ◌≤◌, ◌-◌, List, [], ◌∷◌, ◌++◌, length, take, drop, Bool, true, false, cond, not, ◌||◌, refl, sym, ◌∙◌, ap, subst, arith, append_assoc, ◌⊎◌, inl, inr, eqb-true, lt-ltb, take-append-drop}
+use Rattle.std.specs.Prelude.{◌==◌, nat_eq, Option, Some, None, is_some, Result, Ok, Err, flat_map, nat_lt, codes}
 use Rattle.std.specs.Option.{option_map_or, option_map}
 use Rattle.std.specs.List.{list_all, starts_with}
 use Rattle.std.specs.Cmp.Lexicographic.{bytes_decides}
-use Rattle.std.proofs.lemmas.Bool.{and_parts, and_from, le-leb}
+use Rattle.std.proofs.lemmas.Bool.{and_parts, and_from}
 use Rattle.compose_text.specs.Bytes.{is_blank, is_name_byte, front, behind, begins}
-use Rattle.compose_lex.specs.Line.{Reading, blank, include, production, is_name, is_inside, is_inside_from, is_comment, quoted, event_tokens, result_tokens, tokens, AreTokens, IsLine}
+use Rattle.compose_lex.specs.Line.{Reading, blank, include, production, is_name, is_inside, is_inside_from, is_comment, quoted, event_tokens, result_tokens, AreTokens, IsLine}
 use Rattle.compose_lex.specs.Fault.{◌>>=◌, skip_blanks, byte_at, name_at, inside_from, closed_or, string_at, end_at, event_at, event_fault, colon_or, events_at, name_if, result_at, production_at, include_at, is_include, reading_of, reading_at}
 use Rattle.compose_lex.specs.declared.LexFault.{LexFault}
 use Rattle.compose_lex.specs.declared.LexFault.TheVariants.{BadToken, TooManyKeysyms, NoResult}
+use Rattle.compose_lex.proofs.Productions.{right_from}
 use Rattle.compose_lex.proofs.Runs.{parts_of, front_passes}
 
 -- ---- what an Ok came from
@@ -231,17 +232,6 @@ result_said n bytes (b ∷ rest) raw name left u first e ended = go (b == 35) (b
 
 -- ---- lines
 
-line_is : (line event : List ℕ) (events : List (List ℕ)) (raw name : Option (List ℕ)) → length events ≤ 31 → is_name event ≡ true → list_all is_name events ≡ true
-    → option_map_or is_inside raw true ≡ true → option_map_or is_name name true ≡ true → is_some raw || is_some name ≡ true → AreTokens (tokens (production (event ∷ events) raw name)) line → IsLine line (production (event ∷ events) raw name)
-line_is line event events raw name few a b closed named some said =
-    let long : nat_lt 0 (length (event ∷ events)) && nat_le (length (event ∷ events)) 32 ≡ true =
-    and_from (nat_lt 0 (length (event ∷ events))) (nat_le (length (event ∷ events)) 32) (lt-ltb 0 (length (event ∷ events)) (omega arith)) (le-leb (length (event ∷ events)) 32 (omega arith)) in
-    let names = and_from (is_name event) (list_all is_name events) a b in
-    let x = nat_lt 0 (length (event ∷ events)) && nat_le (length (event ∷ events)) 32 in
-    let y = x && list_all is_name (event ∷ events) in
-    let z = y && option_map_or is_inside raw true in
-    record { right = and_from (z && option_map_or is_name name true) (is_some raw || is_some name) (and_from z (option_map_or is_name name true) (and_from y (option_map_or is_inside raw true) (and_from x (list_all is_name (event ∷ events)) long names) closed) named) some; said = said }
-
 production_said : (line rest : List ℕ) (n : ℕ) (r : Reading) → skip_blanks line ≡ 60 ∷ rest → production_at n rest ≡ Ok r → IsLine line r
 production_said line rest n r first e =
     bind_with (event_at n rest) (λ event. events_at n 31 event.1 >>= λ more. result_at n (skip_blanks more.1) >>= λ result. end_at n (skip_blanks result.2) >>= λ end. Ok (production (event.0 ∷ more.0) result.0 result.1)) r e (λ event is e.
@@ -253,8 +243,16 @@ production_said line rest n r first e =
     let later = events_said n 31 event.1 more.0 (result_tokens result.0 result.1) more.1 on last.are in
     let a = event_said n rest event.0 event.1 (flat_map event_tokens more.0 ++ (58 ∷ []) ∷ result_tokens result.0 result.1) is later.are in
     let few : length more.0 ≤ 31 = later.few in
-    subst (IsLine line) q (line_is line event.0 more.0 result.0 result.1 few a.1 later.names last.closed last.named last.some
-    (put_token (60 ∷ []) (event.0 ∷ (62 ∷ []) ∷ (flat_map event_tokens more.0 ++ (58 ∷ []) ∷ result_tokens result.0 result.1)) line rest first a.0))))))
+    let right = right_from (event.0 ∷ more.0) result.0 result.1 (record {
+      some = omega arith;
+      few = omega arith;
+      names = and_from (is_name event.0) (list_all is_name more.0) a.1 later.names;
+      closed = last.closed;
+      named = last.named;
+      result = last.some;
+    }) in
+    let said = put_token (60 ∷ []) (event.0 ∷ (62 ∷ []) ∷ (flat_map event_tokens more.0 ++ (58 ∷ []) ∷ result_tokens result.0 result.1)) line rest first a.0 in
+    subst (IsLine line) q (record { right = right; said = said })))))
 
 pub starts_is : (xs : List ℕ) → starts_with nat_eq xs (codes "include") ≡ true → xs ≡ codes "include" ++ drop 7 xs
 starts_is xs h = sym (take-append-drop 7 xs) ∙ ap (λ t. t ++ drop 7 xs) (sym ((bytes_decides (codes "include") (take 7 xs)).0 h))

@@ -1,21 +1,21 @@
 -- How far a line has been read: the tokens so far, which some right reading has first; and where no right reading goes on.
-use Rattle.std.proofs.Common.{◌≡◌, ℕ, suc, zero, ◌+◌, ◌-◌, ◌<◌, ◌≤◌, List, [], ◌∷◌, ◌++◌, length, Bool, true, false, cond, not, ◌&&◌, ◌||◌, refl, sym, ◌∙◌, ap, subst, arith, append_assoc, eqb-true, lt-ltb}
-use Rattle.std.specs.Prelude.{◌==◌, Option, Some, None, is_some, flat_map, codes}
+use Rattle.std.proofs.Common.{◌≡◌, ℕ, ◌+◌, ◌-◌, ◌<◌, ◌≤◌, List, [], ◌∷◌, ◌++◌, length, Bool, true, false, cond, not, ◌&&◌, ◌||◌, refl, sym, ◌∙◌, ap, subst, arith, append_assoc, eqb-true}
+use Rattle.std.specs.Prelude.{◌==◌, Some, None, is_some, flat_map, codes}
 use Rattle.std.specs.List.{list_all}
-use Rattle.std.proofs.lemmas.Bool.{and_from, and_parts, not-true, or_right}
+use Rattle.std.proofs.lemmas.Bool.{and_from, or_right}
 use Rattle.std.proofs.lemmas.Grind.{flat_map-append}
 use Rattle.std.proofs.lemmas.List.{length_push, length-append}
 use Rattle.std.proofs.lemmas.List.Folds.{list_all-append}
-use Rattle.compose_text.specs.Bytes.{is_blank, is_name_byte, front, behind, begins}
-use Rattle.compose_lex.specs.Line.{Reading, blank, include, production, is_name, is_inside, is_comment, quoted, event_tokens, result_tokens, tokens, is_reading}
+use Rattle.compose_text.specs.Bytes.{is_blank, is_name_byte, front, begins}
+use Rattle.compose_lex.specs.Line.{blank, production, is_name, is_comment, quoted, event_tokens}
 use Rattle.compose_lex.specs.Fault.{skip_blanks, inside_from, event_fault}
-use Rattle.compose_lex.specs.LineFault.{AreFirst, AreAll, is_whole, BeginsWith, GoesOn, StopsAt, is_modifier_first, IsBadToken, IsLineFault}
-use Rattle.compose_lex.specs.declared.LexFault.{LexFault}
-use Rattle.compose_lex.specs.declared.LexFault.TheVariants.{BadToken, ModifierList, UnclosedString, NoResult, TooManyKeysyms}
+use Rattle.compose_lex.specs.LineFault.{AreFirst, is_whole, BeginsWith, GoesOn, StopsAt, is_modifier_first, IsLineFault}
+use Rattle.compose_lex.specs.declared.LexFault.TheVariants.{BadToken, ModifierList, UnclosedString}
 use Rattle.compose_lex.proofs.Runs.{parts_of, front_passes}
 use Rattle.compose_lex.proofs.IncludeWord.{behind_stops}
-use Rattle.compose_lex.proofs.Tokens.{RightProduction, right_from, right_tokens, IsToken, AllTokens, next_token, quoted_of}
-use Rattle.compose_lex.proofs.Stages.{Stage, start, word, between, opened, named, colon, text, ended, goes, step, on, walk, walk_append, is_end, is_between, is_colon, behind_events, events_stage, first_steps, all_ends, no_token_at, events_between, behind_a_colon}
+use Rattle.compose_lex.proofs.Productions.{RightProduction, right_from}
+use Rattle.compose_lex.proofs.Tokens.{right_tokens, IsToken, AllTokens, next_token, quoted_of}
+use Rattle.compose_lex.proofs.Stages.{Stage, start, goes, step, on, walk, walk_append, is_end, is_between, is_colon, first_steps, all_ends, no_token_at, events_between, behind_a_colon}
 
 -- ---- lines read so far
 
@@ -136,9 +136,9 @@ bad_token line done rest s r p = record {
     refl,
     record {
       no_modifier_list = λ m. (let e = p.event (events_between done m.0.0 s r.walked m.0.1) in let f = e.0 in let t = m.1 in cc);
-      no_string = λ u. (let e = p.string (first_steps done (quoted u.0) s r.walked u.1) in let t = u.2 in cc);
-      result = λ n. (let e = p.comment (or_right (is_end s) (is_colon s) (behind_a_colon done (flat_map event_tokens n.0) s r.walked n.1)) in let t = n.2 in cc);
-      few = λ m. (let e = p.event (events_between done m.0 s r.walked m.2) in let f = e.1 in let t = m.3 in cc);
+      no_unclosed_string = λ u. (let e = p.string (first_steps done (quoted u.0) s r.walked u.1) in let t = u.2 in cc);
+      no_missing_result = λ n. (let e = p.comment (or_right (is_end s) (is_colon s) (behind_a_colon done (flat_map event_tokens n.0) s r.walked n.1)) in let t = n.2 in cc);
+      no_33rd_event = λ m. (let e = p.event (events_between done m.0 s r.walked m.1) in let f = e.1 in let t = m.3 in cc);
     },
   );
 }

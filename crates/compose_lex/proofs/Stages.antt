@@ -1,14 +1,14 @@
 -- How far the tokens of a right reading have come, and which first bytes the next token may have there.
-use Rattle.std.proofs.Common.{◌≡◌, ℕ, suc, zero, ◌+◌, ◌<◌, ◌≤◌, List, [], ◌∷◌, ◌++◌, length, Bool, true, false, cond, not, ◌&&◌, ◌||◌, refl, sym, ◌∙◌, ap, subst, arith, append_assoc, lt-ltb}
-use Rattle.std.specs.Prelude.{◌==◌, Option, Some, None, is_some, flat_map, nat_lt, nat_le, codes}
+use Rattle.std.proofs.Common.{◌≡◌, ℕ, suc, zero, ◌+◌, ◌<◌, ◌≤◌, List, [], ◌∷◌, ◌++◌, length, Bool, true, false, cond, ◌&&◌, ◌||◌, refl, sym, ◌∙◌, ap, arith, lt-ltb}
+use Rattle.std.specs.Prelude.{◌==◌, Option, Some, None, is_some, flat_map, nat_lt}
 use Rattle.std.specs.Option.{option_map_or}
 use Rattle.std.specs.List.{list_all}
 use Rattle.std.proofs.lemmas.Bool.{and_parts}
 use Rattle.compose_text.specs.Bytes.{is_name_byte, begins}
-use Rattle.compose_lex.specs.Line.{Reading, blank, include, production, is_name, is_inside, is_comment, quoted, event_tokens, result_tokens, tokens, is_reading}
-use Rattle.compose_lex.specs.LineFault.{is_whole, AreFirst, AreAll, GoesOn}
+use Rattle.compose_lex.specs.Line.{Reading, blank, include, production, is_name, event_tokens, result_tokens, tokens, is_reading}
+use Rattle.compose_lex.specs.LineFault.{AreFirst, AreAll, GoesOn}
 use Rattle.compose_lex.proofs.Runs.{name_differs}
-use Rattle.compose_lex.proofs.Tokens.{RightProduction, right_parts}
+use Rattle.compose_lex.proofs.Productions.{right_parts}
 
 -- behind: nothing; the word `include`; so many events, the first `<` of a further one, or its name; the colon; a string; the last token
 pub data Stage : Type 0 where

@@ -1,5 +1,5 @@
 -- What the reader finds wrong in a raw text is what the relation says, and back.
-use Rattle.std.proofs.Common.{◌≡◌, ℕ, suc, zero, ◌+◌, ◌<◌, ◌≤◌, List, [], ◌∷◌, ◌++◌, length, take, drop, Bool, true, false, cond, not, ◌||◌, refl, sym, ◌∙◌, ap, subst, arith, eqb-true, take-append-drop, length-take, append_assoc, lt-ltb, ne_eqb}
+use Rattle.std.proofs.Common.{◌≡◌, ℕ, suc, zero, ◌+◌, ◌<◌, ◌≤◌, List, [], ◌∷◌, ◌++◌, length, take, drop, Bool, true, false, cond, not, refl, sym, ◌∙◌, ap, subst, arith, eqb-true, take-append-drop, length-take, append_assoc, lt-ltb, ne_eqb}
 use Rattle.std.specs.Prelude.{◌==◌, Option, Some, None, Result, Ok, Err, nat_lt}
 use Rattle.std.specs.Str.{IsUtf8, is_utf8}
 use Rattle.std.proofs.lemmas.List.{length-append}

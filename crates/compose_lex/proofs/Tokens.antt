@@ -1,15 +1,16 @@
 -- The tokens that a line begins with are determined by the line.
-use Rattle.std.proofs.Common.{◌≡◌, ℕ, suc, zero, ◌+◌, ◌<◌, ◌≤◌, List, [], ◌∷◌, ◌++◌, length, Bool, true, false, cond, not, ◌&&◌, ◌||◌, refl, sym, ◌∙◌, ap, subst, arith, append_assoc, lt-ltb, ◌⊎◌, inl, inr}
-use Rattle.std.specs.Prelude.{◌==◌, Option, Some, None, is_some, flat_map, nat_lt, nat_le, codes}
+use Rattle.std.proofs.Common.{◌≡◌, ℕ, List, [], ◌∷◌, ◌++◌, length, Bool, true, false, cond, not, ◌&&◌, refl, sym, ◌∙◌, ap, subst, append_assoc, ◌⊎◌, inl, inr}
+use Rattle.std.specs.Prelude.{◌==◌, Option, Some, None, flat_map, nat_lt, codes}
 use Rattle.std.specs.Option.{option_map_or}
 use Rattle.std.specs.List.{list_all}
-use Rattle.std.proofs.lemmas.Bool.{and_parts, and_from, not-true, ltb-true, leb-true, le-leb}
+use Rattle.std.proofs.lemmas.Bool.{and_parts, not-true}
 use Rattle.std.proofs.lemmas.List.{append_cancel_left}
 use Rattle.compose_text.specs.Bytes.{is_blank, is_name_byte, front, behind, begins}
 use Rattle.compose_lex.specs.Line.{Reading, blank, include, production, is_name, is_inside, is_comment, quoted, event_tokens, result_tokens, tokens, is_reading, AreTokens}
 use Rattle.compose_lex.specs.LineFault.{is_whole, BeginsWith}
 use Rattle.compose_lex.specs.Fault.{skip_blanks, inside_from}
 use Rattle.compose_lex.proofs.Runs.{front_all, name_no_blank, name_differs, blank_no_name, comment_first, blanks_first, skip_to}
+use Rattle.compose_lex.proofs.Productions.{right_parts}
 use Rattle.compose_lex.proofs.LineRead.{inside_again, end_first}
 
 -- ---- the token at the front
@@ -64,36 +65,6 @@ name_token (b ∷ name) h =
     ends_there rest w = let n = not-true (is_name (b ∷ name) && begins is_name_byte rest) w in let i : is_name (b ∷ name) ≡ true = h in sym (ap (λ x. x && begins is_name_byte rest) i) ∙ n
 
 -- ---- the tokens of a right reading
-
-pub record RightProduction (events : List (List ℕ)) (raw name : Option (List ℕ)) : Type 0 where
-  pub some : 0 < length events
-  pub few : length events ≤ 32
-  pub names : list_all is_name events ≡ true
-  pub closed : option_map_or is_inside raw true ≡ true
-  pub named : option_map_or is_name name true ≡ true
-  pub result : is_some raw || is_some name ≡ true
-
-pub right_parts : (events : List (List ℕ)) (raw name : Option (List ℕ)) → is_reading (production events raw name) ≡ true → RightProduction events raw name
-right_parts events raw name h =
-    let long = nat_lt 0 (length events) && nat_le (length events) 32 in
-    let names = long && list_all is_name events in
-    let closed = names && option_map_or is_inside raw true in
-    let f = and_parts (closed && option_map_or is_name name true) (is_some raw || is_some name) h in
-    let d = and_parts closed (option_map_or is_name name true) f.0 in
-    let g = and_parts names (option_map_or is_inside raw true) d.0 in
-    let c = and_parts long (list_all is_name events) g.0 in
-    let b = and_parts (nat_lt 0 (length events)) (nat_le (length events) 32) c.0 in
-    record { some = ltb-true 0 (length events) b.0; few = leb-true (length events) 32 b.1; names = c.1; closed = g.1; named = d.1; result = f.1 }
-
-pub right_from : (events : List (List ℕ)) (raw name : Option (List ℕ)) → RightProduction events raw name → is_reading (production events raw name) ≡ true
-right_from events raw name r =
-    let long : nat_lt 0 (length events) && nat_le (length events) 32 ≡ true =
-    and_from (nat_lt 0 (length events)) (nat_le (length events) 32) (lt-ltb 0 (length events) r.some) (le-leb (length events) 32 r.few) in
-    let x = nat_lt 0 (length events) && nat_le (length events) 32 in
-    let y = x && list_all is_name events in
-    let z = y && option_map_or is_inside raw true in
-    and_from (z && option_map_or is_name name true) (is_some raw || is_some name)
-    (and_from z (option_map_or is_name name true) (and_from y (option_map_or is_inside raw true) (and_from x (list_all is_name events) long r.names) r.closed) r.named) r.result
 
 events_tokens : (events ts : List (List ℕ)) → list_all is_name events ≡ true → AllTokens ts → AllTokens (flat_map event_tokens events ++ ts)
 events_tokens [] ts h a = a

@@ -44,41 +44,43 @@ pub record StopsAt (line : List ℕ) (at : ℕ) (done : List (List ℕ)) (rest :
 abbrev pub AreEvents : List (List ℕ) → Type 0
 AreEvents done = (events : List (List ℕ)) × (done ≡ flat_map event_tokens events)
 
+-- `!`, `~` or a letter (codes 33 and 126)
 abbrev pub is_modifier_first : ℕ → Bool
 is_modifier_first b = b == 33 || b == 126 || is_ascii_alphabetic b
 
--- `!`, `~` or a letter in the place of an event
+-- a modifier list in the place of an event
 abbrev pub IsModifierList : List (List ℕ) → List ℕ → Type 0
 IsModifierList done rest = AreEvents done × IsTrue (begins is_modifier_first rest)
 
--- a quote where a string may stand
+-- a quote (code 34) where a string may stand; where the line stops no closing quote follows it
 abbrev pub IsUnclosedString : List (List ℕ) → List ℕ → Type 0
 IsUnclosedString done rest = (raw : List ℕ) × AreFirst (done ++ quoted raw ∷ []) × IsTrue (begins (λ b. b == 34) rest)
 
--- only a comment behind the colon
+-- events and a colon (code 58), and then only a comment
 abbrev pub IsNoResult : List (List ℕ) → List ℕ → Type 0
 IsNoResult done rest = (events : List (List ℕ)) × (done ≡ flat_map event_tokens events ++ (58 ∷ []) ∷ []) × IsTrue (is_comment rest)
 
--- `<` behind 32 events
+-- 32 events, and then `<` (code 60)
 abbrev pub IsTooManyKeysyms : List (List ℕ) → List ℕ → Type 0
-IsTooManyKeysyms done rest = (events : List (List ℕ)) × (length events ≡ 32) × (done ≡ flat_map event_tokens events) × IsTrue (begins (λ b. b == 60) rest)
+IsTooManyKeysyms done rest = (events : List (List ℕ)) × (done ≡ flat_map event_tokens events) × (length events ≡ 32) × IsTrue (begins (λ b. b == 60) rest)
 
 -- none of these
 pub record IsBadToken (done : List (List ℕ)) (rest : List ℕ) : Type 0 where
   pub no_modifier_list : IsModifierList done rest → ⊥
-  pub no_string : IsUnclosedString done rest → ⊥
-  pub result : IsNoResult done rest → ⊥
-  pub few : IsTooManyKeysyms done rest → ⊥
+  pub no_unclosed_string : IsUnclosedString done rest → ⊥
+  pub no_missing_result : IsNoResult done rest → ⊥
+  pub no_33rd_event : IsTooManyKeysyms done rest → ⊥
 
--- the fault where a line stops at this offset
+-- which fault it is where the line stops at this offset
 abbrev pub IsFaultAt : ℕ → List (List ℕ) → List ℕ → LexFault → Type 0
-IsFaultAt n done rest (BadToken at) = (at ≡ n) × IsBadToken done rest
-IsFaultAt n done rest (ModifierList at) = (at ≡ n) × IsModifierList done rest
-IsFaultAt n done rest (UnclosedString at) = (at ≡ n) × IsUnclosedString done rest
-IsFaultAt n done rest NoResult = IsNoResult done rest
-IsFaultAt n done rest TooManyKeysyms = IsTooManyKeysyms done rest
-IsFaultAt n done rest fault = ⊥
+IsFaultAt offset done rest (BadToken at) = (at ≡ offset) × IsBadToken done rest
+IsFaultAt offset done rest (ModifierList at) = (at ≡ offset) × IsModifierList done rest
+IsFaultAt offset done rest (UnclosedString at) = (at ≡ offset) × IsUnclosedString done rest
+IsFaultAt offset done rest NoResult = IsNoResult done rest
+IsFaultAt offset done rest TooManyKeysyms = IsTooManyKeysyms done rest
+IsFaultAt offset done rest fault = ⊥
 
+-- the line stops with this fault
 pub record IsLineFault (line : List ℕ) (fault : LexFault) : Type 0 where
   pub at : ℕ
   pub done : List (List ℕ)

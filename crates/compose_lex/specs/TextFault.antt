@@ -1,4 +1,4 @@
--- The faults of a raw text, said with `Unescapes` and not with the reader: escapes that are right, and then a backslash without one; or bytes that are no text.
+-- The faults of a raw text, said with `Unescapes` and not with the reader: right escapes and then a backslash that begins none, or bytes that are no text.
 use Rattle.std.specs.Prelude.{◌≡◌, ℕ, Bool, not, ◌<◌, ◌≤◌, ◌==◌, ◌||◌, List, [], ◌∷◌, ◌++◌, length, Some, IsTrue}
 use Rattle.std.specs.Str.{IsUtf8}
 use Rattle.compose_text.specs.Bytes.{begins}
@@ -10,7 +10,7 @@ use Rattle.compose_lex.specs.declared.LexFault.TheVariants.{UnknownEscape, BadCo
 abbrev pub BeginsNoPiece : List ℕ → Type 0
 BeginsNoPiece bytes = (first rest : List ℕ) (byte : ℕ) → bytes ≡ first ++ rest → piece first rest ≡ Some byte → ⊥
 
--- the raw text stands for some bytes up to this offset, where a backslash begins no escape; this is what follows the backslash
+-- up to this offset the raw text stands for some bytes; a backslash (code 92) is there that begins no escape, and this is what follows it
 pub record StopsAt (raw : List ℕ) (at : ℕ) (behind : List ℕ) : Type 0 where
   pub before : List ℕ
   pub bytes : List ℕ
@@ -19,10 +19,11 @@ pub record StopsAt (raw : List ℕ) (at : ℕ) (behind : List ℕ) : Type 0 wher
   pub right : Unescapes before bytes
   pub none : BeginsNoPiece (92 ∷ behind)
 
--- `x`, `X` or an octal digit begins a code
+-- `x`, `X` (codes 120 and 88) or an octal digit
 abbrev pub is_code_first : ℕ → Bool
 is_code_first b = b == 120 || b == 88 || is_octal b
 
+-- a code that is no byte, or no code at all; else what is wrong with the bytes that the raw text stands for
 abbrev pub IsTextFault : List ℕ → LexFault → Type 0
 IsTextFault raw (BadCode at) = (behind : List ℕ) × StopsAt raw at behind × IsTrue (begins is_code_first behind)
 IsTextFault raw (UnknownEscape at) = (behind : List ℕ) × StopsAt raw at behind × IsTrue (not (begins is_code_first behind))
