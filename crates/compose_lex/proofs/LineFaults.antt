@@ -189,8 +189,8 @@ same_kind n done rest f g (inr x) (inr y) = x.0 ∙ sym y.0
 same_kind n done rest f g (inl x) (inr y) = absurd (y.1 x.1)
 same_kind n done rest f g (inr x) (inl y) = absurd (x.1 y.1)
 
-one_fault : (line : List ℕ) (f g : LexFault) → IsLineFault line f → IsLineFault line g → f ≡ g
-one_fault line f g x y =
+pub one_line_fault : (line : List ℕ) (f g : LexFault) → IsLineFault line f → IsLineFault line g → f ≡ g
+one_line_fault line f g x y =
     let p = one_place line x.at y.at x.done y.done x.rest y.rest x.stops y.stops in
     let long : length x.rest ≡ length y.rest = ap length p.1 in
     let a = x.stops.offset in
@@ -204,4 +204,4 @@ line_fault_read line f x = go (reading_of line) refl
   where
     go : (r : Result Reading LexFault) → reading_of line ≡ r → r ≡ Err f
     go (Ok said) h = absurd (no_stop line said x.at x.done x.rest (reading_said line said h) x.stops)
-    go (Err g) h = ap (λ e. let r : Result Reading LexFault = Err e in r) (one_fault line g f (line_fault_said line g h) x)
+    go (Err g) h = ap (λ e. let r : Result Reading LexFault = Err e in r) (one_line_fault line g f (line_fault_said line g h) x)

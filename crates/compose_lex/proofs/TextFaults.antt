@@ -222,3 +222,6 @@ text_fault_read raw (UnclosedString at) x = absurd x
 text_fault_read raw NoResult x = absurd x
 text_fault_read raw TooManyKeysyms x = absurd x
 text_fault_read raw NoMemory x = absurd x
+
+pub one_text_fault : (raw : List ℕ) (f g : LexFault) → IsTextFault raw f → IsTextFault raw g → f ≡ g
+one_text_fault raw f g x y = let e = text_fault_read raw f x in let h = text_fault_read raw g y in cc

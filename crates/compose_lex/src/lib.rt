@@ -9,8 +9,9 @@
 //! text. `quote` prints a text in quotes, and what stands between these stands for
 //! the text.
 //!
-//! The grammar is a relation between a line and what it says (`specs/Line.antt`), apart from the reader that gives the
-//! faults (`specs/Fault.antt`); the laws below say that the two agree on every line.
+//! The grammar is a relation between a line and what it says (`specs/Line.antt`), and what is wrong with a line or a raw
+//! text is said by the grammar too (`specs/LineFault.antt`, `specs/TextFault.antt`), apart from the readers that find it
+//! (`specs/Fault.antt`, `specs/Escape.antt`); the laws below say that the two agree on every line and every raw text.
 #![tactic(auto)]
 
 ghost use Rattle.std.specs.Prelude.{◌≡◌, ℕ, nat_lt, List, Ok, Err, IsTrue};
@@ -113,10 +114,12 @@ pub fn law_right_reading()
     ensures { (line : List ℕ) (reading : Reading) → reading_of line ≡ Ok reading → IsLine line reading }
 {}
 
-/// A line is at fault as the grammar says: where a right reading goes no further. Each line has one such fault at most.
+/// What the reader finds wrong in a line is what is wrong by the grammar: the tokens of a right reading go so far and no
+/// further. A line has one fault at most.
 pub fn law_line_fault()
     ensures said { (line : List ℕ) (fault : LexFault) → reading_of line ≡ Err fault → IsLineFault line fault }
     ensures read { (line : List ℕ) (fault : LexFault) → IsLineFault line fault → reading_of line ≡ Err fault }
+    ensures one { (line : List ℕ) (a b : LexFault) → IsLineFault line a → IsLineFault line b → a ≡ b }
 {}
 
 /// A raw text stands for one list of bytes at most; where this is a text, it is what is read.
@@ -126,10 +129,12 @@ pub fn law_one_text()
     ensures said { (raw bytes : List ℕ) → text_of raw ≡ Ok bytes → Unescapes raw bytes × IsText bytes }
 {}
 
-/// A raw text is at fault as its escapes and the bytes that they stand for say. Each raw text has one such fault at most.
+/// What the reader finds wrong in a raw text is what is wrong by its escapes, or with the bytes that it stands for. A raw
+/// text has one fault at most.
 pub fn law_text_fault()
     ensures said { (raw : List ℕ) (fault : LexFault) → text_of raw ≡ Err fault → IsTextFault raw fault }
     ensures read { (raw : List ℕ) (fault : LexFault) → IsTextFault raw fault → text_of raw ≡ Err fault }
+    ensures one { (raw : List ℕ) (a b : LexFault) → IsTextFault raw a → IsTextFault raw b → a ≡ b }
 {}
 
 /// What stands between the quotes of a quoted text stands for the text.

@@ -1,6 +1,6 @@
 //! The tokens of a line, each read from the front of what is left of the line. A function takes the length of the
 //! whole line, for the offset of a fault, and the part that is left.
-ghost use Rattle.std.specs.Prelude.{◌≡◌, ◌-◌, ◌<◌, ℕ, length};
+ghost use Rattle.std.specs.Prelude.{◌≡◌, ◌<◌};
 ghost use Rattle.compose_text.specs.Bytes.{is_name_byte, front, behind};
 ghost use Rattle.compose_lex.specs.Fault as fault;
 ghost use Rattle.compose_lex.specs.Lexed.{Is};
@@ -11,7 +11,7 @@ use compose_text::{blank_len, name_len};
 
 /// Where in the line the rest begins.
 pub(crate) fn offset(line_len: usize, rest: &str) -> usize
-    ensures { result ≡ line_len - length rest.now }
+    ensures { result ≡ fault.offset line_len rest.now }
 {
     line_len.saturating_sub(rest.len())
 }
