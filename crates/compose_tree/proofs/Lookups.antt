@@ -210,9 +210,15 @@ leaf_text_is table i d s h =
 pub text_read : (table : List Definition) (i : ℕ) (t : List ℕ) (d : Definition) → i < length table → option_map (λ (e : Definition). e.text) (slice_get table i) ≡ Some t → t ≡ (get_or table i d).text
 text_read table i t d h e = let f : Some (get_or table i d).text ≡ Some t = ap (option_map (λ (e : Definition). e.text)) (sym (slice_get-get_or table i d h)) ∙ e in cc
 
+pub text_few_at : (table : List Definition) (i : ℕ) (t : List ℕ) → IsSettled table → i < length table → option_map (λ (e : Definition). e.text) (slice_get table i) ≡ Some t → length t ≤ 255
+text_few_at table i t s within e =
+    let d : Definition = record { sequence = []; text = [] } in
+    let few = text_few (get_or table i d) (definition_at table i d s.definitions within) in
+    let n = ap length (text_read table i t d within e) in omega arith
+
 pub text_is : (table : List Definition) (i : ℕ) (t : List ℕ) → IsSettled table → i < length (leaves table) → option_map (λ (e : Definition). e.text) (slice_get table i) ≡ Some t → (leaf_text table i ≡ Some t) × (length t ≤ 255)
 text_is table i t s h e =
     let d : Definition = record { sequence = []; text = [] } in
     let within : i < length table = let n = leaves_count table s in omega arith in
     let is : t ≡ (get_or table i d).text = text_read table i t d within e in
-    (leaf_text_is table i d s within ∙ ap (λ x. Some x) (sym is), (let few = text_few (get_or table i d) (definition_at table i d s.definitions within) in let n : length t ≡ length (get_or table i d).text = ap length is in omega arith))
+    (leaf_text_is table i d s within ∙ ap (λ x. Some x) (sym is), text_few_at table i t s within e)

@@ -1,9 +1,10 @@
--- The packed form of a table: flat arrays of nodes, edges and texts, and what they spell.
+-- The packed form of a table: flat arrays of nodes, edges and texts, and what they spell. Words for private functions.
 use Rattle.std.specs.Prelude.{◌≡◌, ◌<◌, ◌≤◌, IsTrue, ℕ, zero, suc, ◌+◌, ◌-◌, ◌*◌, ◌/◌, ◌%◌, ◌==◌, List, [], ◌∷◌, map, length, take, drop, flat_map, if◌then◌else◌}
 use Rattle.std.specs.List.{list_all}
 use Rattle.std.specs.Str.{is_utf8}
 use Rattle.compose_model.specs.Table.{Definition}
 use Rattle.compose_model.specs.Nodes as model
+use Rattle.compose_read.specs.Read.{max_definitions}
 use Rattle.compose_read.specs.Settle.{IsSettled}
 use Rattle.compose_tree.specs.Targets.{max_nodes}
 use Rattle.compose_tree.specs.declared.edge.Edge.{Edge}
@@ -92,7 +93,7 @@ pub record IsPacked (nodes : List PackedNode) (edges : List PackedEdge) (places 
   pub bytes_are : bytes ≡ pool (texts_of table)
   pub texts_are_utf8 : IsTrue (list_all is_utf8 (texts_of table))
   pub few_nodes : length (model.nodes table) ≤ max_nodes
-  pub few_leaves : length table < 4294967296
+  pub few_leaves : length table ≤ max_definitions
 
 -- the keysyms of some edges
 abbrev pub keys_of : List PackedEdge → List ℕ

@@ -1,4 +1,4 @@
--- The rows of a table: for each node how deep it is, and its edges in order with where they lead.
+-- The rows of a table: for each node how deep it is, and its edges in order with where they lead. Words for private functions.
 use Rattle.std.specs.Prelude.{ℕ, ◌+◌, ◌<◌, ◌==◌, nat_eq, List, [], ◌∷◌, ◌++◌, map, length, get_or, slice_set, if◌then◌else◌}
 use Rattle.std.specs.List.{All, filter}
 use Rattle.compose_model.specs.Table.{Definition}
@@ -16,6 +16,11 @@ pub record NodeRow : Type 0 where
 -- the node or the leaf that a list is
 abbrev pub where_to : List Definition → List ℕ → Target
 where_to table q = if is_node table q then Node (record { 0 = number_of table q }) else Leaf (record { 0 = leaf_number table q })
+
+-- the number of the node or of the leaf
+abbrev pub target_number : Target → ℕ
+target_number (Node n) = n.0
+target_number (Leaf l) = l.0
 
 -- the edge of this keysym at node p
 abbrev pub edge_of : List Definition → List ℕ → ℕ → Edge
@@ -50,6 +55,10 @@ gathered i (depth ∷ depths) edges = record { depth = depth; edges = edges_at i
 -- each edge is at one of so many nodes
 abbrev pub AreAtNodes : ℕ → List NodeEdge → Type 0
 AreAtNodes count edges = All (λ e. e.node < count) edges
+
+-- each leads to a node or a leaf whose number is below this
+abbrev pub HaveNumbersBelow : ℕ → List NodeEdge → Type 0
+HaveNumbersBelow end edges = All (λ e. target_number e.edge.target < end) edges
 
 -- ---- what a sequence adds, which goes on behind the ones before it
 
