@@ -1,4 +1,4 @@
--- Rows in flat arrays: all keysyms one behind another, all texts one behind another, and where each row's stand.
+-- Rows in flat arrays: all keysyms one behind another, all texts one behind another, and where each row's stand. Words for private functions.
 use Rattle.std.specs.Prelude.{ℕ, ◌+◌, ◌*◌, ◌≤◌, List, [], map, length, take, drop}
 use Rattle.std.specs.List.{All}
 use Rattle.std.specs.Str.{IsCharBoundary}

@@ -13,7 +13,6 @@ use Rattle.compose_model.proofs.Definitions.{sequence_few, definition_at}
 use Rattle.compose_read.specs.Settle.{IsSettled}
 use Rattle.compose_tree.specs.declared.edge.Edge.{Edge}
 use Rattle.compose_tree.specs.declared.edge.NodeEdge.{NodeEdge}
-use Rattle.compose_tree.specs.declared.table.Target.{Target}
 use Rattle.compose_tree.specs.declared.table.Target.TheVariants.{Node, Leaf}
 use Rattle.compose_tree.specs.Rows.{NodeRow, rows_of, row_of, row_at, where_to, edge_of, target_number, next_target, new_rows, with_edge, path_of, sequence_at, edges_at, gathered, AreAtNodes, HaveNumbersBelow}
 use Rattle.compose_tree.proofs.Gathering.{own_first, other_first, rows_count}
@@ -43,9 +42,9 @@ of_node_and_behind i (e ∷ es) =
     elim (cases_lt e.node i) [
       | inl below ↦ (let own = ap length (other_first i e es (λ at. omega (arith, at, below))) in let here = none_from i e es below in let behind = none_from (i + 1) e es (omega (arith, below)) in omega (arith, rest, own, here, behind))
       | inr from ↦ elim (cases_lt e.node (i + 1)) [
-          | inl at ↦ (let own = ap length (own_first i e es (omega (arith, from, at))) in let here = one_from i e es from in let behind = none_from (i + 1) e es at in omega (arith, rest, own, here, behind))
-          | inr later ↦ (let own = ap length (other_first i e es (λ at. omega (arith, at, later))) in let here = one_from i e es from in let behind = one_from (i + 1) e es later in omega (arith, rest, own, here, behind))
-        ]
+        | inl at ↦ (let own = ap length (own_first i e es (omega (arith, from, at))) in let here = one_from i e es from in let behind = none_from (i + 1) e es at in omega (arith, rest, own, here, behind))
+        | inr later ↦ (let own = ap length (other_first i e es (λ at. omega (arith, at, later))) in let here = one_from i e es from in let behind = one_from (i + 1) e es later in omega (arith, rest, own, here, behind))
+      ]
     ]
 
 pub all_from : (es : List NodeEdge) → edges_from 0 es ≡ length es
@@ -168,7 +167,7 @@ numbers_few table ds es end n l at_nodes is k d h =
     let listed : node < length (nodes table) = omega (arith, there, counted, rows, all) in
     let p = get_or (nodes table) node [] in
     let own : edges_at node es ≡ map (edge_of table p) (edges table p) =
-        ap (λ m. edges_at m es) (sym (zero-add node)) ∙ sym (row_gathered 0 node ds es none there) ∙ ap (λ rows. (get_or rows node none).edges) is
-        ∙ ap (λ (row : NodeRow). row.edges) (get_or-map (row_of table) (nodes table) node [] none listed) in
+    ap (λ m. edges_at m es) (sym (zero-add node)) ∙ sym (row_gathered 0 node ds es none there) ∙ ap (λ rows. (get_or rows node none).edges) is
+    ∙ ap (λ (row : NodeRow). row.edges) (get_or-map (row_of table) (nodes table) node [] none listed) in
     let P = λ (e : Edge). target_number e.target < end in
     known_at P node es (subst (All P) (sym own) (All-map P (edge_of table p) (edges table p) (λ _ key _. where_few table (p ++ get_or (edges table p) _ key ∷ []) end n l))) k d h refl

@@ -1,8 +1,8 @@
 -- What the rows of a settled table say of its nodes, edges and leaves.
-use Rattle.std.proofs.Common.{◌≡◌, ℕ, zero, suc, ◌<◌, ◌≤◌, List, [], ◌∷◌, ◌++◌, Bool, true, false, cond, not, ◌&&◌, ◌||◌, ◌⊎◌, length, map, get_or, refl, sym, ◌∙◌, ap, arith, inl, inr, eqb-true, eq-eqb, nat_cmp, ltb-true, leb-true}
-use Rattle.std.specs.Prelude.{◌==◌, nat_lt, nat_le, nat_eq, Option, Some, None, is_some, option_map, slice_get}
+use Rattle.std.proofs.Common.{◌≡◌, ℕ, zero, suc, ◌<◌, ◌≤◌, List, [], ◌∷◌, ◌++◌, Bool, true, false, cond, not, ◌&&◌, ◌||◌, ◌⊎◌, length, map, get_or, refl, sym, ◌∙◌, ap, arith, inl, inr, eqb-true, eq-eqb, nat_cmp, leb-true}
+use Rattle.std.specs.Prelude.{◌==◌, nat_eq, Option, Some, None, is_some, option_map, slice_get}
 use Rattle.std.specs.Option.{option_or}
-use Rattle.std.specs.List.{list_any, list_all, find}
+use Rattle.std.specs.List.{list_any, find}
 use Rattle.std.specs.Cmp.Lexicographic.{slice_cmp}
 use Rattle.std.proofs.lemmas.Cmp.{nat_list_cmp_total}
 use Rattle.std.proofs.lemmas.Bool.{and_parts, or_cases, cases_Bool}

@@ -87,15 +87,16 @@ with_edge rows i edge = slice_set rows i (record { depth = (row_at rows i).depth
 abbrev pub sequence_at : List Definition → ℕ → List ℕ
 sequence_at table i = (get_or table i (record { sequence = []; text = [] })).sequence
 
--- the last sequence; where there is none, a list with the root alone before it
+-- the keysyms of the last sequence; none where there is none
 abbrev pub last_sequence : List Definition → List ℕ
-last_sequence [] = 0 ∷ []
+last_sequence [] = []
 last_sequence (d ∷ []) = d.sequence
 last_sequence (d ∷ e ∷ table) = last_sequence (e ∷ table)
 
--- the numbers of the nodes on the way to it, from the root on
+-- the numbers of the nodes on the way to it, from the root on; the root alone where there is none
 abbrev pub path_of : List Definition → List ℕ
-path_of table = map (number_of table) (proper_prefixes (last_sequence table))
+path_of [] = 0 ∷ []
+path_of (d ∷ table) = map (number_of (d ∷ table)) (proper_prefixes (last_sequence (d ∷ table)))
 
 -- how many keysyms two lists have in common at their front
 abbrev pub shared : List ℕ → List ℕ → ℕ
@@ -105,8 +106,7 @@ shared (j ∷ s) (k ∷ t) = if j == k then 1 + shared s t else 0
 
 -- how many of the keysyms of s lead along the last sequence
 abbrev pub shared_with_last : List Definition → List ℕ → ℕ
-shared_with_last [] s = 0
-shared_with_last (d ∷ table) s = shared (last_sequence (d ∷ table)) s
+shared_with_last table s = shared (last_sequence table) s
 
 -- so many numbers from this one on
 abbrev pub counted : ℕ → List ℕ → List ℕ

@@ -1,4 +1,4 @@
-use Rattle.std.proofs.Common.{◌≡◌, ◌+◌, ◌<◌, length, refl, arith, string_bytes}
+use Rattle.std.proofs.Common.{◌+◌, ◌<◌, length, refl, arith, string_bytes}
 use Rattle.compose_tree.specs.Packed.{packed_places, pool, texts_of}
 use Rattle.compose_tree.proofs.PackedLookups.{texts_on, places_step, pool_step, utf8_step}
 use Rattle.compose_tree.proofs.Lookups.{text_few_at}
