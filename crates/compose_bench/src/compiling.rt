@@ -111,7 +111,7 @@ fn print_counts(rt: &HostRuntime, table: &PackedTable) -> Result<(), Failure> {
         &[
             ("nodes", u64::from(table.node_count())),
             ("edges", count_edges(table)),
-            ("root edges", u64::from(table.edge_count(NodeId(0)))),
+            ("root edges", u64::from(table.edge_count(NodeId::ROOT))),
             ("sequences", u64::from(table.leaf_count())),
             ("text bytes", count_text_bytes(table)),
         ],

@@ -1,10 +1,11 @@
 -- The words of bytes are the first word and those behind it.
-use Rattle.std.proofs.Common.{◌≡◌, ℕ, zero, suc, ◌+◌, ◌<◌, List, [], ◌∷◌, length, get_or, drop, take, map, Bool, true, false, refl, sym, ◌∙◌, ap, arith, eq-eqb}
+use Rattle.std.proofs.Common.{◌≡◌, ℕ, zero, suc, ◌+◌, ◌<◌, List, [], ◌∷◌, length, get_or, drop, take, map, Bool, true, false, cond, refl, sym, ◌∙◌, ap, arith, eq-eqb}
 use Rattle.std.specs.Prelude.{◌==◌, ◌||◌, nat_lt, filter}
 use Rattle.std.specs.List.{position_or_len}
 use Rattle.std.proofs.lemmas.Bool.{ne_eqb, lt-ltb, false≢true}
 use Rattle.compose_text.specs.Lines.{divide}
-use Rattle.compose_cert.specs.Repertoire.{plain_blank, is_blank, words_in, before_comment}
+use Rattle.compose_text.specs.Bytes.{is_blank}
+use Rattle.compose_cert.specs.Repertoire.{plain_blank, words_in, before_comment}
 
 -- ---- comments
 
@@ -26,11 +27,11 @@ comment_unfound (b ∷ line) n = ap (λ bs. b ∷ bs) (comment_unfound line (λ 
 
 -- what is no blank stands for itself
 plain : (b : ℕ) → is_blank b ≡ false → (plain_blank b ≡ b) × ((b == 32) ≡ false)
-plain b h = go (b == 9 || b == 13) refl
+plain b h = (ap (λ t. cond t 32 b) h, go (b == 32) (b == 9) (b == 13) h)
   where
-    go : (t : Bool) → (b == 9 || b == 13) ≡ t → (plain_blank b ≡ b) × ((b == 32) ≡ false)
-    go true e = let blank : is_blank b ≡ true = rw e refl in absurd (false≢true (sym h ∙ blank))
-    go false e = let same : plain_blank b ≡ b = rw e refl in (same, ap (λ x. x == 32) (sym same) ∙ h)
+    go : (s t u : Bool) → s || t || u ≡ false → s ≡ false
+    go true t u e = e
+    go false t u e = refl
 
 parts_found : (bytes : List ℕ) (i : ℕ) → i < length bytes → is_blank (get_or bytes i 0) ≡ true → ((k : ℕ) → k < i → is_blank (get_or bytes k 0) ≡ false)
     → divide 32 (map plain_blank bytes) ≡ take i bytes ∷ divide 32 (map plain_blank (drop (suc i) bytes))

@@ -1,4 +1,4 @@
--- Numbers as a certificate writes them.
+-- Numbers as a certificate writes them. Words for private functions.
 use Rattle.std.specs.Prelude.{◌≡◌, ℕ, Bool, true, false, ◌||◌, ◌≤◌, ◌-◌, ◌++◌, length, replicate, List, Option, Some, None}
 use Rattle.std.specs.Fmt.{digits}
 use Rattle.compose_text.specs.Numbers.{is_between, is_hexadecimal_digit}

@@ -4,6 +4,7 @@ use Rattle.std.specs.Option.{option_map}
 use Rattle.std.specs.Str.{is_utf8}
 use Rattle.std.specs.Str.Parse.{digits_value}
 use Rattle.std.specs.List.{list_all, starts_with, before_first}
+use Rattle.compose_text.specs.Bytes.{is_blank}
 use Rattle.compose_text.specs.Numbers.{is_hexadecimal}
 use Rattle.keysym_core.specs.Names.{number_form}
 use Rattle.compose_text.specs.Lines.{divide, lines_of}
@@ -19,12 +20,9 @@ max_entries = 65536
 
 -- ---- a line
 
--- tabs and carriage returns (codes 9 and 13) are blanks like others
+-- tabs and carriage returns are spaces (code 32), as other blanks are
 abbrev pub plain_blank : ℕ → ℕ
-plain_blank b = if b == 9 || b == 13 then 32 else b
-
-abbrev pub is_blank : ℕ → Bool
-is_blank b = plain_blank b == 32
+plain_blank b = if is_blank b then 32 else b
 
 -- what stands before a comment (code 35)
 abbrev pub before_comment : List ℕ → List ℕ

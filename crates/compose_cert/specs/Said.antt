@@ -1,4 +1,4 @@
--- What a step of a reader gives, unless memory ran out.
+-- What a step of a reader gives, unless memory ran out. Words for private functions.
 use Rattle.std.specs.Prelude.{◌≡◌, ◌≢◌, ℕ, List, ◌++◌, Result, Ok, Err, MatchResult}
 use Rattle.compose_cert.specs.declared.CertFault.{CertFault}
 use Rattle.compose_cert.specs.declared.CertFault.TheVariants.{NoMemory}

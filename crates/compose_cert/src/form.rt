@@ -1,5 +1,6 @@
 //! The words of a repertoire's lines.
 ghost use Rattle.std.specs.Prelude.{◌≡◌, ◌<◌, ◌∷◌, [], length, false, slice_index, MatchOption};
+ghost use Rattle.compose_text.specs.Bytes.{is_blank};
 ghost use Rattle.keysym_core.specs.Names as names;
 ghost use Rattle.compose_cert.specs.Repertoire as repertoire;
 
@@ -51,7 +52,7 @@ pub fn first_word(bytes: &[u8]) -> Option<(&[u8], &[u8])>
 /// The bytes from the first one that is no blank.
 fn without_blanks(bytes: &[u8]) -> &[u8]
     ensures same { repertoire.words_in result.now ≡ repertoire.words_in bytes.now }
-    ensures first { 0 < length result.now → repertoire.is_blank (slice_index result.now 0) ≡ false }
+    ensures first { 0 < length result.now → is_blank (slice_index result.now 0) ≡ false }
 {
     for (index, byte) in bytes.iter().enumerate() {
         if !is_blank(*byte) {
@@ -64,7 +65,7 @@ fn without_blanks(bytes: &[u8]) -> &[u8]
 /// The word that the bytes begin with, and what follows the blank that ends it.
 fn split_at_blank(bytes: &[u8]) -> (&[u8], &[u8])
     requires some { 0 < length bytes.now }
-    requires first { repertoire.is_blank (slice_index bytes.now 0) ≡ false }
+    requires first { is_blank (slice_index bytes.now 0) ≡ false }
     ensures { repertoire.words_in bytes.now ≡ result.0.now ∷ repertoire.words_in result.1.now }
 {
     for (index, byte) in bytes.iter().enumerate() {
@@ -75,8 +76,9 @@ fn split_at_blank(bytes: &[u8]) -> (&[u8], &[u8])
     (bytes, &[])
 }
 
+/// Whether the byte is a space, a tab or a carriage return.
 fn is_blank(byte: u8) -> bool
-    ensures { result ≡ repertoire.is_blank byte }
+    ensures { result ≡ is_blank byte }
 {
     matches!(byte, b' ' | b'\t' | b'\r')
 }

@@ -2,6 +2,7 @@
 ghost use Rattle.std.specs.Prelude.{◌≡◌, ◌≢◌, ◌+◌, ◌<◌, ◌≤◌, ◌++◌, ◌∷◌, [], ℕ, List, Ok, Err, length, IfOk, IfErr, ◌^◌};
 ghost use Rattle.compose_text.specs.Lines.{divide};
 ghost use Rattle.compose_cert.specs.Said.{Says};
+ghost use Rattle.compose_cert.specs.Spelling.{max_count};
 ghost use Rattle.compose_cert.specs.Reading as reading;
 
 use crate::CertFault;
@@ -41,7 +42,7 @@ pub fn count_at<'a>(
     line: usize,
 ) -> Result<(usize, &'a [u8]), CertFault>
     ensures says { (name : List ℕ) → word.now ≡ name ++ 32 ∷ [] → Says (λ x. (x.0, divide 10 x.1.now)) result (reading.count_at name line (divide 10 bytes.now)) }
-    ensures few { IfOk result (λ x. x.0 ≤ 1048576) }
+    ensures few { IfOk result (λ x. x.0 ≤ max_count) }
     ensures no_memory { IfErr result (λ fault. fault ≢ CertFault.NoMemory) }
 {
     let (count, rest) = number_at(bytes, word, line)?;

@@ -13,9 +13,6 @@ use compose_fresh::{CheckFault, is_among};
 use compose_tree::{ComposeTable, NodeId, Target};
 use keysym_core::{Keysym, Names};
 
-/// The root of every table.
-const ROOT: NodeId = NodeId(0);
-
 /// The first keysym that begins a sequence in the new table alone, is not fresh, and does not type itself.
 /// O(edges of the new root × (log edges of the old root + log fresh)).
 pub(crate) fn check_starts<T: ComposeTable, U: ComposeTable>(
@@ -28,8 +25,8 @@ pub(crate) fn check_starts<T: ComposeTable, U: ComposeTable>(
     requires prefix_free { IsTrue (is_prefix_free (U.definitions new.now)) }
     ensures { result ≡ first_unmet (start_demands names.now fresh.now (T.definitions old.now) (U.definitions new.now)) }
 {
-    for index in 0..new.edge_count(ROOT) {
-        let (keysym, target) = new.edge(ROOT, index);
+    for index in 0..new.edge_count(NodeId::ROOT) {
+        let (keysym, target) = new.edge(NodeId::ROOT, index);
         if !is_kept(old, new, names, fresh, keysym, target) {
             return Some(CheckFault::NewStart { keysym });
         }
@@ -58,7 +55,7 @@ fn is_kept<T: ComposeTable, U: ComposeTable>(
 fn begins<T: ComposeTable>(table: &T, keysym: Keysym) -> bool
     ensures { result ≡ has_edge (T.definitions table.now) [] keysym }
 {
-    table.step(ROOT, keysym).is_some()
+    table.step(NodeId::ROOT, keysym).is_some()
 }
 
 /// Whether the keysym, which leads there from the root, is a whole sequence and gives its own text.

@@ -11,7 +11,7 @@ use Rattle.std.specs.Prelude.{Some, None, Ok}
 use Rattle.compose_wire.specs.Replies.{SaysAnswer, SaysReply}
 use Rattle.compose_wire.specs.declared.reply.Answer.{Answer as AnswerGiven}
 use Rattle.compose_client.specs.Replies.{ReplyFits, BeginsWithReply, HasBadPayload, AnswerFits}
-use Rattle.compose_client.specs.Giving.{answer_at, reply_at, SizesSo, ReadsAnswer, GivesOut}
+use Rattle.compose_client.specs.Giving.{answer_at, reply_at, IsSize, ReadsAnswer, GivesOut}
 use Rattle.compose_client.proofs.OneReply.{answer_again, length_again}
 
 -- the reply that the bytes begin with is read from them
@@ -78,7 +78,7 @@ session_small h f session reads =
     omega arith
 
 -- where the head of a frame says that so many bytes of payload stand, and they do
-module _ (h : List ℕ) (n : ℕ) (sized : SizesSo (Ok (Some n)) h) where
+module _ (h : List ℕ) (n : ℕ) (sized : IsSize (Ok (Some n)) h) where
   front_said : (BeginsWithReply h) → reply_bytes (reply_at h) ≡ take (9 + n) h
   front_said b = (is_read h b).front ∙ ap (λ m. take (9 + m) h) (sym sized.1)
 

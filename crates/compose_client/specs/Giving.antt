@@ -19,14 +19,18 @@ pub record GivesOut (reply : Reply) (held held' : List ℕ) : Type 0 where
   pub fits : ReplyFits value
   pub bytes : held ≡ reply_bytes value ++ held'
 
--- what is given out of the held bytes, and what is held after that
-abbrev pub GivesSo : Result (Option Reply) ReplyFault → List ℕ → List ℕ → Type 0
-GivesSo (Ok (Some reply)) held held' = GivesOut reply held held'
-GivesSo (Ok None) held held' = IsReplyBegun held × (length held < max_reply) × (held' ≡ held)
-GivesSo (Err UnknownKind) held held' = (head_fault held ≡ Some unknown_kind) × (held' ≡ held)
-GivesSo (Err BadLength) held held' = (head_fault held ≡ Some bad_length) × (held' ≡ held)
-GivesSo (Err BadPayload) held held' = HasBadPayload held × (held' ≡ held)
-GivesSo (Err NoMemory) held held' = ⊥
+-- the fault is that of the held bytes; no reply wants memory
+abbrev pub IsFaultOf : List ℕ → ReplyFault → Type 0
+IsFaultOf held UnknownKind = head_fault held ≡ Some unknown_kind
+IsFaultOf held BadLength = head_fault held ≡ Some bad_length
+IsFaultOf held BadPayload = HasBadPayload held
+IsFaultOf held NoMemory = ⊥
+
+-- what is given out of the held bytes, and what is held after that: the reply whose frame they begin with; else all is held as before
+abbrev pub Gives : Result (Option Reply) ReplyFault → List ℕ → List ℕ → Type 0
+Gives (Ok (Some reply)) held held' = GivesOut reply held held'
+Gives (Ok None) held held' = IsReplyBegun held × (length held < max_reply) × (held' ≡ held)
+Gives (Err fault) held held' = IsFaultOf held fault × (held' ≡ held)
 
 -- what is given out where the bytes begin with a reply's frame: the reply
 abbrev pub GivesReply : ReplyValue → List ℕ → Result (Option Reply) ReplyFault → List ℕ → Type 0
@@ -38,7 +42,7 @@ abbrev pub reply_fault : Fault → ReplyFault
 reply_fault unknown_kind = UnknownKind
 reply_fault _ = BadLength
 
--- ---- the parts
+-- ---- the parts: words for private functions
 
 -- the status of a byte
 abbrev pub status_at : ℕ → Status
@@ -81,19 +85,14 @@ ReadsAnswer (Some answer) kind bytes = SaysAnswer answer (answer_at kind bytes) 
 ReadsAnswer None kind bytes = (v : AnswerValue) → AnswerFits v → answer_kind v ≡ kind → answer_payload v ≡ bytes → ⊥
 
 -- the length of the payload, where a whole frame stands
-abbrev pub SizesSo : Result (Option ℕ) ReplyFault → List ℕ → Type 0
-SizesSo (Ok (Some size)) held = (head_fault held ≡ None) × (size ≡ size_said held) × (9 + size ≤ length held) × HasLength (slice_index held 0) size
-SizesSo (Ok None) held = IsReplyBegun held × (length held < max_reply)
-SizesSo (Err UnknownKind) held = head_fault held ≡ Some unknown_kind
-SizesSo (Err BadLength) held = head_fault held ≡ Some bad_length
-SizesSo (Err BadPayload) held = ⊥
-SizesSo (Err NoMemory) held = ⊥
+abbrev pub IsSize : Result (Option ℕ) ReplyFault → List ℕ → Type 0
+IsSize (Ok (Some size)) held = (head_fault held ≡ None) × (size ≡ size_said held) × (9 + size ≤ length held) × HasLength (slice_index held 0) size
+IsSize (Ok None) held = IsReplyBegun held × (length held < max_reply)
+IsSize (Err BadPayload) held = ⊥
+IsSize (Err fault) held = IsFaultOf held fault
 
 -- the first reply of the held bytes, and how many bytes its frame has
-abbrev pub FirstSo : Result (Option (Reply × ℕ)) ReplyFault → List ℕ → Type 0
-FirstSo (Ok (Some first)) held = GivesOut first.0 held (drop first.1 held) × (first.1 ≤ length held)
-FirstSo (Ok None) held = IsReplyBegun held × (length held < max_reply)
-FirstSo (Err UnknownKind) held = head_fault held ≡ Some unknown_kind
-FirstSo (Err BadLength) held = head_fault held ≡ Some bad_length
-FirstSo (Err BadPayload) held = HasBadPayload held
-FirstSo (Err NoMemory) held = ⊥
+abbrev pub IsFirst : Result (Option (Reply × ℕ)) ReplyFault → List ℕ → Type 0
+IsFirst (Ok (Some first)) held = GivesOut first.0 held (drop first.1 held) × (first.1 ≤ length held)
+IsFirst (Ok None) held = IsReplyBegun held × (length held < max_reply)
+IsFirst (Err fault) held = IsFaultOf held fault

@@ -3,7 +3,7 @@ ghost use Rattle.std.specs.Prelude.{◌≡◌, ◌+◌, ◌≤◌, ◌++◌, ℕ
 ghost use Rattle.compose_wire.specs.Messages as words;
 ghost use Rattle.compose_wire.specs.Frames.{Fault, reply_bytes};
 ghost use Rattle.compose_client.specs.Replies.{ReplyFits, head_fault, HasBadPayload, IsReplyBegun};
-ghost use Rattle.compose_client.specs.Giving.{GivesSo, GivesReply, reply_fault};
+ghost use Rattle.compose_client.specs.Giving.{Gives, GivesReply, reply_fault};
 
 use crate::fault::ReplyFault;
 use crate::reply::first_reply;
@@ -67,7 +67,7 @@ impl ReplyFeeder {
     /// answers the same; no reply's frame can come of these bytes, whatever follows. Takes no memory; O(1) on the average, a frame
     /// having at most 266 bytes.
     pub fn next_reply(&mut self) -> Result<Option<Reply>, ReplyFault>
-        ensures so { GivesSo result self.old self.new }
+        ensures so { Gives result self.old self.new }
         ensures reply { (r : words.Reply) (more : List ℕ) → ReplyFits r → self.old ≡ reply_bytes r ++ more → GivesReply r more result self.new }
         ensures fault { (fault : Fault) → head_fault self.old ≡ Some fault → result ≡ Err (reply_fault fault) }
         ensures bad_payload { HasBadPayload self.old → result ≡ Err ReplyFault.BadPayload }
@@ -78,7 +78,7 @@ impl ReplyFeeder {
 
     /// Takes the frame away that the held bytes begin with.
     fn take_first(&mut self) -> Result<Option<Reply>, ReplyFault>
-        ensures { GivesSo result self.old self.new }
+        ensures { Gives result self.old self.new }
     {
         let Some((reply, size)) = first_reply(&self.buffer[self.start..])? else {
             return Ok(None);

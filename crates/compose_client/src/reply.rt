@@ -4,7 +4,7 @@ ghost use Rattle.compose_wire.specs.Messages as words;
 ghost use Rattle.compose_wire.specs.Frames.{reply_bytes};
 ghost use Rattle.compose_wire.specs.Replies.{SaysReply};
 ghost use Rattle.compose_client.specs.Replies as replies;
-ghost use Rattle.compose_client.specs.Giving.{HasLength, SizesSo, FirstSo};
+ghost use Rattle.compose_client.specs.Giving.{HasLength, IsSize, IsFirst};
 
 use crate::answer::read_answer;
 use crate::fault::ReplyFault;
@@ -37,7 +37,7 @@ fn is_reply_length(kind: u8, size: u32) -> bool
 ///
 /// None where less stands; an unknown kind is a fault as soon as it stands, and a wrong length as soon as the head does. O(1).
 fn payload_size(held: &[u8]) -> Result<Option<usize>, ReplyFault>
-    ensures { SizesSo result held.now }
+    ensures { IsSize result held.now }
 {
     let Some(&kind) = held.first() else {
         return Ok(None);
@@ -71,7 +71,7 @@ fn is_frame_of(bytes: &[u8], reply: &Reply) -> bool
 ///
 /// What was read is written again, and given out only where these are the bytes that stand. Takes no memory; at most 266 bytes are read.
 pub(crate) fn first_reply(held: &[u8]) -> Result<Option<(Reply, usize)>, ReplyFault>
-    ensures { FirstSo result held.now }
+    ensures { IsFirst result held.now }
 {
     let Some(size) = payload_size(held)? else {
         return Ok(None);

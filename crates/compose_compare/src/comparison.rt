@@ -7,9 +7,9 @@ ghost use Rattle.compose_model.specs.Certificate.{AreFresh, keys_rise};
 ghost use Rattle.compose_compare.specs.Change.{is_harmless, old_changes, new_changes};
 ghost use Rattle.compose_compare.specs.Comparison.{is_all_harmless};
 
-use crate::passes::{ROOT, visit_new, visit_old};
+use crate::passes::{visit_new, visit_old};
 use crate::{Change, law_changes};
-use compose_tree::ComposeTable;
+use compose_tree::{ComposeTable, NodeId};
 use keysym_core::{Keysym, Names};
 use std::alloc::{AllocError, Global};
 use std::marker::Model;
@@ -130,7 +130,7 @@ fn all_old<T: ComposeTable, U: ComposeTable>(
     let _ = new.node_count();
     let mut changes = Vec::new(alloc);
     changes.resize(old.leaf_count() as usize, Change::Removed)?;
-    visit_old(old, new, names, ROOT, Some(ROOT), Some(ROOT), &mut changes);
+    visit_old(old, new, names, NodeId::ROOT, Some(NodeId::ROOT), Some(NodeId::ROOT), &mut changes);
     Ok(changes)
 }
 
@@ -155,8 +155,8 @@ fn all_new<T: ComposeTable, U: ComposeTable>(
         new,
         names,
         fresh,
-        ROOT,
-        Some(ROOT),
+        NodeId::ROOT,
+        Some(NodeId::ROOT),
         false,
         &mut changes,
     );

@@ -17,9 +17,6 @@ use compose_tree::{ComposeTable, NodeId, Target};
 use compose_walk::{difference, key_step};
 use keysym_core::{Keysym, Names};
 
-/// The root of every table.
-pub const ROOT: NodeId = NodeId(0);
-
 /// Writes what happens to each sequence of the old table that goes on from the node. `stand` is the node at which the new table
 /// stands after the node's keys, if it agreed along them, and `same` its node of the same keys. O(edges from the node on × log
 /// edges).
@@ -191,7 +188,7 @@ fn still_anew<T: ComposeTable>(
     requires { IsTrue (keys_rise fresh.now) }
     ensures { result ≡ (if node.0 == 0 then not (has_edge (T.definitions old.now) [] keysym) && not (has_key fresh.now keysym) else anew) }
 {
-    if node == ROOT {
+    if node == NodeId::ROOT {
         return is_unknown(old, fresh, keysym);
     }
     anew
@@ -202,7 +199,7 @@ fn is_unknown<T: ComposeTable>(old: &T, fresh: &[Keysym], keysym: Keysym) -> boo
     requires { IsTrue (keys_rise fresh.now) }
     ensures { result ≡ (not (has_edge (T.definitions old.now) [] keysym) && not (has_key fresh.now keysym)) }
 {
-    if old.step(ROOT, keysym).is_some() {
+    if old.step(NodeId::ROOT, keysym).is_some() {
         return false;
     }
     !is_among(fresh, keysym)
@@ -213,7 +210,7 @@ fn is_unknown<T: ComposeTable>(old: &T, fresh: &[Keysym], keysym: Keysym) -> boo
 fn is_start(names: &Names, node: NodeId, keysym: Keysym, text: &str, begins: bool) -> bool
     ensures { result ≡ (begins && not (node.0 == 0 && same (model.text names.now keysym) text.now)) }
 {
-    if node == ROOT && is_own_text(names, keysym, text) {
+    if node == NodeId::ROOT && is_own_text(names, keysym, text) {
         return false;
     }
     begins

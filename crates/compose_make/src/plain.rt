@@ -10,9 +10,6 @@ use compose_cert::Repertoire;
 use compose_tree::{ComposeTable, NodeId};
 use keysym_core::{Keysym, Names};
 
-/// The root of a table.
-pub const ROOT: NodeId = NodeId(0);
-
 /// The least key of the repertoire that begins no sequence and whose own text is the character. O(log names) for each keysym of
 /// the character.
 pub fn plain_key<U: ComposeTable>(
@@ -46,5 +43,5 @@ fn is_plain_key<U: ComposeTable>(new: &U, repertoire: &Repertoire, keysym: Keysy
     if keysym.is_ignored() {
         return false;
     }
-    new.step(ROOT, keysym).is_none()
+    new.step(NodeId::ROOT, keysym).is_none()
 }

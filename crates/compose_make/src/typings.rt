@@ -6,10 +6,10 @@ ghost use Rattle.compose_make.specs.Found.{IsTypings};
 
 use crate::list::TypingList;
 use crate::pass::visit;
-use crate::plain::{ROOT, plain_key};
+use crate::plain::plain_key;
 use crate::wanted::Wanted;
 use compose_cert::Repertoire;
-use compose_tree::ComposeTable;
+use compose_tree::{ComposeTable, NodeId};
 use compose_walk::MakeFault;
 use keysym_core::Names;
 use std::alloc::Global;
@@ -43,7 +43,7 @@ pub fn find_typings<U: ComposeTable>(
     let _ = new.node_count();
     let _ = repertoire.count();
     let mut rows = wanted_rows(alloc, new, names, repertoire)?;
-    visit(new, repertoire, ROOT, &[], &mut rows);
+    visit(new, repertoire, NodeId::ROOT, &[], &mut rows);
     typings_of(alloc, &rows)
 }
 

@@ -1,17 +1,16 @@
 -- What lines without a fault give, and how reading goes on behind them.
 use Rattle.std.proofs.Common.{◌≡◌, ◌≤◌, ◌+◌, ℕ, List, [], ◌∷◌, ◌++◌, Bool, true, false, cond, ◌&&◌, length, refl, sym, ◌∙◌, ap, ap₂, append_assoc, arith, length-append, nat_le}
-use Rattle.std.specs.Prelude.{Option, Some, None, Result, Ok, Err, is_ok}
-use Rattle.std.specs.Option.{option_map_or}
+use Rattle.std.specs.Prelude.{Option, Some, None, option_to_list, Result, Ok, Err, is_ok}
 use Rattle.std.proofs.lemmas.Bool.{lt-leb}
 use Rattle.std.proofs.lemmas.List.{append-nil}
 use Rattle.keysym_core.specs.Names.{KeysymNames}
 use Rattle.compose_model.specs.Table.{Definition}
 use Rattle.compose_read.specs.Lines.{Source, Visit}
-use Rattle.compose_read.specs.Read.{◌>>=◌, line_gives, put_definition, read_on, max_lines, max_definitions}
+use Rattle.compose_read.specs.Read.{◌>>=◌, line_gives, with_room, read_on, max_lines, max_definitions}
 use Rattle.compose_read.specs.Rows.{Drafted, no_row}
 use Rattle.compose_read.specs.Progress.{front, read_so_far, reading_on}
 use Rattle.compose_read.specs.Kept.{definitions_in, given, are_faultless}
-use Rattle.compose_read.proofs.ReadOn.{definition_read}
+use Rattle.compose_read.proofs.ReadOn.{nothing_read, definition_read}
 use Rattle.compose_read.specs.declared.ReadFault.{ReadFault}
 use Rattle.compose_read.specs.declared.ReadFault.TheVariants as faults
 use Rattle.compose_read.specs.declared.reading.Progress.{Progress}
@@ -26,20 +25,23 @@ module _ (names : KeysymNames) (sources : List Source) where
   module _ (v : Visit) (vs : List Visit) (lines definitions : ℕ) (table : List Definition)
       (others : (n m : ℕ) (t : List Definition) → read_on names sources n m vs ≡ Ok t → (are_faultless names sources vs ≡ true) × (t ≡ given names sources vs)) where
     abbrev goes_on : Option Definition → Result (List Definition) ReadFault
-    goes_on found = option_map_or (λ d. put_definition v definitions d (λ n. read_on names sources (1 + lines) n vs)) found (read_on names sources (1 + lines) definitions vs)
+    goes_on found = read_on names sources (1 + lines) (length (option_to_list found) + definitions) vs >>= (λ t. Ok (option_to_list found ++ t))
 
-    by_room : (d : Definition) (full : Bool) (r : Result (List Definition) ReadFault) → read_on names sources (1 + lines) (1 + definitions) vs ≡ r
-        → cond full (Err (faults.TooManyDefinitions v.source v.line)) (r >>= (λ t. Ok (d ∷ t))) ≡ Ok table → (are_faultless names sources vs ≡ true) × (table ≡ d ∷ given names sources vs)
-    by_room d true r e h = cc
-    by_room d false (Err f) e h = cc
-    by_room d false (Ok t) e h = let o = others (1 + lines) (1 + definitions) t e in (o.0, sym (ap in_ok h) ∙ ap (λ t. d ∷ t) o.1)
+    by_others : (found : Option Definition) (r : Result (List Definition) ReadFault) → read_on names sources (1 + lines) (length (option_to_list found) + definitions) vs ≡ r
+        → (r >>= (λ t. Ok (option_to_list found ++ t))) ≡ Ok table → (are_faultless names sources vs ≡ true) × (table ≡ option_to_list found ++ given names sources vs)
+    by_others found (Err f) e h = cc
+    by_others found (Ok t) e h = let o = others (1 + lines) (length (option_to_list found) + definitions) t e in (o.0, sym (ap in_ok h) ∙ ap (λ t. option_to_list found ++ t) o.1)
 
-    by_line : (many : Bool) (r : Result (Option Definition) ReadFault) → cond many (Err (faults.TooManyLines v.source v.line)) (r >>= goes_on) ≡ Ok table
+    by_room : (d : Definition) (full : Bool) → (cond full (Err (faults.TooManyDefinitions v.source v.line)) (Ok (Some d)) >>= goes_on) ≡ Ok table → (are_faultless names sources vs ≡ true) × (table ≡ d ∷ given names sources vs)
+    by_room d true h = cc
+    by_room d false h = by_others (Some d) (read_on names sources (1 + lines) (1 + definitions) vs) refl h
+
+    by_line : (many : Bool) (r : Result (Option Definition) ReadFault) → (cond many (Err (faults.TooManyLines v.source v.line)) (r >>= with_room v definitions) >>= goes_on) ≡ Ok table
         → (is_ok r && are_faultless names sources vs ≡ true) × (table ≡ definitions_in r ++ given names sources vs)
     by_line true r h = cc
     by_line false (Err e) h = cc
-    by_line false (Ok None) h = others (1 + lines) definitions table h
-    by_line false (Ok (Some d)) h = by_room d (nat_le max_definitions definitions) (read_on names sources (1 + lines) (1 + definitions) vs) refl h
+    by_line false (Ok None) h = by_others None (read_on names sources (1 + lines) (0 + definitions) vs) refl h
+    by_line false (Ok (Some d)) h = by_room d (nat_le max_definitions definitions) h
 
   -- lines that are read to the end have no fault, and what is read is what they give
   pub read_to_end : (vs : List Visit) (lines definitions : ℕ) (table : List Definition) → read_on names sources lines definitions vs ≡ Ok table → (are_faultless names sources vs ≡ true) × (table ≡ given names sources vs)
@@ -58,17 +60,6 @@ module _ (names : KeysymNames) (sources : List Source) where
 
   -- ---- reading on
 
-  -- a line without a fault and without a definition
-  nothing_read : (p : Progress) (v : Visit) (ws : List Visit) → p.lines + 1 ≤ 1000000 → line_gives names sources v ≡ Ok None → reading_on names sources p (v ∷ ws) ≡ reading_on names sources (read_so_far (p.lines + 1) p.draft) ws
-  nothing_read p v ws l h =
-      let one : 1 + p.lines ≡ p.lines + 1 = omega arith in
-      ap (λ b. front p.draft.table (cond b (Err (faults.TooManyLines v.source v.line)) (line_gives names sources v >>= found))) (lt-leb max_lines p.lines (omega (arith, l)))
-      ∙ ap (λ r. front p.draft.table (r >>= found)) h
-      ∙ ap (λ n. front p.draft.table (read_on names sources n (length p.draft.table) ws)) one
-    where
-      found : Option Definition → Result (List Definition) ReadFault
-      found o = option_map_or (λ d. put_definition v (length p.draft.table) d (λ n. read_on names sources (1 + p.lines) n ws)) o (read_on names sources (1 + p.lines) (length p.draft.table) ws)
-
   abbrev at_table : List Visit → ℕ → List Definition → Result (List Definition) ReadFault
   at_table ws lines table = front table (read_on names sources lines (length table) ws)
 
@@ -86,7 +77,7 @@ module _ (names : KeysymNames) (sources : List Source) where
       by_gift others (Err e) h f m t = cc
       by_gift others (Ok None) h f m t =
           let one : p.lines + 1 + length vs ≡ p.lines + length (v ∷ vs) = omega arith in
-          nothing_read p v (vs ++ ws) (omega (arith, l)) h
+          nothing_read names sources p v (vs ++ ws) (omega (arith, l)) h
           ∙ others (read_so_far (p.lines + 1) p.draft) f (omega (arith, l)) m t
           ∙ ap (λ n. at_table ws n after.table) one
       by_gift others (Ok (Some d)) h f m t =

@@ -1,21 +1,22 @@
 -- Rows in flat arrays stay what they are when more keysyms and texts are put behind them, and what is put there is one more row.
-use Rattle.std.proofs.Common.{◌≡◌, ℕ, suc, ◌+◌, ◌-◌, ◌≤◌, List, [], ◌∷◌, ◌++◌, true, length, take, drop, get_or, nat_lt, refl, sym, ◌∙◌, ap, ap₂, subst, arith, inl, inr}
+use Rattle.std.proofs.Common.{◌≡◌, ℕ, suc, ◌+◌, ◌-◌, ◌≤◌, ◌<◌, List, [], ◌∷◌, ◌++◌, true, length, take, drop, get_or, nat_lt, All, refl, sym, ◌∙◌, ap, ap₂, subst, arith, inl, inr}
 use Rattle.std.specs.Prelude.{Result, Ok, Err, OnOk, IsTrue}
 use Rattle.std.specs.Str.{IsUtf8, IsCharBoundary}
 use Rattle.std.proofs.Math.Seq.{take-length}
-use Rattle.std.proofs.Math.ListN.{get_or-append}
-use Rattle.std.proofs.lemmas.List.{drop-append-le, take-append-le, take-append-drop, take-map, drop-map, length-drop, map-append, length-append, append-nil}
+use Rattle.std.proofs.Math.ListN.{get_or-append, drop_of_length-le}
+use Rattle.std.proofs.lemmas.List.{drop-append-le, take-append-le, take-append-drop, take-map, drop-map, length-drop, length-take, length-take-le, map-append, length-map, length-append, append-nil}
 use Rattle.std.proofs.lemmas.List.Elements.{All-push, All-append, All-take, All-drop}
 use Rattle.std.proofs.lemmas.List.Folds.{list_all-append}
 use Rattle.std.proofs.lemmas.Bool.{cases_Bool, and_parts, and_from, ltb-true, ltb-false}
 use Rattle.std.proofs.lemmas.Str.{IsCharBoundary-at_seam, IsCharBoundary-end, IsUtf8-nil}
 use Rattle.compose_model.specs.Table.{Definition, is_definition, is_table}
-use Rattle.compose_model.proofs.Definitions.{sequence_few}
+use Rattle.compose_model.proofs.Definitions.{sequence_few, text_few}
 use Rattle.compose_lex.specs.Escape.{Unescapes, IsText}
 use Rattle.compose_lex.specs.Lexed.{PushGives}
 use Rattle.compose_lex.specs.declared.LexFault.{LexFault}
 use Rattle.compose_lex.specs.declared.LexFault.TheVariants as lex_faults
-use Rattle.compose_read.specs.Rows.{definition_at, rows_of, IsPlaced, ArePlaced, Drafted, drafted, with_row}
+use Rattle.compose_read.specs.Read.{max_definitions}
+use Rattle.compose_read.specs.Rows.{definition_at, rows_of, IsPlaced, ArePlaced, IsBefore, IsBehind, Drafted, drafted, no_row, with_row}
 use Rattle.compose_read.specs.declared.rows.RowPlace.{RowPlace}
 
 -- ---- pieces
@@ -37,6 +38,17 @@ boundary_stays bs text i u h = elim (cases_Bool (nat_lt i (length bs))) [
   | inr e ↦ (let l = ltb-false i (length bs) e in let end : length bs ≡ i = omega (arith, h.0) in
       subst (IsCharBoundary (bs ++ text)) end (IsCharBoundary-at_seam (bs ++ text) bs text refl u))
 ]
+
+-- a boundary of the front
+boundary_before : (bs : List ℕ) (end i : ℕ) → end ≤ length bs → i ≤ end → IsCharBoundary bs i → IsCharBoundary (take end bs) i
+boundary_before bs end i l m h =
+    let n = length-take-le end bs l in (
+      omega arith,
+      λ within a.
+          (let same = get_or-append (take end bs) (drop end bs) 0 i within in
+          let whole = ap (λ (cs : List ℕ). get_or cs i 0) (take-append-drop end bs) in
+          let k = h.1 (omega arith) (omega (arith, same, whole, a)) in omega (arith, same, whole, k)),
+    )
 
 -- ---- rows
 
@@ -61,10 +73,25 @@ module _ (keysyms texts more text : List ℕ) (u : IsUtf8 text) where
   rows_stay [] h = refl
   rows_stay (p ∷ ps) h = ap₂ (λ d ds. d ∷ ds) (row_stays p (h 0 p (omega arith))) (rows_stay ps (λ k d l. h (suc k) d (omega arith)))
 
+-- rows that stand before these places stand in the fronts that end there
+module _ (keysyms texts : List ℕ) (first_keysym first_byte : ℕ) (l : first_keysym ≤ length keysyms) (m : first_byte ≤ length texts) where
+  piece_before : (end a n : ℕ) (xs : List ℕ) → end ≤ length xs → a + n ≤ end → take n (drop a (take end xs)) ≡ take n (drop a xs)
+  piece_before end a n xs within h =
+      sym (piece_stays a n (take end xs) (drop end xs) (let k = length-take-le end xs within in omega arith))
+      ∙ ap (λ (ys : List ℕ). take n (drop a ys)) (take-append-drop end xs)
+
+  pub rows_before : (ps : List RowPlace) → All (IsBefore first_keysym first_byte) ps → rows_of (take first_keysym keysyms) (take first_byte texts) ps ≡ rows_of keysyms texts ps
+  rows_before [] h = refl
+  rows_before (p ∷ ps) h = let here = h 0 p (omega arith) in ap₂ (λ d ds. d ∷ ds)
+      (ap₂ (λ s t. let d : Definition = record { sequence = s; text = t } in d)
+      (piece_before first_keysym p.first_keysym p.keysym_count keysyms l here.0)
+      (piece_before first_byte p.first_byte p.byte_count texts m here.1))
+      (rows_before ps (λ k d n. h (suc k) d (omega arith)))
+
 -- ---- definitions that are being read
 
 abbrev pub IsDrafted : List ℕ → List ℕ → List RowPlace → ℕ → ℕ → Type 0
-IsDrafted keysyms texts places first_keysym first_byte = ArePlaced keysyms texts places × (first_keysym ≤ length keysyms) × IsCharBoundary texts first_byte × IsTrue (is_table (rows_of keysyms texts places))
+IsDrafted keysyms texts places first_keysym first_byte = ArePlaced keysyms texts places × (first_keysym ≤ length keysyms) × IsCharBoundary texts first_byte × IsTrue (is_table (rows_of keysyms texts places)) × IsBehind places first_keysym first_byte
 
 module _ (ks ts : List ℕ) (ps : List RowPlace) (fk fb : ℕ) (is : IsDrafted ks ts ps fk fb) where
   module _ (more text : List ℕ) (u : IsUtf8 text) where
@@ -74,10 +101,42 @@ module _ (ks ts : List ℕ) (ps : List RowPlace) (fk fb : ℕ) (is : IsDrafted k
       (let l = length-append ks more in let k = is.1 in omega arith),
       boundary_stays ts text fb u is.2,
       subst (λ rows. is_table rows ≡ true) (sym (rows_stay ks ts more text u ps is.0)) is.3,
+      is.4,
     )
 
     drafted_grown : drafted (ks ++ more) (ts ++ text) ps fk fb ≡ record { table = rows_of ks ts ps; row = record { sequence = drop fk ks ++ more; text = drop fb ts ++ text } }
     drafted_grown = (λ i. let d : Drafted = record { table = rows_stay ks ts more text u ps is.0 i; row = record { sequence = drop-append-le fk ks more is.1 i; text = drop-append-le fb ts text is.2.0 i } } in d)
+
+  -- without what is being read
+  module _ (front text : List ℕ) (k : front ≡ take fk ks) (t : text ≡ take fb ts) where
+    front_placed : ArePlaced (take fk ks) (take fb ts) ps
+    front_placed i d l =
+        let p = is.0 i d l in let before = is.4.each i d l in let keysyms = length-take-le fk ks is.1 in record {
+          few = p.few;
+          keysyms_within = omega (arith, keysyms, before.0);
+          starts = boundary_before ts fb (get_or ps i d).first_byte is.2.0 (omega (arith, before.1)) p.starts;
+          ends = boundary_before ts fb ((get_or ps i d).first_byte + (get_or ps i d).byte_count) is.2.0 before.1 p.ends;
+        }
+
+    same_rows : rows_of (take fk ks) (take fb ts) ps ≡ rows_of ks ts ps
+    same_rows = rows_before ks ts fk fb is.1 is.2.0 ps is.4.each
+
+    pub begun : IsDrafted front text ps fk fb
+    begun = subst (λ a. IsDrafted a text ps fk fb) (sym k) (subst (λ b. IsDrafted (take fk ks) b ps fk fb) (sym t) (
+      front_placed,
+      (let n = length-take-le fk ks is.1 in omega arith),
+      boundary_before ts fb fb is.2.0 (omega arith) is.2,
+      subst (λ rows. is_table rows ≡ true) (sym same_rows) is.3,
+      is.4,
+    ))
+
+    pub drafted_begun : drafted front text ps fk fb ≡ with_row (drafted ks ts ps fk fb) no_row
+    drafted_begun =
+        ap₂ (λ a b. drafted a b ps fk fb) k t
+        ∙ (λ i. let d : Drafted = record { table = same_rows i; row = record { sequence = none_left fk ks i; text = none_left fb ts i } } in d)
+      where
+        none_left : (n : ℕ) (xs : List ℕ) → drop n (take n xs) ≡ []
+        none_left n xs = drop_of_length-le (take n xs) (let m = length-take n xs in omega arith)
 
   -- with one more keysym
   module _ (new : List ℕ) (k : ℕ) (e : new ≡ ks ++ k ∷ []) where
@@ -133,7 +192,7 @@ module _ (ks ts : List ℕ) (ps : List RowPlace) (fk fb : ℕ) (is : IsDrafted k
         go (Err e) f = tt
 
   -- with some of the places again
-  module _ (first count : ℕ) (qs : List RowPlace) (e : qs ≡ ps ++ take count (drop first ps)) where
+  module _ (first count : ℕ) (room : length (rows_of ks ts ps) + count ≤ max_definitions) (qs : List RowPlace) (e : qs ≡ ps ++ take count (drop first ps)) where
     pub rows_repeated : rows_of ks ts qs ≡ rows_of ks ts ps ++ take count (drop first (rows_of ks ts ps))
     rows_repeated =
         ap (rows_of ks ts) e ∙ map-append (definition_at ks ts) ps (take count (drop first ps))
@@ -148,6 +207,18 @@ module _ (ks ts : List ℕ) (ps : List RowPlace) (fk fb : ℕ) (is : IsDrafted k
         front_of : (rows : List Definition) → is_table rows ≡ true → is_table (take count rows) ≡ true
         front_of rows h = (and_parts (is_table (take count rows)) (is_table (drop count rows)) (sym (list_all-append is_definition (take count rows) (drop count rows)) ∙ ap is_table (take-append-drop count rows) ∙ h)).0
 
+    behind_again : IsBehind qs fk fb
+    behind_again =
+        let all = is.4 in
+        let old = length-map ps (definition_at ks ts) in
+        let many = ap (λ (rs : List RowPlace). length rs) e ∙ length-append ps (take count (drop first ps)) in
+        let more = length-take count (drop first ps) in record {
+          few = omega (arith, room, old, many, more);
+          keysyms = (let n = all.keysyms in omega (arith, n, many));
+          bytes = (let n = all.bytes in omega (arith, n, many));
+          each = subst (All (IsBefore fk fb)) (sym e) (All-append (IsBefore fk fb) ps (take count (drop first ps)) all.each (All-take (IsBefore fk fb) count (drop first ps) (All-drop (IsBefore fk fb) first ps all.each)));
+        }
+
     pub repeated : IsDrafted ks ts qs fk fb
     repeated = (
       subst (ArePlaced ks ts) (sym e) (All-append (IsPlaced ks ts) ps (take count (drop first ps)) is.0 (All-take (IsPlaced ks ts) count (drop first ps) (All-drop (IsPlaced ks ts) first ps is.0))),
@@ -155,6 +226,7 @@ module _ (ks ts : List ℕ) (ps : List RowPlace) (fk fb : ℕ) (is : IsDrafted k
       is.2,
       subst (λ rows. is_table rows ≡ true) (sym rows_repeated)
           (list_all-append is_definition (rows_of ks ts ps) (take count (drop first (rows_of ks ts ps))) ∙ and_from (is_table (rows_of ks ts ps)) (is_table (take count (drop first (rows_of ks ts ps)))) is.3 definitions_again),
+      behind_again,
     )
 
   -- with the place of the one that was read
@@ -174,14 +246,29 @@ module _ (ks ts : List ℕ) (ps : List RowPlace) (fk fb : ℕ) (is : IsDrafted k
       ends = subst (IsCharBoundary ts) (omega arith) (IsCharBoundary-end ts);
     }
 
-    finished : IsDrafted ks ts (ps ++ p ∷ []) fk fb
-    finished = (
-      All-push (IsPlaced ks ts) ps p is.0 there,
-      is.1,
-      is.2,
+    all_there : ArePlaced ks ts (ps ++ p ∷ [])
+    all_there = All-push (IsPlaced ks ts) ps p is.0 there
+
+    finished : length (rows_of ks ts ps) < max_definitions → IsDrafted ks ts (ps ++ p ∷ []) (length ks) (length ts)
+    finished room = (
+      all_there,
+      omega arith,
+      IsCharBoundary-end ts,
       subst (λ rows. is_table rows ≡ true) (sym table_finished)
           (list_all-append is_definition (rows_of ks ts ps) (record { sequence = drop fk ks; text = drop fb ts } ∷ []) ∙ and_from (is_table (rows_of ks ts ps)) (is_table (record { sequence = drop fk ks; text = drop fb ts } ∷ [])) is.3 (and_from (is_definition (record { sequence = drop fk ks; text = drop fb ts })) true definition refl)),
+      (
+          let row : Definition = record { sequence = drop fk ks; text = drop fb ts } in
+          let many = length-append ps (p ∷ []) in let old = length-map ps (definition_at ks ts) in
+          let keysyms = length-drop fk ks in let few = sequence_few row definition in
+          let bytes = length-drop fb ts in let short = text_few row definition in
+          let all = is.4 in record {
+            few = omega (arith, room, many, old);
+            keysyms = (let n = all.keysyms in omega (arith, many, keysyms, few, n));
+            bytes = (let n = all.bytes in omega (arith, many, bytes, short, n));
+            each = λ k d l. let placed = all_there k d l in (placed.keysyms_within, placed.ends.0);
+          }
+          ),
     )
 
-    pub finished_with : (qs : List RowPlace) → qs ≡ ps ++ p ∷ [] → IsDrafted ks ts qs fk fb
-    finished_with qs e = subst (λ ps. IsDrafted ks ts ps fk fb) (sym e) finished
+    pub finished_with : (qs : List RowPlace) → qs ≡ ps ++ p ∷ [] → length (rows_of ks ts ps) < max_definitions → (fk fb : ℕ) → fk ≡ length ks → fb ≡ length ts → IsDrafted ks ts qs fk fb
+    finished_with qs e room fk fb k b = subst (λ ps. IsDrafted ks ts ps fk fb) (sym e) (subst (λ n. IsDrafted ks ts (ps ++ p ∷ []) n fb) (sym k) (subst (IsDrafted ks ts (ps ++ p ∷ []) (length ks)) (sym b) (finished room)))

@@ -1,12 +1,15 @@
 -- Settled rows are definitions, as those that they come from.
-use Rattle.std.proofs.Common.{◌≡◌, ℕ, List, [], ◌∷◌, Bool, true, false, cond, not, filter, map, refl, sym, ◌∙◌, ap, ap₂}
+use Rattle.std.proofs.Common.{◌≡◌, ◌≤◌, ◌+◌, ℕ, length, List, [], ◌∷◌, Bool, true, false, cond, not, filter, map, refl, sym, ◌∙◌, ap, ap₂, Less, Equal, Greater, nat_cmp, arith}
+use Rattle.std.specs.declared.cmp.Ordering.{Ordering}
+use Rattle.std.specs.Cmp.Lexicographic.{slice_cmp}
+use Rattle.std.proofs.lemmas.List.{length-map}
 use Rattle.std.specs.Prelude.{Option, Some, None, Ok, is_some, unwrap_or}
 use Rattle.std.specs.Option.{option_or}
 use Rattle.std.specs.List.{list_any}
 use Rattle.std.proofs.lemmas.Bool.{and_parts, and_from, or_left, or_right}
 use Rattle.std.proofs.lemmas.Option.{same_Some}
 use Rattle.compose_model.specs.Table.{Definition, same, is_sequence, is_extended, text_at, is_definition, is_table, longest}
-use Rattle.compose_model.specs.Nodes.{leaves}
+use Rattle.compose_model.specs.Nodes.{put, put_by, leaves}
 use Rattle.compose_model.specs.declared.Rule.{Rule}
 use Rattle.compose_model.specs.declared.Rule.TheVariants.{Refuse, Longest}
 use Rattle.compose_model.proofs.NodeLemmas.{same_is, same_from}
@@ -59,3 +62,36 @@ settled_table Longest table rows h e =
 
 pub settled_is : (rule : Rule) (table rows : List Definition) → is_table table ≡ true → settled rule table ≡ Ok rows → IsSettled rows
 settled_is rule table rows h e = record { definitions = settled_table rule table rows h e; rise = settled_rises rule table rows e; prefix_free = settled_free rule table rows e }
+
+-- ---- they are no more
+
+few_put : (x : List ℕ) (ys : List (List ℕ)) → length (put (slice_cmp nat_cmp) x ys) ≤ 1 + length ys
+few_put x [] = omega arith
+few_put x (y ∷ ys) = go (slice_cmp nat_cmp x y) (few_put x ys)
+  where
+    go : (r : Ordering) → length (put (slice_cmp nat_cmp) x ys) ≤ 1 + length ys → length (put_by r x y ys (put (slice_cmp nat_cmp) x ys)) ≤ 1 + length (y ∷ ys)
+    go Less h = omega arith
+    go Equal h = omega arith
+    go Greater h = omega arith
+
+few_leaves : (table : List Definition) → length (leaves table) ≤ length table
+few_leaves [] = omega arith
+few_leaves (d ∷ table) = let here = few_put d.sequence (leaves table) in let rest = few_leaves table in omega arith
+
+few_in_order : (table : List Definition) → length (in_order table) ≤ length table
+few_in_order table = let n = length-map (leaves table) (row table) in let m = few_leaves table in omega arith
+
+few_filtered : (p : Definition → Bool) (table : List Definition) → length (filter p table) ≤ length table
+few_filtered p [] = omega arith
+few_filtered p (d ∷ table) = go (p d) (few_filtered p table)
+  where
+    go : (b : Bool) → length (filter p table) ≤ length table → length (cond b (d ∷ filter p table) (filter p table)) ≤ length (d ∷ table)
+    go true h = omega arith
+    go false h = omega arith
+
+pub settled_few : (rule : Rule) (table rows : List Definition) → settled rule table ≡ Ok rows → length rows ≤ length table
+settled_few Refuse table rows e = let same = ap (λ (ds : List Definition). length ds) (kept table rows (overlap table) e).1 in let few = few_in_order table in omega arith
+settled_few Longest table rows e =
+    let same_rows : in_order (longest table) ≡ rows = cc in
+    let same = ap (λ (ds : List Definition). length ds) same_rows in
+    let few = few_in_order (longest table) in let left = few_filtered (λ d. not (is_extended table d.sequence)) table in omega arith

@@ -1,4 +1,4 @@
--- A guess of the order of places: each has a number, which mostly rises with its sequence.
+-- A guess of the order of places: each has a number, which mostly rises with its sequence. Words for private functions.
 use Rattle.std.specs.Prelude.{◌≡◌, ℕ, ◌+◌, ◌-◌, ◌*◌, ◌<◌, min, Bool, List, length, map, slice_index, slice_index_or}
 use Rattle.compose_model.specs.Table.{comes_before}
 use Rattle.compose_read.specs.Rows.{sequence_at}

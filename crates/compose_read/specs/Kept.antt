@@ -1,4 +1,4 @@
--- What is kept of the sources that were read: words for private functions.
+-- What is kept of the sources that were read. Words for private functions.
 use Rattle.std.specs.Prelude.{◌≡◌, ◌≤◌, ◌<◌, ◌+◌, ℕ, Bool, List, [], ◌∷◌, length, take, drop, flat_map, get_or, Option, Some, None, Result, Ok, Err, is_ok, IfSome, IsTrue}
 use Rattle.std.specs.List.{list_all}
 use Rattle.keysym_core.specs.Names.{KeysymNames}

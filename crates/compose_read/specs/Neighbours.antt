@@ -1,4 +1,4 @@
--- Settling rows in rising order, by looking at neighbours.
+-- Settling rows in rising order, by looking at neighbours. Words for private functions.
 use Rattle.std.specs.Prelude.{Bool, true, false, if◌then◌else◌, List, [], ◌∷◌, Result, Ok, Err}
 use Rattle.compose_model.specs.Table.{Definition, same, comes_before, is_proper_prefix}
 use Rattle.compose_model.specs.declared.Rule.{Rule}

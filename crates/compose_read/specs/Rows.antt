@@ -1,8 +1,9 @@
--- Rows in flat arrays: all keysyms one behind another, all texts one behind another, and where each row's stand.
-use Rattle.std.specs.Prelude.{ℕ, ◌+◌, ◌≤◌, List, [], map, length, take, drop}
+-- Rows in flat arrays: all keysyms one behind another, all texts one behind another, and where each row's stand. Words for private functions.
+use Rattle.std.specs.Prelude.{ℕ, ◌+◌, ◌*◌, ◌≤◌, List, [], map, length, take, drop}
 use Rattle.std.specs.List.{All}
 use Rattle.std.specs.Str.{IsCharBoundary}
 use Rattle.compose_model.specs.Table.{Definition}
+use Rattle.compose_read.specs.Read.{max_definitions}
 use Rattle.compose_read.specs.declared.rows.RowPlace.{RowPlace}
 
 abbrev pub sequence_at : List ℕ → RowPlace → List ℕ
@@ -31,6 +32,17 @@ ArePlaced keysyms texts places = All (IsPlaced keysyms texts) places
 pub record Drafted : Type 0 where
   pub table : List Definition
   pub row : Definition
+
+-- a row's keysyms and its text end before these places
+abbrev pub IsBefore : ℕ → ℕ → RowPlace → Type 0
+IsBefore first_keysym first_byte p = (p.first_keysym + p.keysym_count ≤ first_keysym) × (p.first_byte + p.byte_count ≤ first_byte)
+
+-- these places are behind the keysyms and the texts of rows, which are no more than may be, and no further than the longest rows reach
+pub record IsBehind (places : List RowPlace) (first_keysym first_byte : ℕ) : Type 0 where
+  pub few : length places ≤ max_definitions
+  pub keysyms : first_keysym ≤ 32 * length places
+  pub bytes : first_byte ≤ 255 * length places
+  pub each : All (IsBefore first_keysym first_byte) places
 
 -- a definition of which nothing is read yet
 abbrev pub no_row : Definition

@@ -3,39 +3,43 @@ use crate::rows::Rows;
 use keysym_core::Keysym;
 use std::marker::Model;
 
-/// The definitions of a table in reading order, with repeated and overlapping sequences as they were read.
+/// The definitions of a table in reading order, with repeated and overlapping sequences as they were read. They are at most 100,000.
 #[derive(Drop)]
 pub struct Definitions {
     rows: Rows,
 }
 
 impl Model for Definitions {
-    ghost use Rattle.std.specs.Prelude.{List, IsTrue};
+    ghost use Rattle.std.specs.Prelude.{◌≤◌, List, length, IsTrue};
     ghost use Rattle.compose_model.specs.Table.{Definition, is_table};
+    ghost use Rattle.compose_read.specs.Read.{max_definitions};
 
     ghost Value = { List Definition };
 
     ghost view = { λ d. d.rows };
 
-    ghost invariant = { λ d. IsTrue (is_table d.rows) };
+    ghost invariant = { λ d. IsTrue (is_table d.rows) × (length d.rows ≤ max_definitions) };
 }
 
 impl Definitions {
-    ghost use Rattle.std.specs.Prelude.{◌≡◌, ◌<◌, length, Some, slice_get, option_map, IsTrue};
+    ghost use Rattle.std.specs.Prelude.{◌≡◌, ◌<◌, ◌≤◌, length, Some, slice_get, option_map, IsTrue};
     ghost use Rattle.compose_model.specs.Table.{is_table};
+    ghost use Rattle.compose_read.specs.Read.{max_definitions};
 
     /// The definitions of these rows.
     pub(crate) fn from_rows(rows: Rows) -> Definitions
-        requires { IsTrue (is_table rows) }
+        requires table { IsTrue (is_table rows) }
+        requires few { length rows ≤ max_definitions }
         ensures { result ≡ rows }
     {
         Definitions { rows }
     }
 
-    /// How many definitions there are. O(1).
+    /// How many definitions there are, at most 100,000. O(1).
     pub fn len(&self) -> usize
         ensures count { result ≡ length self.now }
         ensures table { IsTrue (is_table self.now) }
+        ensures few { result ≤ max_definitions }
     {
         self.rows.len()
     }
@@ -60,6 +64,7 @@ impl Definitions {
     pub(crate) fn into_rows(self) -> Rows
         ensures same { result ≡ self }
         ensures table { IsTrue (is_table self) }
+        ensures few { length self ≤ max_definitions }
     {
         self.rows
     }

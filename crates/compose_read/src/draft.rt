@@ -1,8 +1,8 @@
 //! Definitions that are being read.
 //!
-//! The keysyms and the text of a definition are put behind those of the others as they are read, so that none is copied. Where it is whole, its place is noted.
+//! The keysyms and the text of a definition are put behind those of the others as they are read, so that none is copied. Where it is whole, its place is noted. At most 100,000 definitions of at most 32 keysyms and 255 bytes fit where each place is a `u32`.
 use crate::definitions::Definitions;
-use crate::rows::{RowPlace, Rows, place_of};
+use crate::rows::{RowPlace, Rows};
 use compose_lex::{LexFault, push_text};
 use keysym_core::Keysym;
 use std::alloc::{AllocError, Global};
@@ -22,20 +22,21 @@ impl Model for Draft {
     ghost use Rattle.std.specs.Prelude.{◌≤◌, length, drop, string_bytes, IsTrue};
     ghost use Rattle.std.specs.Str.{IsCharBoundary};
     ghost use Rattle.compose_model.specs.Table.{is_table};
-    ghost use Rattle.compose_read.specs.Rows.{Drafted, drafted, rows_of, ArePlaced};
+    ghost use Rattle.compose_read.specs.Rows.{Drafted, drafted, rows_of, ArePlaced, IsBehind};
 
     ghost Value = { Drafted };
 
     ghost view = { λ d. drafted d.keysyms.items (string_bytes d.texts) d.places.items d.first_keysym d.first_byte };
 
-    ghost invariant = { λ d. ArePlaced d.keysyms.items (string_bytes d.texts) d.places.items × (d.first_keysym ≤ length d.keysyms.items) × IsCharBoundary (string_bytes d.texts) d.first_byte × IsTrue (is_table (rows_of d.keysyms.items (string_bytes d.texts) d.places.items)) };
+    ghost invariant = { λ d. ArePlaced d.keysyms.items (string_bytes d.texts) d.places.items × (d.first_keysym ≤ length d.keysyms.items) × IsCharBoundary (string_bytes d.texts) d.first_byte × IsTrue (is_table (rows_of d.keysyms.items (string_bytes d.texts) d.places.items)) × IsBehind d.places.items d.first_keysym d.first_byte };
 }
 
 impl Draft {
-    ghost use Rattle.std.specs.Prelude.{◌≡◌, ◌≤◌, ◌+◌, ◌++◌, ℕ, List, [], ◌∷◌, length, take, drop, OnOk, OnErr, IsTrue, encode_utf8};
+    ghost use Rattle.std.specs.Prelude.{◌≡◌, ◌≤◌, ◌<◌, ◌+◌, ◌++◌, ℕ, List, [], ◌∷◌, length, take, drop, OnOk, OnErr, IsTrue, encode_utf8};
     ghost use Rattle.compose_model.specs.Table.{is_definition, is_table};
     ghost use Rattle.compose_lex.specs.Lexed.{PushGives};
     ghost use Rattle.compose_lex.specs.Escape.{text_of, Unescapes, IsText};
+    ghost use Rattle.compose_read.specs.Read.{max_definitions};
     ghost use Rattle.compose_read.specs.Rows.{with_row, no_row};
 
     /// No definitions, and none that is being read. Takes no memory.
@@ -68,12 +69,12 @@ impl Draft {
         self.places.len()
     }
 
-    /// Begins a definition. O(1).
+    /// Begins a definition, and drops one that was not finished. O(keysyms that are dropped).
     pub(crate) fn begin(&mut self)
         ensures { self.new ≡ with_row self.old no_row }
     {
-        self.first_keysym = self.keysyms.len();
-        self.first_byte = self.texts.len();
+        self.keysyms.truncate(self.first_keysym);
+        self.texts.truncate(self.first_byte);
     }
 
     /// Puts a keysym behind those of the definition that is being read. A refusal changes nothing. O(1).
@@ -105,23 +106,27 @@ impl Draft {
 
     /// Puts the definition that is being read behind the others. A refusal changes nothing. O(1).
     pub(crate) fn finish(&mut self) -> Result<(), AllocError>
-        requires { IsTrue (is_definition self.old.row) }
+        requires definition { IsTrue (is_definition self.old.row) }
+        requires room { length self.old.table < max_definitions }
         ensures finished { OnOk result (self.new.table ≡ self.old.table ++ self.old.row ∷ []) }
         ensures unchanged { OnErr result (self.new ≡ self.old) }
     {
         let place = RowPlace {
-            first_keysym: place_of(self.first_keysym)?,
-            first_byte: place_of(self.first_byte)?,
+            first_keysym: self.first_keysym as u32,
+            first_byte: self.first_byte as u32,
             keysym_count: (self.keysyms.len() - self.first_keysym) as u16,
             byte_count: (self.texts.len() - self.first_byte) as u16,
         };
         self.places.push(place)?;
+        self.first_keysym = self.keysyms.len();
+        self.first_byte = self.texts.len();
         Ok(())
     }
 
     /// Puts so many definitions from this place on behind the others again; they share their keysyms and texts. A refusal changes nothing. O(definitions).
     pub(crate) fn repeat(&mut self, first: usize, count: usize) -> Result<(), AllocError>
-        requires { first + count ≤ length self.old.table }
+        requires within { first + count ≤ length self.old.table }
+        requires room { length self.old.table + count ≤ max_definitions }
         ensures repeated { OnOk result (self.new.table ≡ self.old.table ++ take count (drop first self.old.table)) }
         ensures unchanged { OnErr result (self.new ≡ self.old) }
     {
@@ -133,6 +138,7 @@ impl Draft {
     pub(crate) fn into_definitions(self) -> Definitions
         ensures same { result ≡ self.table }
         ensures table { IsTrue (is_table self.table) }
+        ensures few { length self.table ≤ max_definitions }
     {
         Definitions::from_rows(Rows {
             keysyms: self.keysyms,

@@ -9,11 +9,10 @@
 //! keysyms                a b    c
 //! texts                  x      y z
 //! ```
-ghost use Rattle.std.specs.Prelude.{◌≡◌, ◌≤◌, length, take, drop, IfOk};
+ghost use Rattle.std.specs.Prelude.{◌≡◌, take, drop};
 ghost use Rattle.compose_read.specs.Rows.{sequence_at};
 
 use keysym_core::Keysym;
-use std::alloc::AllocError;
 use std::marker::Model;
 
 /// Where the keysyms and the text of a row stand, in 12 bytes without a gap.
@@ -73,13 +72,6 @@ impl Rows {
         let texts = self.texts.as_str();
         &texts[start..start + place.byte_count as usize]
     }
-}
-
-/// The place behind so many entries, if it fits.
-pub(crate) fn place_of(count: usize) -> Result<u32, AllocError>
-    ensures { IfOk result (λ place. place ≡ count) }
-{
-    u32::try_from(count).map_err(|_| AllocError)
 }
 
 /// The keysyms of a row with this place; none behind the end. O(1).

@@ -3,40 +3,44 @@ use crate::rows::Rows;
 use keysym_core::Keysym;
 use std::marker::Model;
 
-/// The settled sequences of a table, in rising order, each once, and none of which begins another.
+/// The settled sequences of a table, in rising order, each once, and none of which begins another. They are at most 100,000.
 #[derive(Drop)]
 pub struct Sequences {
     rows: Rows,
 }
 
 impl Model for Sequences {
-    ghost use Rattle.std.specs.Prelude.{List};
+    ghost use Rattle.std.specs.Prelude.{◌≤◌, List, length};
     ghost use Rattle.compose_model.specs.Table.{Definition};
+    ghost use Rattle.compose_read.specs.Read.{max_definitions};
     ghost use Rattle.compose_read.specs.Settle.{IsSettled};
 
     ghost Value = { List Definition };
 
     ghost view = { λ s. s.rows };
 
-    ghost invariant = { λ s. IsSettled s.rows };
+    ghost invariant = { λ s. IsSettled s.rows × (length s.rows ≤ max_definitions) };
 }
 
 impl Sequences {
     ghost use Rattle.std.specs.Prelude.{◌≡◌, ◌<◌, ◌≤◌, length, Some, slice_get, option_map};
+    ghost use Rattle.compose_read.specs.Read.{max_definitions};
     ghost use Rattle.compose_read.specs.Settle.{IsSettled};
 
     /// The sequences of these rows.
     pub(crate) fn from_rows(rows: Rows) -> Sequences
-        requires { IsSettled rows }
+        requires settled { IsSettled rows }
+        requires few { length rows ≤ max_definitions }
         ensures { result ≡ rows }
     {
         Sequences { rows }
     }
 
-    /// How many sequences there are. O(1).
+    /// How many sequences there are, at most 100,000. O(1).
     pub fn len(&self) -> usize
         ensures count { result ≡ length self.now }
         ensures settled { IsSettled self.now }
+        ensures few { result ≤ max_definitions }
     {
         self.rows.len()
     }

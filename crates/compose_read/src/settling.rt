@@ -4,6 +4,7 @@ ghost use Rattle.compose_model.specs.Table.{Definition};
 ghost use Rattle.keysym_core.specs.Names.{KeysymNames};
 ghost use Rattle.compose_model.specs.Table.{IsSameTable};
 ghost use Rattle.compose_model.specs.Step.{run};
+ghost use Rattle.compose_read.specs.Read.{max_definitions};
 ghost use Rattle.compose_read.specs.Settle.{settled};
 ghost use Rattle.compose_read.specs.Neighbours.{stays_before, settled_neighbours, SequencesAscend};
 ghost use Rattle.compose_read.specs.Given.{SettleGives};
@@ -72,28 +73,14 @@ fn sorted(
     keysyms: &[Keysym],
     places: Vec<RowPlace>,
 ) -> Result<Vec<RowPlace>, AllocError>
+    requires { length places.items ≤ max_definitions }
     ensures ascend { IfOk result (λ r. (texts : List ℕ) → SequencesAscend (rows_of keysyms.now texts r.items)) }
     ensures same { IfOk result (λ r. (texts : List ℕ) → IsSameTable (rows_of keysyms.now texts r.items) (rows_of keysyms.now texts places.items)) }
     ensures placed { IfOk result (λ r. (texts : List ℕ) → ArePlaced keysyms.now texts places.items → ArePlaced keysyms.now texts r.items) }
 {
-    let mut sorted = guessed(alloc, keysyms, places)?;
+    let mut sorted = sorted_by_front(alloc, keysyms, &places)?;
     sort_run(alloc, keysyms, &mut sorted)?;
     Ok(sorted)
-}
-
-/// The places in about the order of their sequences, those of one sequence in the order in which they were. More of them than a number has indexes stay as they are; a table has at most 100,000 definitions.
-fn guessed(
-    alloc: Global,
-    keysyms: &[Keysym],
-    places: Vec<RowPlace>,
-) -> Result<Vec<RowPlace>, AllocError>
-    ensures permutation { IfOk result (λ r. IsPermutation places.items r.items) }
-    ensures stable { IfOk result (λ r. IsStableBy (by_sequence keysyms.now) places.items r.items) }
-{
-    if places.len() as u64 >= INDEXES {
-        return Ok(places);
-    }
-    sorted_by_front(alloc, keysyms, &places)
 }
 
 /// The places in the order of the digits of their sequences, and those whose digits are alike in that of the sequences. It is quick, since numbers are sorted, and few sequences.
@@ -181,7 +168,7 @@ fn digits(alloc: Global, keysyms: &[Keysym]) -> Result<Vec<u16>, AllocError>
     keysyms.iter().map(|keysym| digit(*keysym)).collect(alloc)
 }
 
-/// How many indexes a number can have.
+/// How many indexes a number can have: more than there are definitions.
 const INDEXES: u64 = 1 << 17;
 
 /// How many digits there are.

@@ -213,7 +213,7 @@ fn node_of<T: ComposeTable>(table: &T, keysyms: &[Keysym], places: &[u32; 31]) -
     requires { length keysyms.now ≤ 31 }
     ensures { result ≡ node_id (T.definitions table.now) keysyms.now }
 {
-    let mut node = NodeId(0);
+    let mut node = NodeId::ROOT;
     for (index, keysym) in keysyms.iter().enumerate() {
         node = child_at(table, node, *keysym, places[index])?;
     }

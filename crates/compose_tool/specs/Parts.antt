@@ -9,7 +9,7 @@ use Rattle.compose_model.specs.Certificate.{Repertoire}
 use Rattle.compose_tree.specs.Given.{NoTable, first_table}
 use Rattle.compose_migration.specs.Migration.{GivenMigration, NoMigration, NamedParts, TableSources, Parts, ◌>>=◌, or_because, named, migration_of}
 use Rattle.compose_cert.specs.Repertoire.{repertoire_of}
-use Rattle.compose_fresh.specs.Fresh.{fresh_demands}
+use Rattle.compose_fresh.specs.Fresh.{fresh_demands, max_fresh}
 use Rattle.compose_fresh.specs.Demands.{first_unmet}
 use Rattle.compose_check.specs.Input.{Unread, no_migration, no_repertoire}
 use Rattle.compose_walk.specs.declared.fault.MakeFault.{MakeFault}
@@ -44,7 +44,7 @@ migration_parts given = or_because (λ why. unread (no_migration why)) (migratio
 
 -- the first demand that the fresh keysyms do not meet for the old table; or they are more than a certificate can have
 abbrev pub fresh_fault : List Definition → List ℕ → Option MakeFault
-fresh_fault old fresh = option_map_or (λ fault. Some (BadFresh fault)) (first_unmet (fresh_demands old fresh)) (if nat_lt 1048576 (length fresh) then Some TooManyFresh else None)
+fresh_fault old fresh = option_map_or (λ fault. Some (BadFresh fault)) (first_unmet (fresh_demands old fresh)) (if nat_lt max_fresh (length fresh) then Some TooManyFresh else None)
 
 -- the parts, where the fresh keysyms have no fault
 abbrev pub accepted : {P : Type 0} → List ℕ → List Definition → P → Result P NoAnswer

@@ -146,15 +146,10 @@ front_nodes all i s =
     let same_count : length (nodes (take i all ++ drop i all)) ≡ length (nodes all) = ap (λ t. length (nodes t)) e in
     omega arith
 
-with_last : (table : List Definition) (s : List ℕ) → 0 < length table → shared_with_last table s ≡ shared (last_sequence table) s
-with_last [] s h = absurd (omega arith)
-with_last (c ∷ table) s h = refl
-
 -- what is shared with the sequence at a place is shared with the last one up to it
 pub shared_on : (all : List Definition) (i : ℕ) (t s : List ℕ) → i < length all → t ≡ sequence_at all i → shared t s ≡ shared_with_last (take (i + 1) all) s
 shared_on all i t s h is =
     ap (λ x. shared x s) (is ∙ sym (last_of_front all i h))
-    ∙ sym (with_last (take (i + 1) all) s (let n = length-take-le (i + 1) all (omega arith) in omega arith))
 
 -- nothing is shared with nothing
 pub shared_nothing : (s : List ℕ) → shared s [] ≡ 0

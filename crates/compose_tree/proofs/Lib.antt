@@ -7,6 +7,7 @@ pub mod Adding
 pub mod FirstSource
 pub mod Gathering
 pub mod Scattering
+pub mod Counts
 pub mod Lookups
 pub mod Unpacking
 pub mod Spelling

@@ -1,8 +1,8 @@
 -- What the rows of a settled table say of its nodes, edges and leaves.
-use Rattle.std.proofs.Common.{◌≡◌, ℕ, zero, suc, ◌<◌, ◌≤◌, List, [], ◌∷◌, ◌++◌, Bool, true, false, cond, not, ◌&&◌, ◌||◌, ◌⊎◌, length, map, get_or, refl, sym, ◌∙◌, ap, arith, inl, inr, eqb-true, eq-eqb, nat_cmp, ltb-true, leb-true}
-use Rattle.std.specs.Prelude.{◌==◌, nat_lt, nat_le, nat_eq, Option, Some, None, is_some, option_map, slice_get}
+use Rattle.std.proofs.Common.{◌≡◌, ℕ, zero, suc, ◌<◌, ◌≤◌, List, [], ◌∷◌, ◌++◌, Bool, true, false, cond, not, ◌&&◌, ◌||◌, ◌⊎◌, length, map, get_or, refl, sym, ◌∙◌, ap, arith, inl, inr, eqb-true, eq-eqb, nat_cmp, leb-true}
+use Rattle.std.specs.Prelude.{◌==◌, nat_eq, Option, Some, None, is_some, option_map, slice_get}
 use Rattle.std.specs.Option.{option_or}
-use Rattle.std.specs.List.{list_any, list_all, find}
+use Rattle.std.specs.List.{list_any, find}
 use Rattle.std.specs.Cmp.Lexicographic.{slice_cmp}
 use Rattle.std.proofs.lemmas.Cmp.{nat_list_cmp_total}
 use Rattle.std.proofs.lemmas.Bool.{and_parts, or_cases, cases_Bool}
@@ -210,9 +210,15 @@ leaf_text_is table i d s h =
 pub text_read : (table : List Definition) (i : ℕ) (t : List ℕ) (d : Definition) → i < length table → option_map (λ (e : Definition). e.text) (slice_get table i) ≡ Some t → t ≡ (get_or table i d).text
 text_read table i t d h e = let f : Some (get_or table i d).text ≡ Some t = ap (option_map (λ (e : Definition). e.text)) (sym (slice_get-get_or table i d h)) ∙ e in cc
 
+pub text_few_at : (table : List Definition) (i : ℕ) (t : List ℕ) → IsSettled table → i < length table → option_map (λ (e : Definition). e.text) (slice_get table i) ≡ Some t → length t ≤ 255
+text_few_at table i t s within e =
+    let d : Definition = record { sequence = []; text = [] } in
+    let few = text_few (get_or table i d) (definition_at table i d s.definitions within) in
+    let n = ap length (text_read table i t d within e) in omega arith
+
 pub text_is : (table : List Definition) (i : ℕ) (t : List ℕ) → IsSettled table → i < length (leaves table) → option_map (λ (e : Definition). e.text) (slice_get table i) ≡ Some t → (leaf_text table i ≡ Some t) × (length t ≤ 255)
 text_is table i t s h e =
     let d : Definition = record { sequence = []; text = [] } in
     let within : i < length table = let n = leaves_count table s in omega arith in
     let is : t ≡ (get_or table i d).text = text_read table i t d within e in
-    (leaf_text_is table i d s within ∙ ap (λ x. Some x) (sym is), (let few = text_few (get_or table i d) (definition_at table i d s.definitions within) in let n : length t ≡ length (get_or table i d).text = ap length is in omega arith))
+    (leaf_text_is table i d s within ∙ ap (λ x. Some x) (sym is), text_few_at table i t s within e)

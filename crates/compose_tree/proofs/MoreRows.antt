@@ -43,6 +43,10 @@ prefixes_joined (k ∷ q) rest =
     ap (λ xs. [] ∷ xs) (ap (map (λ p. k ∷ p)) (prefixes_joined q rest) ∙ map-append (λ p. k ∷ p) (proper_prefixes q) (map (λ y. q ++ y) (proper_prefixes rest))
     ∙ ap (λ xs. map (λ p. k ∷ p) (proper_prefixes q) ++ xs) (map_of_map (λ p. k ∷ p) (λ y. q ++ y) (proper_prefixes rest)))
 
+path_there : (table : List Definition) (d : Definition) → path_of (table ++ d ∷ []) ≡ map (number_of (table ++ d ∷ [])) (proper_prefixes (last_sequence (table ++ d ∷ [])))
+path_there [] d = refl
+path_there (c ∷ table) d = refl
+
 pub last_sequence_more : (table : List Definition) (d : Definition) → last_sequence (table ++ d ∷ []) ≡ d.sequence
 last_sequence_more [] d = refl
 last_sequence_more (c ∷ []) d = refl
@@ -176,7 +180,7 @@ module _ (table : List Definition) (d : Definition) (p : List ℕ) (k : ℕ) (re
       → path_of (table ++ d ∷ []) ≡ take (suc (length p)) (path_of table) ++ counted (length (nodes table)) rest
   path_more way =
       let q = p ++ k ∷ [] in
-      ap (λ s. map (number_of (table ++ d ∷ [])) (proper_prefixes s)) (last_sequence_more table d ∙ n.sequence)
+      path_there table d ∙ ap (λ s. map (number_of (table ++ d ∷ [])) (proper_prefixes s)) (last_sequence_more table d ∙ n.sequence)
       ∙ ap (map (number_of (table ++ d ∷ []))) (prefixes_joined q rest)
       ∙ map-append (number_of (table ++ d ∷ [])) (proper_prefixes q) (map (λ y. q ++ y) (proper_prefixes rest))
       ∙ ap (λ xs. xs ++ map (number_of (table ++ d ∷ [])) (map (λ y. q ++ y) (proper_prefixes rest)))

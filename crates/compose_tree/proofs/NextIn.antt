@@ -1,6 +1,6 @@
 -- In a settled table each sequence is next behind those before it.
 use Rattle.std.proofs.Common.{◌≡◌, ℕ, suc, ◌+◌, ◌<◌, ◌≤◌, List, [], ◌∷◌, ◌++◌, Bool, true, false, cond, not, ◌&&◌, ◌⊎◌, length, map, take, refl, sym, ◌∙◌, ap, subst, arith, inl, inr, eqb-true, eq-eqb, Ordering, Less, Equal, Greater, nat_cmp, append_assoc}
-use Rattle.std.specs.Prelude.{◌==◌, nat_lt, nat_le}
+use Rattle.std.specs.Prelude.{◌==◌}
 use Rattle.std.specs.List.{list_all}
 use Rattle.std.specs.Ordering.{ordering_then, is_lt}
 use Rattle.std.specs.Cmp.Lexicographic.{slice_cmp}
@@ -8,8 +8,7 @@ use Rattle.std.proofs.lemmas.Cmp.{nat_list_cmp_total, ranked}
 use Rattle.std.proofs.lemmas.Bool.{and_parts, and_from, or_cases, or_left, or_right, or_parts, not-true, not_from_false, cases_Bool}
 use Rattle.std.proofs.lemmas.List.{append-nil}
 use Rattle.std.proofs.lemmas.List.Folds.{list_any-append}
-use Rattle.keysym_core.specs.Keysym.{is_keysym, is_ignored}
-use Rattle.compose_model.specs.Table.{Definition, same, is_proper_prefix, is_sequence, is_extended, is_prefix_free, is_table, is_definition}
+use Rattle.compose_model.specs.Table.{Definition, same, is_proper_prefix, is_sequence, is_extended, is_prefix_free, is_definition}
 use Rattle.compose_model.specs.Nodes.{proper_prefixes, nodes, is_node, number_of}
 use Rattle.compose_model.proofs.Definitions.{sequence_some}
 use Rattle.compose_model.proofs.NodeLemmas.{same_is, same_from, root_is_node, extended_is_node}

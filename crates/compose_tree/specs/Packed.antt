@@ -1,9 +1,10 @@
--- The packed form of a table: flat arrays of nodes, edges and texts, and what they spell.
-use Rattle.std.specs.Prelude.{◌≡◌, ◌<◌, ◌≤◌, IsTrue, ℕ, zero, suc, ◌+◌, ◌-◌, ◌*◌, ◌/◌, ◌%◌, ◌==◌, List, [], ◌∷◌, map, length, take, drop, flat_map, if◌then◌else◌}
+-- The packed form of a table: flat arrays of nodes, edges and texts, and what they spell. Words for private functions.
+use Rattle.std.specs.Prelude.{◌≡◌, ◌≤◌, IsTrue, ℕ, zero, suc, ◌+◌, ◌-◌, ◌*◌, ◌/◌, ◌%◌, ◌==◌, List, [], ◌∷◌, map, length, take, drop, flat_map, if◌then◌else◌}
 use Rattle.std.specs.List.{list_all}
 use Rattle.std.specs.Str.{is_utf8}
 use Rattle.compose_model.specs.Table.{Definition}
 use Rattle.compose_model.specs.Nodes as model
+use Rattle.compose_read.specs.Read.{max_definitions}
 use Rattle.compose_read.specs.Settle.{IsSettled}
 use Rattle.compose_tree.specs.Targets.{max_nodes}
 use Rattle.compose_tree.specs.declared.edge.Edge.{Edge}
@@ -62,22 +63,22 @@ unpacked_texts [] bytes = []
 unpacked_texts (a ∷ []) bytes = []
 unpacked_texts (a ∷ b ∷ places) bytes = take (b - a) (drop a bytes) ∷ unpacked_texts (b ∷ places) bytes
 
--- what leads on behind an edge
+-- what leads on behind an edge: from a node whatever leads on from there, and nothing from a leaf
 abbrev pub spelled_behind : Target → (ℕ → List (List ℕ)) → List (List ℕ)
 spelled_behind (Node n) more = more n.0
 spelled_behind (Leaf l) more = [] ∷ []
 
--- the lists of keysyms that lead from a node to leaves, in order, each through fewer nodes than this
+-- the lists of at most so many keysyms that lead from a node to leaves, in order
 abbrev pub spelled : List NodeRow → ℕ → ℕ → List (List ℕ)
 spelled rows zero i = []
-spelled rows (suc nodes) i = flat_map (λ e. map (λ s. e.keysym ∷ s) (spelled_behind e.target (λ n. spelled rows nodes n))) (row_at rows i).edges
+spelled rows (suc keysyms) i = flat_map (λ e. map (λ s. e.keysym ∷ s) (spelled_behind e.target (λ n. spelled rows keysyms n))) (row_at rows i).edges
 
 abbrev pub with_texts : List (List ℕ) → List (List ℕ) → List Definition
 with_texts [] texts = []
 with_texts (s ∷ sequences) [] = []
 with_texts (s ∷ sequences) (t ∷ texts) = record { sequence = s; text = t } ∷ with_texts sequences texts
 
--- the definitions that the arrays stand for
+-- the definitions that the arrays stand for; a sequence has at most 32 keysyms
 unfoldable pub unpacked : List PackedNode → List PackedEdge → List ℕ → List ℕ → List Definition
 unpacked nodes edges places bytes = with_texts (spelled (unpacked_rows nodes edges) 32 0) (unpacked_texts places bytes)
 
@@ -92,7 +93,7 @@ pub record IsPacked (nodes : List PackedNode) (edges : List PackedEdge) (places 
   pub bytes_are : bytes ≡ pool (texts_of table)
   pub texts_are_utf8 : IsTrue (list_all is_utf8 (texts_of table))
   pub few_nodes : length (model.nodes table) ≤ max_nodes
-  pub few_leaves : length table < 4294967296
+  pub few_leaves : length table ≤ max_definitions
 
 -- the keysyms of some edges
 abbrev pub keys_of : List PackedEdge → List ℕ

@@ -1,4 +1,4 @@
--- The rows of a table: for each node how deep it is, and its edges in order with where they lead.
+-- The rows of a table: for each node how deep it is, and its edges in order with where they lead. Words for private functions.
 use Rattle.std.specs.Prelude.{ℕ, ◌+◌, ◌<◌, ◌==◌, nat_eq, List, [], ◌∷◌, ◌++◌, map, length, get_or, slice_set, if◌then◌else◌}
 use Rattle.std.specs.List.{All, filter}
 use Rattle.compose_model.specs.Table.{Definition}
@@ -16,6 +16,11 @@ pub record NodeRow : Type 0 where
 -- the node or the leaf that a list is
 abbrev pub where_to : List Definition → List ℕ → Target
 where_to table q = if is_node table q then Node (record { 0 = number_of table q }) else Leaf (record { 0 = leaf_number table q })
+
+-- the number of the node or of the leaf
+abbrev pub target_number : Target → ℕ
+target_number (Node n) = n.0
+target_number (Leaf l) = l.0
 
 -- the edge of this keysym at node p
 abbrev pub edge_of : List Definition → List ℕ → ℕ → Edge
@@ -51,6 +56,10 @@ gathered i (depth ∷ depths) edges = record { depth = depth; edges = edges_at i
 abbrev pub AreAtNodes : ℕ → List NodeEdge → Type 0
 AreAtNodes count edges = All (λ e. e.node < count) edges
 
+-- each leads to a node or a leaf whose number is below this
+abbrev pub HaveNumbersBelow : ℕ → List NodeEdge → Type 0
+HaveNumbersBelow end edges = All (λ e. target_number e.edge.target < end) edges
+
 -- ---- what a sequence adds, which goes on behind the ones before it
 
 -- where an edge leads behind which these keysyms are left: to the leaf, or to the next node
@@ -78,15 +87,16 @@ with_edge rows i edge = slice_set rows i (record { depth = (row_at rows i).depth
 abbrev pub sequence_at : List Definition → ℕ → List ℕ
 sequence_at table i = (get_or table i (record { sequence = []; text = [] })).sequence
 
--- the last sequence; where there is none, a list with the root alone before it
+-- the keysyms of the last sequence; none where there is none
 abbrev pub last_sequence : List Definition → List ℕ
-last_sequence [] = 0 ∷ []
+last_sequence [] = []
 last_sequence (d ∷ []) = d.sequence
 last_sequence (d ∷ e ∷ table) = last_sequence (e ∷ table)
 
--- the numbers of the nodes on the way to it, from the root on
+-- the numbers of the nodes on the way to it, from the root on; the root alone where there is none
 abbrev pub path_of : List Definition → List ℕ
-path_of table = map (number_of table) (proper_prefixes (last_sequence table))
+path_of [] = 0 ∷ []
+path_of (d ∷ table) = map (number_of (d ∷ table)) (proper_prefixes (last_sequence (d ∷ table)))
 
 -- how many keysyms two lists have in common at their front
 abbrev pub shared : List ℕ → List ℕ → ℕ
@@ -96,8 +106,7 @@ shared (j ∷ s) (k ∷ t) = if j == k then 1 + shared s t else 0
 
 -- how many of the keysyms of s lead along the last sequence
 abbrev pub shared_with_last : List Definition → List ℕ → ℕ
-shared_with_last [] s = 0
-shared_with_last (d ∷ table) s = shared (last_sequence (d ∷ table)) s
+shared_with_last table s = shared (last_sequence table) s
 
 -- so many numbers from this one on
 abbrev pub counted : ℕ → List ℕ → List ℕ

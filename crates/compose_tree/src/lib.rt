@@ -7,7 +7,7 @@
 //!
 //! ```text
 //! let table: PackedTable = read_table(alloc, &names, &sources, "main", Rule::Refuse)?;
-//! let first = table.step(NodeId(0), keysym);
+//! let first = table.step(NodeId::ROOT, keysym);
 //! ```
 #![tactic(auto)]
 

@@ -60,6 +60,7 @@ impl Model for ListTable {
     ghost use Rattle.std.specs.Prelude.{◌≡◌, ◌≤◌, ◌<◌, List, length};
     ghost use Rattle.compose_model.specs.Table.{Definition};
     ghost use Rattle.compose_model.specs.Nodes.{nodes};
+    ghost use Rattle.compose_read.specs.Read.{max_definitions};
     ghost use Rattle.compose_read.specs.Settle.{IsSettled};
     ghost use Rattle.compose_tree.specs.Targets.{max_nodes};
     ghost use Rattle.compose_tree.specs.Rows.{rows_of};
@@ -68,7 +69,7 @@ impl Model for ListTable {
 
     ghost view = { λ t. t.sequences };
 
-    ghost invariant = { λ t. IsSettled t.sequences × (t.rows.items ≡ rows_of t.sequences) × (length (nodes t.sequences) ≤ max_nodes) × (length t.sequences < 4294967296) };
+    ghost invariant = { λ t. IsSettled t.sequences × (t.rows.items ≡ rows_of t.sequences) × (length (nodes t.sequences) ≤ max_nodes) × (length t.sequences ≤ max_definitions) };
 }
 
 /// A row without edges for each depth.

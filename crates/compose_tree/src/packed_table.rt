@@ -22,7 +22,7 @@ ghost use Rattle.std.specs.Prelude.{◌≡◌, ◌<◌, ◌≤◌, ◌+◌, ◌+
 ghost use Rattle.std.specs.List.{list_all};
 ghost use Rattle.std.specs.List.Sorted.{IsStrictlyIncreasing};
 ghost use Rattle.std.specs.Str.{is_utf8};
-ghost use Rattle.compose_tree.specs.Rows.{counts_of, gathered, AreAtNodes};
+ghost use Rattle.compose_tree.specs.Rows.{counts_of, gathered, target_number, AreAtNodes, HaveNumbersBelow};
 ghost use Rattle.compose_tree.specs.Packed as words;
 ghost use Rattle.compose_tree.specs.Packed.{keys_of, packed_edge, packed_target, unpacked_target, packed_nodes, packed_edges, packed_places, pool, texts_of};
 
@@ -64,18 +64,16 @@ impl Model for PackedTable {
     ghost invariant = { λ t. IsPacked t.nodes.items t.edges.items t.places.items (string_bytes t.texts) (unpacked t.nodes.items t.edges.items t.places.items (string_bytes t.texts)) };
 }
 
-/// The code of a target, if it fits. Both kinds of target take one way, since a branch on the kind is often mispredicted.
-fn pack_target(target: Target) -> Result<u32, AllocError>
-    ensures { IfOk result (λ code. code ≡ packed_target target) }
+/// The code of a target. Both kinds of target take one way, since a branch on the kind is often mispredicted.
+fn pack_target(target: Target) -> u32
+    requires { target_number target < 2147483648 }
+    ensures { result ≡ packed_target target }
 {
     let (number, leaf) = match target {
         Target::Node(node) => (node.0, 0),
         Target::Leaf(leaf) => (leaf.0, 1),
     };
-    if number >= 0x8000_0000 {
-        return Err(AllocError);
-    }
-    Ok(number * 2 + leaf)
+    number * 2 + leaf
 }
 
 /// The target of a code.
@@ -89,25 +87,16 @@ fn unpack_target(code: u32) -> Target
     }
 }
 
-/// The place behind so many entries, if it fits.
-fn place_behind(place: u32, count: usize) -> Result<u32, AllocError>
-    ensures { IfOk result (λ next. next ≡ place + count) }
-{
-    let Ok(count) = u32::try_from(count) else {
-        return Err(AllocError);
-    };
-    place.checked_add(count).ok_or(AllocError)
-}
-
 /// How many edges each of these nodes has.
 fn count_edges(alloc: Global, depths: &[u32], edges: &[NodeEdge]) -> Result<Vec<u32>, AllocError>
-    requires { AreAtNodes (length depths.now) edges.now }
+    requires at_nodes { AreAtNodes (length depths.now) edges.now }
+    requires few { length edges.now < 4294967296 }
     ensures { IfOk result (λ counts. counts.items ≡ counts_of (gathered 0 depths.now edges.now)) }
 {
     let mut counts = vec![in alloc; 0; depths.len()]?;
     for edge in edges {
         let node = edge.node as usize;
-        counts[node] = place_behind(counts[node], 1)?;
+        counts[node] += 1;
     }
     Ok(counts)
 }
@@ -118,7 +107,8 @@ fn pack_nodes(
     depths: &[u32],
     edges: &[NodeEdge],
 ) -> Result<Vec<PackedNode>, AllocError>
-    requires { AreAtNodes (length depths.now) edges.now }
+    requires at_nodes { AreAtNodes (length depths.now) edges.now }
+    requires few { length edges.now < 4294967296 }
     ensures { IfOk result (λ nodes. nodes.items ≡ packed_nodes 0 (gathered 0 depths.now edges.now)) }
 {
     let counts = count_edges(alloc, depths, edges)?;
@@ -129,7 +119,7 @@ fn pack_nodes(
             depth: depths[index],
             first: place,
         })?;
-        place = place_behind(place, counts[index] as usize)?;
+        place += counts[index];
     }
     nodes.push(PackedNode {
         depth: 0,
@@ -138,14 +128,15 @@ fn pack_nodes(
     Ok(nodes)
 }
 
-/// The packed edge, if its target fits.
-fn pack_edge(edge: Edge) -> Result<PackedEdge, AllocError>
-    ensures { IfOk result (λ packed. packed ≡ packed_edge edge) }
+/// The packed edge.
+fn pack_edge(edge: Edge) -> PackedEdge
+    requires { target_number edge.target < 2147483648 }
+    ensures { result ≡ packed_edge edge }
 {
-    Ok(PackedEdge {
+    PackedEdge {
         keysym: edge.keysym,
-        target: pack_target(edge.target)?,
-    })
+        target: pack_target(edge.target),
+    }
 }
 
 /// The edges of all nodes, each put at its node's next place. Guesses note which of its node's edges each one is.
@@ -157,6 +148,7 @@ fn pack_edges(
     guesses: &mut Guesses,
 ) -> Result<Vec<PackedEdge>, AllocError>
     requires at_nodes { AreAtNodes (length depths.now) edges.now }
+    requires numbers { HaveNumbersBelow 2147483648 edges.now }
     requires nodes { nodes.now ≡ packed_nodes 0 (gathered 0 depths.now edges.now) }
     ensures { IfOk result (λ packed. packed.items ≡ packed_edges (gathered 0 depths.now edges.now)) }
 {
@@ -171,7 +163,7 @@ fn pack_edges(
         let count = counts[node];
         let place = nodes[node].first as usize + count;
         guesses.note(NodeId(edge.node), edge.edge.keysym, count);
-        packed[place] = pack_edge(edge.edge)?;
+        packed[place] = pack_edge(edge.edge);
         counts[node] = count + 1;
     }
     Ok(packed)
@@ -189,7 +181,7 @@ fn pack_texts(alloc: Global, sequences: &Sequences) -> Result<(Vec<u32>, String)
     for index in 0..sequences.len() {
         let text = sequences.text(index);
         places.push(place)?;
-        place = place_behind(place, text.len())?;
+        place += text.len() as u32;
         texts.push_str(text)?;
     }
     places.push(place)?;

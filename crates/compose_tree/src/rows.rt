@@ -6,6 +6,7 @@
 ghost use Rattle.std.specs.Prelude.{◌≡◌, ◌<◌, ◌≤◌, ◌+◌, ◌++◌, ℕ, List, [], ◌∷◌, length, take, drop, Some, slice_get, slice_set, get_or, OnOk, OnErr, IfOk, IfErr};
 ghost use Rattle.compose_model.specs.Table.{Definition};
 ghost use Rattle.compose_model.specs.Nodes.{nodes};
+ghost use Rattle.compose_read.specs.Read.{max_definitions};
 ghost use Rattle.compose_read.specs.Settle.{IsSettled};
 ghost use Rattle.compose_tree.specs.Targets.{max_nodes};
 ghost use Rattle.compose_tree.specs.Rows as words;
@@ -186,17 +187,15 @@ fn add_sequence(
 pub fn build_rows(alloc: Global, sequences: &Sequences) -> Result<Rows, BuildFault>
     ensures rows { IfOk result (λ rows. rows ≡ rows_of sequences.now) }
     ensures few { IfOk result (λ _. length (nodes sequences.now) ≤ max_nodes) }
-    ensures leaves { IfOk result (λ _. length sequences.now < 4294967296) }
+    ensures leaves { length sequences.now ≤ max_definitions }
     ensures settled { IsSettled sequences.now }
     ensures many { IfErr result (λ fault. fault ≡ BuildFault.TooManyNodes → max_nodes < length (nodes sequences.now)) }
 {
-    let Ok(count) = u32::try_from(sequences.len()) else {
-        return Err(BuildFault::NoMemory);
-    };
-    let mut rows = Rows::root(alloc, sequences.len())?;
+    let count = sequences.len();
+    let mut rows = Rows::root(alloc, count)?;
     let mut path = vec![in alloc; 0u32; 1]?;
     let mut previous: &[Keysym] = &[];
-    for index in 0..count {
+    for index in 0..count as u32 {
         let sequence = sequence_of(sequences, index as usize);
         let shared = shared_front(previous, sequence);
         add_sequence(&mut rows, &mut path, sequences, sequence, shared, index)?;

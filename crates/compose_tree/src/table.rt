@@ -15,6 +15,11 @@ use thiserror::Error;
 #[derive(Clone, Copy, Debug, PartialEq, Eq)]
 pub struct NodeId(pub u32);
 
+impl NodeId {
+    /// The root, to which no keysym leads.
+    pub const ROOT: NodeId = NodeId(0);
+}
+
 /// The number of a leaf: the place of its sequence among all sequences in their order.
 #[derive(Clone, Copy, Debug, PartialEq, Eq)]
 pub struct LeafId(pub u32);

@@ -12,7 +12,7 @@ ghost use Rattle.compose_walk.specs.Pass.{agrees, differs_at, differing_starts, 
 ghost use Rattle.compose_walk.specs.Stands.{stand, stands_at, found_at, found_behind, all_found, comes_sooner};
 
 use crate::fault::MakeFault;
-use crate::step::{ROOT, difference, key_step};
+use crate::step::{difference, key_step};
 use compose_fresh::is_among;
 use compose_tree::{ComposeTable, NodeId, Target};
 use keysym_core::{Keysym, Names};
@@ -145,8 +145,8 @@ impl Pass {
         let mut stands = Vec::new(alloc);
         stands.resize(old.node_count() as usize, None)?;
         stands[0] = Some(Stand {
-            new_node: ROOT,
-            parent: ROOT,
+            new_node: NodeId::ROOT,
+            parent: NodeId::ROOT,
             keysym: Keysym::default(),
         });
         let found = find_new_starts(alloc, old, new, names, fresh)?;
@@ -203,8 +203,8 @@ fn find_new_starts<T: ComposeTable, U: ComposeTable>(
     ensures err { IfErr result (λ e. e ≡ MakeFault.NoMemory) }
 {
     let mut found = Vec::new(alloc);
-    for index in 0..new.edge_count(ROOT) {
-        let (keysym, target) = new.edge(ROOT, index);
+    for index in 0..new.edge_count(NodeId::ROOT) {
+        let (keysym, target) = new.edge(NodeId::ROOT, index);
         if !is_differing_start(old, new, names, fresh, keysym, target) {
             continue;
         }
@@ -231,13 +231,13 @@ fn is_differing_start<T: ComposeTable, U: ComposeTable>(
     requires target { target_of (U.definitions new.now) [] keysym ≡ Some target }
     ensures { result ≡ is_differing_start names.now fresh.now (T.definitions old.now) (U.definitions new.now) keysym }
 {
-    if old.step(ROOT, keysym).is_some() {
+    if old.step(NodeId::ROOT, keysym).is_some() {
         return false;
     }
     if is_among(fresh, keysym) {
         return false;
     }
-    let old_step = key_step(old, names, ROOT, keysym, None);
-    let new_step = key_step(new, names, ROOT, keysym, Some(target));
+    let old_step = key_step(old, names, NodeId::ROOT, keysym, None);
+    let new_step = key_step(new, names, NodeId::ROOT, keysym, Some(target));
     difference(&old_step, &new_step).is_some()
 }

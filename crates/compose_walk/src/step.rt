@@ -15,9 +15,6 @@ use arrayvec::ArrayString;
 use compose_tree::{ComposeTable, NodeId, Target};
 use keysym_core::{Keysym, Names};
 
-/// The number of each table's root.
-pub const ROOT: NodeId = NodeId(0);
-
 /// The text that a key commits: its own, or that of a sequence.
 #[derive(Clone, Copy)]
 pub enum KeyText<'t> {
@@ -72,17 +69,17 @@ pub fn key_step<'t, T: ComposeTable>(
     ensures short { length (text_bytes result.text) ≤ 255 }
 {
     let Some(target) = target else {
-        return if node == ROOT {
+        return if node == NodeId::ROOT {
             KeyStep {
                 cancels: false,
                 text: KeyText::Own(own_text(names, key)),
-                next: ROOT,
+                next: NodeId::ROOT,
             }
         } else {
             KeyStep {
                 cancels: true,
                 text: KeyText::Sequence(""),
-                next: ROOT,
+                next: NodeId::ROOT,
             }
         };
     };
@@ -95,7 +92,7 @@ pub fn key_step<'t, T: ComposeTable>(
         Target::Leaf(leaf) => KeyStep {
             cancels: false,
             text: KeyText::Sequence(table.text(leaf)),
-            next: ROOT,
+            next: NodeId::ROOT,
         },
     }
 }
@@ -108,7 +105,7 @@ pub fn difference(old: &KeyStep<'_>, new: &KeyStep<'_>) -> Option<Kind>
         Some(Kind::Cancelled)
     } else if new.text.as_str() != old.text.as_str() {
         Some(Kind::Text)
-    } else if old.next == ROOT && new.next != ROOT {
+    } else if old.next == NodeId::ROOT && new.next != NodeId::ROOT {
         Some(Kind::Waiting)
     } else {
         None

@@ -6,7 +6,7 @@ use Rattle.std.proofs.lemmas.Nat.{from_be_bytes-to_be_bytes_4}
 use Rattle.compose_wire.specs.Messages.{Body, Request, Fits}
 use Rattle.compose_wire.specs.Frames.{frame, payload, kind_of, BeginsWithFrame, size_said}
 use Rattle.std.specs.Prelude.{Some, Ok}
-use Rattle.compose_wire.specs.Feeding.{SizesSo, body_at, request_at, IsLoaded, BeginsWithLoad}
+use Rattle.compose_wire.specs.Feeding.{IsSize, body_at, request_at, IsLoaded, BeginsWithLoad}
 use Rattle.compose_wire.proofs.OneFrame.{body_again, payload_fits}
 
 -- what a frame begins with is read from it again
@@ -50,7 +50,7 @@ session_read (k ∷ a ∷ b ∷ []) l = absurd (omega arith)
 session_read (k ∷ a ∷ b ∷ c ∷ []) l = absurd (omega arith)
 session_read (k ∷ a ∷ b ∷ c ∷ d ∷ t) l = refl
 
-module _ (h : List ℕ) (n session : ℕ) (body : Body) (sized : SizesSo (Ok (Some n)) h)
+module _ (h : List ℕ) (n session : ℕ) (body : Body) (sized : IsSize (Ok (Some n)) h)
     (reads : session ≡ get_or h 1 0 * 16777216 + get_or h 2 0 * 65536 + get_or h 3 0 * 256 + get_or h 4 0)
     (says : body ≡ body_at (get_or h 0 0) (take n (drop 9 h)))
   where
@@ -72,7 +72,7 @@ module _ (h : List ℕ) (n session : ℕ) (body : Body) (sized : SizesSo (Ok (So
         )
 
 -- where memory is wanted for the payload, a load stands
-pub load_stands : (h : List ℕ) (n : ℕ) → SizesSo (Ok (Some n)) h → IsLoaded (body_at (get_or h 0 0) (take n (drop 9 h))) → BeginsWithLoad h
+pub load_stands : (h : List ℕ) (n : ℕ) → IsSize (Ok (Some n)) h → IsLoaded (body_at (get_or h 0 0) (take n (drop 9 h))) → BeginsWithLoad h
 load_stands h n sized loaded =
     let r = is_read h sized.0 in (
       request_at h,

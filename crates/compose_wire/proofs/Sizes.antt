@@ -7,7 +7,7 @@ use Rattle.std.proofs.lemmas.Bool.{le-ltb}
 use Rattle.compose_text.specs.Numbers.{is_between}
 use Rattle.compose_wire.specs.Messages.{AreBytes}
 use Rattle.compose_wire.specs.Frames.{Fault, fault_at, length_fault, unknown_kind, size_said}
-use Rattle.compose_wire.specs.Feeding.{SizesSo, wire_fault}
+use Rattle.compose_wire.specs.Feeding.{IsSize, wire_fault}
 use Rattle.compose_wire.proofs.NextFrame.{frame_stands}
 
 -- numbers of eight bits are bytes
@@ -50,5 +50,5 @@ module _ (h : List ℕ) (bytes : AreBytes h) (known : is_between 1 7 (get_or h 0
     right : option_map wire_fault (length_fault (get_or h 0 0) n) ≡ None → fault_at h ≡ None
     right e = head_decides h known head ∙ ap (length_fault (get_or h 0 0)) (sym said) ∙ none_before (length_fault (get_or h 0 0) n) e
 
-    pub whole_stands : option_map wire_fault (length_fault (get_or h 0 0) n) ≡ None → n ≤ length h - 9 → SizesSo (Ok (Some n)) h
+    pub whole_stands : option_map wire_fault (length_fault (get_or h 0 0) n) ≡ None → n ≤ length h - 9 → IsSize (Ok (Some n)) h
     whole_stands e fits = (frame_stands h bytes (right e) head (let s = said in omega arith), said, omega arith)

@@ -24,14 +24,18 @@ IsLoaded _ = ⊥
 abbrev pub BeginsWithLoad : List ℕ → Type 0
 BeginsWithLoad bytes = (q : RequestValue) × (more : List ℕ) × Fits q × IsLoaded q.body × (bytes ≡ frame q ++ more)
 
--- what is given out of the held bytes, and what is held after that; only a load wants memory
-abbrev pub GivesSo : Result (Option Request) WireFault → List ℕ → List ℕ → Type 0
-GivesSo (Ok (Some q)) held held' = Fits (request_of q) × (held ≡ frame (request_of q) ++ held')
-GivesSo (Ok None) held held' = IsBegun held × (length held < max_frame) × (held' ≡ held)
-GivesSo (Err UnknownKind) held held' = (fault_at held ≡ Some unknown_kind) × (held' ≡ held)
-GivesSo (Err BadLength) held held' = (fault_at held ≡ Some bad_length) × (held' ≡ held)
-GivesSo (Err TooLong) held held' = (fault_at held ≡ Some too_long) × (held' ≡ held)
-GivesSo (Err NoMemory) held held' = BeginsWithLoad held × (held' ≡ held)
+-- the fault is that of the held bytes; only a load wants memory
+abbrev pub IsFaultOf : List ℕ → WireFault → Type 0
+IsFaultOf held UnknownKind = fault_at held ≡ Some unknown_kind
+IsFaultOf held BadLength = fault_at held ≡ Some bad_length
+IsFaultOf held TooLong = fault_at held ≡ Some too_long
+IsFaultOf held NoMemory = BeginsWithLoad held
+
+-- what is given out of the held bytes, and what is held after that: the request whose frame they begin with; else all is held as before
+abbrev pub Gives : Result (Option Request) WireFault → List ℕ → List ℕ → Type 0
+Gives (Ok (Some q)) held held' = Fits (request_of q) × (held ≡ frame (request_of q) ++ held')
+Gives (Ok None) held held' = IsBegun held × (length held < max_frame) × (held' ≡ held)
+Gives (Err fault) held held' = IsFaultOf held fault × (held' ≡ held)
 
 -- what is given out where the bytes begin with a frame: its request, or nothing, out of memory
 abbrev pub GivesRequest : RequestValue → List ℕ → Result (Option Request) WireFault → List ℕ → Type 0
@@ -39,16 +43,14 @@ GivesRequest q more (Ok (Some r)) held' = (request_of r ≡ q) × (held' ≡ mor
 GivesRequest q more (Err NoMemory) held' = IsLoaded q.body × (held' ≡ frame q ++ more)
 GivesRequest q more _ held' = ⊥
 
--- ---- the parts
+-- ---- the parts: words for private functions
 
 -- the length of the payload, where a whole frame stands
-abbrev pub SizesSo : Result (Option ℕ) WireFault → List ℕ → Type 0
-SizesSo (Ok (Some size)) held = BeginsWithFrame held × (size ≡ size_said held) × (9 + size ≤ length held)
-SizesSo (Ok None) held = IsBegun held × (length held < max_frame)
-SizesSo (Err UnknownKind) held = fault_at held ≡ Some unknown_kind
-SizesSo (Err BadLength) held = fault_at held ≡ Some bad_length
-SizesSo (Err TooLong) held = fault_at held ≡ Some too_long
-SizesSo (Err NoMemory) held = ⊥
+abbrev pub IsSize : Result (Option ℕ) WireFault → List ℕ → Type 0
+IsSize (Ok (Some size)) held = BeginsWithFrame held × (size ≡ size_said held) × (9 + size ≤ length held)
+IsSize (Ok None) held = IsBegun held × (length held < max_frame)
+IsSize (Err NoMemory) held = ⊥
+IsSize (Err fault) held = IsFaultOf held fault
 
 -- the body that a kind and a payload say
 abbrev pub body_at : ℕ → List ℕ → Body
@@ -64,10 +66,7 @@ request_at held = record {
 }
 
 -- the first request of the held bytes, and how many bytes its frame has
-abbrev pub FirstSo : Result (Option (Request × ℕ)) WireFault → List ℕ → Type 0
-FirstSo (Ok (Some first)) held = Fits (request_of first.0) × (held ≡ frame (request_of first.0) ++ drop first.1 held) × (first.1 ≤ length held)
-FirstSo (Ok None) held = IsBegun held × (length held < max_frame)
-FirstSo (Err UnknownKind) held = fault_at held ≡ Some unknown_kind
-FirstSo (Err BadLength) held = fault_at held ≡ Some bad_length
-FirstSo (Err TooLong) held = fault_at held ≡ Some too_long
-FirstSo (Err NoMemory) held = BeginsWithLoad held
+abbrev pub IsFirst : Result (Option (Request × ℕ)) WireFault → List ℕ → Type 0
+IsFirst (Ok (Some first)) held = Fits (request_of first.0) × (held ≡ frame (request_of first.0) ++ drop first.1 held) × (first.1 ≤ length held)
+IsFirst (Ok None) held = IsBegun held × (length held < max_frame)
+IsFirst (Err fault) held = IsFaultOf held fault

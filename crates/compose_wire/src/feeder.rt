@@ -3,7 +3,7 @@ ghost use Rattle.std.specs.Prelude.{◌≡◌, ◌+◌, ◌≤◌, ◌++◌, ℕ
 ghost use Rattle.compose_wire.specs.Messages as words;
 ghost use Rattle.compose_wire.specs.Messages.{Fits};
 ghost use Rattle.compose_wire.specs.Frames.{Fault, frame, fault_at, IsBegun};
-ghost use Rattle.compose_wire.specs.Feeding.{GivesSo, GivesRequest, wire_fault};
+ghost use Rattle.compose_wire.specs.Feeding.{Gives, GivesRequest, wire_fault};
 
 use crate::fault::WireFault;
 use crate::frame::first_request;
@@ -68,7 +68,7 @@ impl Feeder {
     /// A load takes one allocation of its payload's size and time linear in it; all others want no memory, and O(1) on the average.
     /// After any request the buffer may be made smaller; where that is refused, it stays as large as it is.
     pub fn next_request(&mut self, alloc: Global) -> Result<Option<Request>, WireFault>
-        ensures so { GivesSo result self.old self.new }
+        ensures so { Gives result self.old self.new }
         ensures request { (q : words.Request) (more : List ℕ) → Fits q → self.old ≡ frame q ++ more → GivesRequest q more result self.new }
         ensures fault { (fault : Fault) → fault_at self.old ≡ Some fault → result ≡ Err (wire_fault fault) }
         ensures none { IsBegun self.old → result ≡ Ok None }
@@ -78,7 +78,7 @@ impl Feeder {
 
     /// Takes the frame away that the held bytes begin with.
     fn take_first(&mut self, alloc: Global) -> Result<Option<Request>, WireFault>
-        ensures { GivesSo result self.old self.new }
+        ensures { Gives result self.old self.new }
     {
         let Some((request, size)) = first_request(alloc, &self.buffer[self.start..])? else {
             return Ok(None);

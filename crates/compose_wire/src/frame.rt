@@ -2,7 +2,7 @@
 ghost use Rattle.std.specs.Prelude.{◌≡◌, ◌≢◌, [], length, option_map, IfOk, OnErr};
 ghost use Rattle.compose_text.specs.Numbers.{is_between};
 ghost use Rattle.compose_wire.specs.Frames as frames;
-ghost use Rattle.compose_wire.specs.Feeding.{SizesSo, FirstSo, IsLoaded, body_at, wire_fault};
+ghost use Rattle.compose_wire.specs.Feeding.{IsSize, IsFirst, IsLoaded, body_at, wire_fault};
 ghost use Rattle.compose_wire.specs.Requests.{body_of};
 
 use crate::fault::WireFault;
@@ -42,7 +42,7 @@ fn length_fault(kind: u8, size: u32) -> Option<WireFault>
 /// None where less than a frame stands; an unknown kind is a fault as soon as it stands, and a wrong length as soon as the head does.
 /// O(1).
 pub(crate) fn payload_size(held: &[u8]) -> Result<Option<usize>, WireFault>
-    ensures { SizesSo result held.now }
+    ensures { IsSize result held.now }
 {
     let Some(&kind) = held.first() else {
         return Ok(None);
@@ -98,7 +98,7 @@ pub(crate) fn first_request(
     alloc: Global,
     held: &[u8],
 ) -> Result<Option<(Request, usize)>, WireFault>
-    ensures { FirstSo result held.now }
+    ensures { IsFirst result held.now }
 {
     let Some(size) = payload_size(held)? else {
         return Ok(None);

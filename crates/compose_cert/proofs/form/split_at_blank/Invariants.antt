@@ -1,5 +1,5 @@
 use Rattle.std.proofs.Common.{◌≡◌, ℕ, ◌<◌, false, get_or}
-use Rattle.compose_cert.specs.Repertoire.{is_blank}
+use Rattle.compose_text.specs.Bytes.{is_blank}
 use Rattle.compose_cert.proofs.form.split_at_blank.Given as goal
 
 -- no blank is among the bytes before

@@ -83,7 +83,10 @@ read_source-requires t c =
     )
 
 pub repeat-requires : goal.repeat-requires
-repeat-requires t c = (found_kept c.args.names.now c.args.sources.now c.args.progress.now.draft.table c.args.kept.now.by_source c.args.source c.in-Some.again c.in-Some.ensures.found.0 c.requires.kept).within
+repeat-requires t c = record {
+  within = (found_kept c.args.names.now c.args.sources.now c.args.progress.now.draft.table c.args.kept.now.by_source c.args.source c.in-Some.again c.in-Some.ensures.found.0 c.requires.kept).within;
+  room = c.in-Some.ensures.fits.1;
+}
 
 pub returns-in-Some-clause-reads : goal.returns-in-Some-clause-reads
 returns-in-Some-clause-reads t c =

@@ -1,4 +1,4 @@
-use Rattle.std.proofs.Common.{◌≡◌, List, Vec, Global, sym, ◌∙◌, ap, subst, string_bytes, rules}
+use Rattle.std.proofs.Common.{◌≡◌, List, Vec, Global, sym, ◌∙◌, ap, subst, string_bytes, rules, arith}
 use Rattle.std.specs.Prelude.{Result, Ok, Err}
 use Rattle.compose_model.specs.Table.{Definition}
 use Rattle.compose_read.specs.Settle.{settled, Overlap}
@@ -8,7 +8,7 @@ use Rattle.compose_read.specs.Rows.{rows_of, ArePlaced}
 use Rattle.compose_read.specs.declared.rows.RowPlace.{RowPlace}
 use Rattle.compose_read.proofs.Settled.{settled_runs}
 use Rattle.compose_read.proofs.SettledRows.{sorted_placed, sorted_settle}
-use Rattle.compose_read.proofs.SettledTable.{settled_is}
+use Rattle.compose_read.proofs.SettledTable.{settled_is, settled_few}
 use Rattle.compose_read.proofs.Turns.{fault_says}
 use Rattle.compose_read.proofs.settling.settle.Goals as goal
 
@@ -41,7 +41,10 @@ from_rows-requires c =
     let ks = c.rows.inside.keysyms.items in let ts = string_bytes c.rows.inside.texts in let ps = c.rows.inside.places.items in let sorted = c.in_ok-sorted.sorted.items in
     let same = sorted_settle c.args.rule c.args.definitions ks c.deref.result.now ts ps sorted c.deref.ensures.value (c.in_ok-sorted.ensures.ascend ts) (c.in_ok-sorted.ensures.same ts) (c.rows.view_is ∙ c.into_rows-rows.ensures.same) in
     let kept = subst (λ k. settled_neighbours c.args.rule (rows_of k ts sorted) ≡ said (rows_of k ts c.in_ok-places.places.items)) c.deref-2.ensures.value (c.in_ok-places.ensures.settled ts) in
-    settled_is c.args.rule c.args.definitions (rows_of ks ts c.in_ok-places.places.items) c.into_rows-rows.ensures.table (sym same ∙ kept)
+    let rows = rows_of ks ts c.in_ok-places.places.items in record {
+      settled = settled_is c.args.rule c.args.definitions rows c.into_rows-rows.ensures.table (sym same ∙ kept);
+      few = (let fewer = settled_few c.args.rule c.args.definitions rows (sym same ∙ kept) in let few = c.into_rows-rows.ensures.few in omega arith);
+    }
 
 pub returns-clause-exact : goal.returns-clause-exact
 returns-clause-exact c =

@@ -1,8 +1,7 @@
-use Rattle.std.proofs.Common.{◌≡◌, ◌≤◌, nat_eq, ◌++◌, ◌∷◌, List, length, rules, sym, ◌∙◌, ap, ap₂, subst}
-use Rattle.std.specs.Prelude.{Option, Ok, Result, Bool, option_to_list}
+use Rattle.std.proofs.Common.{◌≡◌, ◌≤◌, nat_eq, ◌++◌, ◌∷◌, List, length, rules, sym, ◌∙◌, ap₂, subst}
+use Rattle.std.specs.Prelude.{Option, option_to_list}
 use Rattle.std.specs.List.{All, starts_with}
 use Rattle.std.proofs.lemmas.List.Elements.{All-push}
-use Rattle.compose_read.specs.Settle.{Overlap}
 use Rattle.compose_read.specs.Rows.{definition_at, IsPlaced}
 use Rattle.compose_read.specs.declared.rows.RowPlace.{RowPlace}
 use Rattle.compose_read.proofs.Begins.{stays_apart}

@@ -21,7 +21,7 @@ returns-clause-same c = λ texts.
     let long : c.in_ok-sorted.sorted.len ≡ length c.sort_run.new.run = search rules in
     let written = given_back c.in_ok-sorted.sorted.len c.sort_run.new.run guessed long in
     let guess = stable_same row (by_sequence ks) c.args.places.items guessed (sequences_tie row)
-    c.in_ok-sorted.ensures.stable in
+    (subst (λ ps. IsStableBy (by_sequence ks) ps guessed) c.deref.ensures.value c.in_ok-sorted.ensures.stable) in
     let sort = stable_same row (by_sequence ks) guessed _ (sequences_tie row)
     (subst (IsStableBy (by_sequence ks) guessed) (sym written) (subst (λ ps. IsStableBy (by_sequence ks) ps c.sort_run.new.run) c.deref_mut.ensures.value c.in_ok-sort_run.ensures.stable)) in
     λ v. sort v ∙ guess v
@@ -32,4 +32,4 @@ returns-clause-placed c = λ texts h.
     let long : c.in_ok-sorted.sorted.len ≡ length c.sort_run.new.run = search rules in
     let written = given_back c.in_ok-sorted.sorted.len c.sort_run.new.run guessed long in
     All-permutation placed guessed _ (subst (IsPermutation guessed) (sym written) (subst (λ ps. IsPermutation ps c.sort_run.new.run) c.deref_mut.ensures.value c.in_ok-sort_run.ensures.permutation))
-    (All-permutation placed c.args.places.items guessed c.in_ok-sorted.ensures.permutation h)
+    (All-permutation placed c.args.places.items guessed (subst (λ ps. IsPermutation ps guessed) c.deref.ensures.value c.in_ok-sorted.ensures.permutation) h)

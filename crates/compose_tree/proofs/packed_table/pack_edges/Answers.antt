@@ -1,7 +1,8 @@
 use Rattle.std.proofs.Common.{◌≡◌, ◌+◌, ◌∙◌, ap, sym, set, take, drop, get_or, length, replicate, zero-add, arith, rules}
 use Rattle.std.proofs.Math.Seq.{take-length, drop-length}
+use Rattle.compose_tree.specs.declared.edge.NodeEdge.{NodeEdge}
 use Rattle.compose_tree.specs.declared.packed.PackedNode.{PackedNode}
-use Rattle.compose_tree.specs.Rows.{gathered}
+use Rattle.compose_tree.specs.Rows.{target_number, gathered}
 use Rattle.compose_tree.specs.Packed.{packed_nodes, packed_edges}
 use Rattle.compose_tree.proofs.Gathering.{rows_count, counts_none}
 use Rattle.compose_tree.proofs.PackedLookups.{packed_count}
@@ -60,7 +61,7 @@ loop-edge-preserved c =
     let none : PackedNode = record { depth = 0; first = 0 } in
     let place : (get_or c.args.nodes.now c.edge-item.result.node none).first + c.index-count.result.now ≡ p.q = ap (λ n. (get_or c.args.nodes.now c.edge-item.result.node none).first + n) c.index-count.ensures ∙ p.next none c.index-count.result.now in
     record {
-      so_far = ap (λ q. set c.loop-edge.packed.items q c.in_ok-packed-2.field-0) place ∙ ap (set c.loop-edge.packed.items p.q) c.in_ok-packed-2.ensures ∙ p.packed_is;
+      so_far = ap (λ q. set c.loop-edge.packed.items q c.pack_edge.result) place ∙ ap (set c.loop-edge.packed.items p.q) c.pack_edge.ensures ∙ p.packed_is;
       counted = p.counts_are c.index-count.result.now c.index-count.ensures;
     }
 
@@ -70,3 +71,8 @@ returns c =
     let all : k ≡ length es = omega arith in
     c.loop-edge.invariant.so_far ∙ ap (λ n. laid 0 ds (take n es) (drop n es)) all
     ∙ ap (λ x. laid 0 ds x (drop (length es) es)) (take-length es) ∙ ap (laid 0 ds es) (drop-length es) ∙ laid_all 0 ds es
+
+pub pack_edge-requires : goal.pack_edge-requires
+pack_edge-requires c =
+    let is = ap (λ (e : NodeEdge). target_number e.edge.target) c.edge-item.is in
+    omega (arith, is, c.requires.numbers c.loop-edge.edge-index c.edge-item.result c.loop-edge-test.true)

@@ -16,7 +16,7 @@ pub add_sequence-requires-clause-below : goal.add_sequence-requires-clause-below
 add_sequence-requires-clause-below c =
     let all = c.args.sequences.now in
     let e = shared_here all c.loop-index.index c.loop-index.previous.now c.sequence_of-sequence.result.now c.shared_front-shared.result c.shared_front-shared.ensures c.loop-index.invariant.last c.sequence_of-sequence.ensures in
-    let a = adds_at all c.loop-index.index c.len.ensures.settled (omega arith) in
+    let a = adds_at all c.loop-index.index c.len-count.ensures.settled (omega arith) in
     omega (arith, e, a.within, ap length c.sequence_of-sequence.ensures)
 
 pub loop-index-preserved : goal.loop-index-preserved
