@@ -150,7 +150,7 @@ def measure_migration(program, folder, reading):
 
 
 def measure_service(program, bench, folder):
-    """Calls of a service: keys beside a bare `feed`, and opening and closing sessions."""
+    """Calls of a service: keys beside a bare `feed`, loads beside `check_bytes`, and opening and closing sessions."""
     write(folder, "nobody", "")
     made = subprocess.run([program, "make", "--names", "names", "english", "english", "nobody"], cwd=folder, capture_output=True, text=True, check=True)
     write(folder, "itself", made.stdout)
@@ -161,6 +161,9 @@ def measure_service(program, bench, folder):
         times = least_figures({"keys": [bench, "keys", *service, "pressed", str(sessions)]}, folder, 5)["keys"]
         bare, served = times["feed"] / times["keys"], times["key"] / times["keys"]
         print(f"keys in {sessions} sessions: {served:.1f} ns a key through a service, {bare:.1f} by a bare feed; ratio {served / bare:.2f}")
+    times = least_figures({"load": [bench, "load", *service]}, folder, 5)["load"]
+    loading, checking = times["load"] / 1e6, times["check"] / 1e6
+    print(f"an accepted load of the same table: {loading:.3f} ms; check_bytes on the same bytes {checking:.3f} ms; ratio {loading / checking:.2f}")
     times = least_figures({"sessions": [bench, "sessions", *service, str(MOST_SESSIONS)]}, folder, 5)["sessions"]
     each = times["close the others"] / (MOST_SESSIONS - 1) / 1000
     print(f"opening {MOST_SESSIONS} sessions: {times['open all'] / MOST_SESSIONS / 1000:.2f} us each")

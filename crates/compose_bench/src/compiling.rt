@@ -20,9 +20,20 @@ struct Times {
 /// Reads, settles and builds a table; prints the times, and what the table holds.
 pub fn compile(rt: &HostRuntime, header: &str, path: &str) -> Result<(), Failure> {
     let names = read_names(rt, header)?;
+    compile_with(rt, &names, path)
+}
+
+/// The same with these names.
+fn compile_with(rt: &HostRuntime, names: &Names, path: &str) -> Result<(), Failure> {
+    let times = measure_table(rt, names, path)?;
+    print_times(rt, times)?;
+    print_table(rt, names, path)
+}
+
+/// The times of some rounds over the table of a file.
+fn measure_table(rt: &HostRuntime, names: &Names, path: &str) -> Result<Times, Failure> {
     let sources = read_sources(rt, path)?;
-    print_times(rt, measure(rt, &names, &sources, path)?)?;
-    print_counts(rt, &read_packed(rt, &names, path)?)
+    measure(rt, names, &sources, path)
 }
 
 /// The times of some rounds.
@@ -39,13 +50,35 @@ fn measure(
         whole: Stopwatch::new(),
     };
     for _ in 0..ROUNDS {
-        let start = now(rt)?;
-        let definitions = read_round(rt, names, sources, root, &mut times.reading)?;
-        let sequences = settle_round(rt, definitions, &mut times.settling)?;
-        build_round(rt, sequences, &mut times.building)?;
-        times.whole.stop(rt, start)?;
+        measure_round(rt, names, sources, root, &mut times)?;
     }
     Ok(times)
+}
+
+/// Measures one round.
+fn measure_round(
+    rt: &HostRuntime,
+    names: &Names,
+    sources: &Sources,
+    root: &str,
+    times: &mut Times,
+) -> Result<(), Failure> {
+    let start = now(rt)?;
+    compile_round(rt, names, sources, root, times)?;
+    times.whole.stop(rt, start)
+}
+
+/// Does the three parts of compiling one after the other.
+fn compile_round(
+    rt: &HostRuntime,
+    names: &Names,
+    sources: &Sources,
+    root: &str,
+    times: &mut Times,
+) -> Result<(), Failure> {
+    let definitions = read_round(rt, names, sources, root, &mut times.reading)?;
+    let sequences = settle_round(rt, definitions, &mut times.settling)?;
+    build_round(rt, sequences, &mut times.building)
 }
 
 /// Reads the definitions.
@@ -102,6 +135,12 @@ fn print_times(rt: &HostRuntime, times: Times) -> Result<(), Failure> {
             ("compile", times.whole.least()),
         ],
     )
+}
+
+/// Prints what the table of a file holds.
+fn print_table(rt: &HostRuntime, names: &Names, path: &str) -> Result<(), Failure> {
+    let table = read_packed(rt, names, path)?;
+    print_counts(rt, &table)
 }
 
 /// Prints how many nodes, edges and sequences a table has, and the bytes of its texts.

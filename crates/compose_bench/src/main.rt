@@ -6,6 +6,7 @@ mod compiling;
 mod failure;
 mod figures;
 mod input;
+mod loading;
 mod reading;
 mod serving;
 mod sessions;
@@ -24,6 +25,9 @@ fn run(rt: &HostRuntime, words: &[&str]) -> Result<(), Failure> {
         ["certificate", certificate] => reading::read_certificate(rt, certificate),
         ["compile", header, table] => compiling::compile(rt, header, table),
         ["type", header, table, keys] => typing::type_keys(rt, header, table, keys),
+        ["load", header, table, certificate] => {
+            loading::load::<PackedTable>(rt, header, table, certificate)
+        }
         ["sessions", header, table, certificate, sessions] => {
             sessions::open_and_close::<PackedTable>(rt, header, table, certificate, sessions)
         }

@@ -3,25 +3,30 @@ use crate::failure::Failure;
 use crate::figures::print;
 use crate::input::read_file;
 use crate::stopwatch::{ROUNDS, Stopwatch, now};
+use arrayvec::ArrayVec;
 use compose_cert::Certificate;
-use compose_lex::{Line, lex_line};
+use compose_lex::{Said, lex_line_into};
 use keysym_core::Names;
 
 /// Lexes all lines of a table.
 pub fn lex(rt: &HostRuntime, path: &str) -> Result<(), Failure> {
     let bytes = read_file(rt, path)?;
-    let Ok(text) = str::from_utf8(&bytes) else {
-        return Err(Failure::Input);
-    };
-    let Ok(lines) = text.lines().collect::<Vec<&str>>(rt.alloc()) else {
-        return Err(Failure::NoMemory);
-    };
-    let (time, events) = lex_rounds(rt, &lines)?;
-    print(rt, &[("lex", time), ("events", events)])
+    match str::from_utf8(&bytes) {
+        Ok(text) => lex_text(rt, text),
+        Err(_) => Err(Failure::Input),
+    }
 }
 
-/// The quickest time of lexing the lines, and how many events they have.
-fn lex_rounds(rt: &HostRuntime, lines: &[&str]) -> Result<(u64, u64), Failure> {
+/// Lexes all lines of a text.
+fn lex_text(rt: &HostRuntime, text: &str) -> Result<(), Failure> {
+    match text.lines().collect::<Vec<&str>>(rt.alloc()) {
+        Ok(lines) => lex_rounds(rt, &lines),
+        Err(_) => Err(Failure::NoMemory),
+    }
+}
+
+/// Lexes the lines in each round; prints the quickest time, and how many events they have.
+fn lex_rounds(rt: &HostRuntime, lines: &[&str]) -> Result<(), Failure> {
     let mut stopwatch = Stopwatch::new();
     let mut events = 0;
     for _ in 0..ROUNDS {
@@ -29,22 +34,23 @@ fn lex_rounds(rt: &HostRuntime, lines: &[&str]) -> Result<(u64, u64), Failure> {
         events = count_events(lines);
         stopwatch.stop(rt, start)?;
     }
-    Ok((stopwatch.least(), events))
+    print(rt, &[("lex", stopwatch.least()), ("events", events)])
 }
 
 /// How many events the lines have.
 fn count_events(lines: &[&str]) -> u64 {
+    let mut events = ArrayVec::new();
     let mut count = 0u64;
     for line in lines {
-        count = count.saturating_add(events_on(line));
+        count = count.saturating_add(events_on(line, &mut events));
     }
     count
 }
 
 /// How many events a line has.
-fn events_on(line: &str) -> u64 {
-    match lex_line(line) {
-        Ok(Line::Production { events, .. }) => events.len() as u64,
+fn events_on<'a>(line: &'a str, events: &mut ArrayVec<&'a str, 32>) -> u64 {
+    match lex_line_into(line, events) {
+        Ok(Said::Production { .. }) => events.len() as u64,
         _ => 0,
     }
 }
@@ -52,10 +58,15 @@ fn events_on(line: &str) -> u64 {
 /// Reads a header of names.
 pub fn read_names(rt: &HostRuntime, path: &str) -> Result<(), Failure> {
     let header = read_file(rt, path)?;
+    measure_names(rt, &header)
+}
+
+/// Prints the quickest time of reading these bytes of a header.
+fn measure_names(rt: &HostRuntime, header: &[u8]) -> Result<(), Failure> {
     let mut stopwatch = Stopwatch::new();
     for _ in 0..ROUNDS {
         let start = now(rt)?;
-        if Names::read(rt.alloc(), &header).is_err() {
+        if Names::read(rt.alloc(), header).is_err() {
             return Err(Failure::Input);
         }
         stopwatch.stop(rt, start)?;
@@ -66,11 +77,20 @@ pub fn read_names(rt: &HostRuntime, path: &str) -> Result<(), Failure> {
 /// Reads a certificate, and writes it.
 pub fn read_certificate(rt: &HostRuntime, path: &str) -> Result<(), Failure> {
     let text = read_file(rt, path)?;
-    let Ok(certificate) = Certificate::read(rt.alloc(), &text) else {
-        return Err(Failure::Input);
-    };
-    let reading = reading_time(rt, &text)?;
-    let writing = writing_time(rt, &certificate)?;
+    match Certificate::read(rt.alloc(), &text) {
+        Ok(certificate) => measure_certificate(rt, &text, &certificate),
+        Err(_) => Err(Failure::Input),
+    }
+}
+
+/// Prints the times of a certificate, and how many pairs it has.
+fn measure_certificate(
+    rt: &HostRuntime,
+    text: &[u8],
+    certificate: &Certificate,
+) -> Result<(), Failure> {
+    let reading = reading_time(rt, text)?;
+    let writing = writing_time(rt, certificate)?;
     let pairs = certificate.pair_count() as u64;
     print(
         rt,

@@ -6,6 +6,7 @@ use compose_model::Rule;
 use compose_service::Service;
 use compose_tree::ComposeTable;
 use compose_wire::{Answer, Body, Reply, Request};
+use keysym_core::Names;
 
 /// A service over the table of a file, without a repertoire; the certificate is that of the table against itself.
 pub fn start<T: ComposeTable>(
@@ -16,20 +17,36 @@ pub fn start<T: ComposeTable>(
 ) -> Result<Service<T>, Failure> {
     let certificate = read_file(rt, certificate)?;
     let names = read_names(rt, header)?;
-    let Ok(repertoire) = Repertoire::read(rt.alloc(), &[]) else {
-        return Err(Failure::NoMemory);
-    };
+    start_with(rt, names, path, &certificate)
+}
+
+/// The same with these names and this certificate.
+fn start_with<T: ComposeTable>(
+    rt: &HostRuntime,
+    names: Names,
+    path: &str,
+    certificate: &[u8],
+) -> Result<Service<T>, Failure> {
     let sources = read_sources(rt, path)?;
+    let repertoire = no_repertoire(rt)?;
     match Service::start(
         rt.alloc(),
         names,
         repertoire,
         sources,
         Rule::Refuse,
-        &certificate,
+        certificate,
     ) {
         Ok(service) => Ok(service),
         Err(_) => Err(Failure::Input),
+    }
+}
+
+/// A repertoire without characters.
+fn no_repertoire(rt: &HostRuntime) -> Result<Repertoire, Failure> {
+    match Repertoire::read(rt.alloc(), &[]) {
+        Ok(repertoire) => Ok(repertoire),
+        Err(_) => Err(Failure::NoMemory),
     }
 }
 

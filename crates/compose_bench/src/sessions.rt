@@ -42,32 +42,41 @@ pub fn type_in_sessions<T: ComposeTable>(
     let [header, path, certificate, keys] = files;
     let count = read_count(count)?;
     let presses = read_presses(rt, keys, count)?;
-    let mut service: Service<T> = start(rt, header, path, certificate)?;
-    let (bare, served) = measure_keys(rt, header, &mut service, &presses, count)?;
-    let keys = presses.len() as u64;
-    print(rt, &[("keys", keys), ("feed", bare), ("key", served)])
+    type_presses::<T>(rt, &[header, path, certificate], &presses, count)
 }
 
-/// The quickest times of typing the keys without a service and through it.
+/// Types these keys; the files are those of the names, the table and its certificate.
+fn type_presses<T: ComposeTable>(
+    rt: &HostRuntime,
+    files: &[&str; 3],
+    presses: &[Press],
+    count: u32,
+) -> Result<(), Failure> {
+    let [header, path, certificate] = files;
+    let mut service: Service<T> = start(rt, header, path, certificate)?;
+    measure_keys(rt, header, &mut service, presses, count)
+}
+
+/// Measures the keys with the names of a file.
 fn measure_keys<T: ComposeTable>(
     rt: &HostRuntime,
     header: &str,
     service: &mut Service<T>,
     presses: &[Press],
     count: u32,
-) -> Result<(u64, u64), Failure> {
+) -> Result<(), Failure> {
     let names = read_names(rt, header)?;
     measure_rounds(rt, &names, service, presses, count)
 }
 
-/// The same with these names, by turns; each key has the same answer in both.
+/// Prints the quickest times of typing the keys without a service and through it, by turns; each key has the same answer in both.
 fn measure_rounds<T: ComposeTable>(
     rt: &HostRuntime,
     names: &Names,
     service: &mut Service<T>,
     presses: &[Press],
     count: u32,
-) -> Result<(u64, u64), Failure> {
+) -> Result<(), Failure> {
     let mut bare = Stopwatch::new();
     let mut served = Stopwatch::new();
     for _ in 0..TYPINGS {
@@ -77,7 +86,15 @@ fn measure_rounds<T: ComposeTable>(
             return Err(Failure::Input);
         }
     }
-    Ok((bare.least(), served.least()))
+    let keys = presses.len() as u64;
+    print(
+        rt,
+        &[
+            ("keys", keys),
+            ("feed", bare.least()),
+            ("key", served.least()),
+        ],
+    )
 }
 
 /// The keys of a file in the order in which they are typed.
@@ -202,13 +219,22 @@ pub fn open_and_close<T: ComposeTable>(
 ) -> Result<(), Failure> {
     let count = read_count(count)?;
     let mut service: Service<T> = start(rt, header, path, certificate)?;
+    measure_opening(rt, &mut service, count)
+}
+
+/// Prints the quickest times of opening and closing the sessions.
+fn measure_opening<T: ComposeTable>(
+    rt: &HostRuntime,
+    service: &mut Service<T>,
+    count: u32,
+) -> Result<(), Failure> {
     let mut times = Times {
         opening: Stopwatch::new(),
         first: Stopwatch::new(),
         others: Stopwatch::new(),
     };
     for _ in 0..TYPINGS {
-        open_and_close_round(rt, &mut service, count, &mut times)?;
+        open_and_close_round(rt, service, count, &mut times)?;
     }
     print(
         rt,

@@ -47,11 +47,26 @@ impl Counts {
 /// Types the keys of a file, four bytes each, the lowest first.
 pub fn type_keys(rt: &HostRuntime, header: &str, path: &str, keys: &str) -> Result<(), Failure> {
     let names = read_names(rt, header)?;
-    let table = read_packed(rt, &names, path)?;
+    type_with(rt, &names, path, keys)
+}
+
+/// The same with these names.
+fn type_with(rt: &HostRuntime, names: &Names, path: &str, keys: &str) -> Result<(), Failure> {
+    let table = read_packed(rt, names, path)?;
+    type_file(rt, &table, names, keys)
+}
+
+/// Types the keys of a file over this table.
+fn type_file(
+    rt: &HostRuntime,
+    table: &PackedTable,
+    names: &Names,
+    keys: &str,
+) -> Result<(), Failure> {
     let keys = read_keys(rt, keys)?;
     let mut stopwatch = Stopwatch::new();
     let start = now(rt)?;
-    let counts = type_all(&table, &names, &keys);
+    let counts = type_all(table, names, &keys);
     stopwatch.stop(rt, start)?;
     print_counts(rt, stopwatch.least(), counts)
 }
@@ -74,9 +89,14 @@ fn print_counts(rt: &HostRuntime, time: u64, counts: Counts) -> Result<(), Failu
 /// The keysyms of a file.
 pub fn read_keys(rt: &HostRuntime, path: &str) -> Result<Vec<Keysym>, Failure> {
     let bytes = read_file(rt, path)?;
+    keysyms_in(rt, &bytes)
+}
+
+/// The keysyms of these bytes.
+fn keysyms_in(rt: &HostRuntime, bytes: &[u8]) -> Result<Vec<Keysym>, Failure> {
     let mut keys = Vec::new(rt.alloc());
     for place in 0..bytes.len() / 4 {
-        let Some(keysym) = keysym_at(&bytes, place * 4) else {
+        let Some(keysym) = keysym_at(bytes, place * 4) else {
             return Err(Failure::Input);
         };
         if keys.push(keysym).is_err() {

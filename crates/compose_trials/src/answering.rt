@@ -11,13 +11,18 @@ use compose_wire::{Reply, Request};
 /// prints each reply.
 pub fn try_call(rt: &HostRuntime, call: &str) -> Result<(), Failure> {
     let mut service = start_service(rt)?;
-    answer_all(rt, &mut service, "before")?;
+    try_on(rt, &mut service, call)
+}
+
+/// The same on this service.
+fn try_on(rt: &HostRuntime, service: &mut Service<PackedTable>, call: &str) -> Result<(), Failure> {
+    answer_all(rt, service, "before")?;
     match call {
-        "one" => answer_one(rt, &mut service)?,
-        "run" => run(rt, &mut service)?,
+        "one" => answer_one(rt, service)?,
+        "run" => run(rt, service)?,
         _ => return Err(Failure::Words),
     }
-    answer_all(rt, &mut service, "after")
+    answer_all(rt, service, "after")
 }
 
 /// Answers the requests of a file, and prints each reply.

@@ -1,67 +1,45 @@
 //! The text of a certificate, cut at each place, and with each byte replaced by every other.
+use crate::checking::{Parts, check_with, read_parts, say_verdict};
 use crate::failure::Failure;
-use crate::input::{read_file, read_sources};
+use crate::input::read_file;
 use crate::output::say;
-use compose_check::{CheckInput, Verdict, check_bytes};
-use compose_model::Rule;
-use compose_read::Sources;
-use compose_tree::PackedTable;
-
-/// What a certificate is checked with.
-#[derive(Drop)]
-struct Parts {
-    header: Vec<u8>,
-    old: Sources,
-    new: Sources,
-    repertoire: Vec<u8>,
-}
+use compose_check::Verdict;
 
 /// Prints what is answered to each front of the certificate that lacks a byte, and each change of a byte to which the answer is yes:
 /// its place and the byte.
 pub fn try_all(rt: &HostRuntime) -> Result<(), Failure> {
-    let parts = Parts {
-        header: read_file(rt, "header")?,
-        old: read_sources(rt, "old")?,
-        new: read_sources(rt, "new")?,
-        repertoire: read_file(rt, "repertoire")?,
-    };
+    let parts = read_parts(rt)?;
+    try_with(rt, &parts)
+}
+
+/// The same with these parts.
+fn try_with(rt: &HostRuntime, parts: &Parts) -> Result<(), Failure> {
     let mut certificate = read_file(rt, "certificate")?;
+    try_fronts(rt, parts, &certificate)?;
+    try_changes(rt, parts, &mut certificate)
+}
+
+/// Prints what is answered to each front that lacks a byte.
+fn try_fronts(rt: &HostRuntime, parts: &Parts, certificate: &[u8]) -> Result<(), Failure> {
     for end in 0..certificate.len() {
-        say_verdict(rt, &parts, &certificate[..end])?;
-    }
-    for place in 0..certificate.len() {
-        try_bytes(rt, &parts, &mut certificate, place)?;
+        say_verdict(rt, check_with(rt, parts, &certificate[..end]))?;
     }
     Ok(())
 }
 
-/// Prints what is answered to a certificate.
-fn say_verdict(rt: &HostRuntime, parts: &Parts, certificate: &[u8]) -> Result<(), Failure> {
-    match check_bytes::<PackedTable>(rt.alloc(), &input(parts, certificate)) {
-        Ok(Verdict::Yes) => say(rt, "yes"),
-        Ok(Verdict::No(fault)) => say(rt, fault),
-        Err(fault) => say(rt, fault),
+/// Prints each change of a byte to which the answer is yes.
+fn try_changes(rt: &HostRuntime, parts: &Parts, certificate: &mut [u8]) -> Result<(), Failure> {
+    for place in 0..certificate.len() {
+        try_bytes(rt, parts, certificate, place)?;
     }
-}
-
-/// The parts of a check.
-fn input<'a>(parts: &'a Parts, certificate: &'a [u8]) -> CheckInput<'a> {
-    CheckInput {
-        header: &parts.header,
-        old: &parts.old,
-        new: &parts.new,
-        old_rule: Rule::Refuse,
-        new_rule: Rule::Refuse,
-        repertoire: &parts.repertoire,
-        certificate,
-    }
+    Ok(())
 }
 
 /// Puts every other byte at a place, and then the first one again.
 fn try_bytes(
     rt: &HostRuntime,
     parts: &Parts,
-    certificate: &mut Vec<u8>,
+    certificate: &mut [u8],
     place: usize,
 ) -> Result<(), Failure> {
     let Some(right) = certificate.get(place).copied() else {
@@ -87,6 +65,5 @@ fn put(bytes: &mut [u8], place: usize, byte: u8) {
 
 /// Whether the answer is yes.
 fn is_valid(rt: &HostRuntime, parts: &Parts, certificate: &[u8]) -> bool {
-    let verdict = check_bytes::<PackedTable>(rt.alloc(), &input(parts, certificate));
-    matches!(verdict, Ok(Verdict::Yes))
+    matches!(check_with(rt, parts, certificate), Ok(Verdict::Yes))
 }

@@ -4,6 +4,8 @@ use crate::input::start_service;
 use crate::output::say;
 use crate::serving::{say_end, serve};
 use compose_serve::Device;
+use compose_service::Service;
+use compose_tree::PackedTable;
 use std::io;
 use std::io::{Read, Write};
 
@@ -61,6 +63,11 @@ impl Write for Counted {
 /// Serves the frames; prints how that ends, how many replies were written, and how many of them are other ones.
 pub fn serve_endless(rt: &HostRuntime) -> Result<(), Failure> {
     let mut service = start_service(rt)?;
+    serve_frames(rt, &mut service)
+}
+
+/// The same by this service.
+fn serve_frames(rt: &HostRuntime, service: &mut Service<PackedTable>) -> Result<(), Failure> {
     let mut reader = Device::new(Repeated {
         left: FRAMES * FRAME,
     });
@@ -68,7 +75,7 @@ pub fn serve_endless(rt: &HostRuntime) -> Result<(), Failure> {
         replies: 0,
         others: 0,
     };
-    let ended = serve(rt, &mut service, &mut reader, &mut Device::new(&mut writer));
+    let ended = serve(rt, service, &mut reader, &mut Device::new(&mut writer));
     say_end(rt, ended)?;
     say(rt, writer.replies)?;
     say(rt, writer.others)

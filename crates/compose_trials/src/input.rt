@@ -3,7 +3,7 @@ use crate::failure::Failure;
 use compose_cert::Repertoire;
 use compose_model::Rule;
 use compose_read::Sources;
-use compose_service::Service;
+use compose_service::{Service, StartFault};
 use compose_tree::{ComposeTable, PackedTable, read_first_table};
 use compose_wire::{Feeder, Request};
 use keysym_core::Names;
@@ -57,20 +57,52 @@ pub fn read_table<T: ComposeTable>(
     }
 }
 
-/// A service over the old table.
-pub fn start_service(rt: &HostRuntime) -> Result<Service<PackedTable>, Failure> {
+/// What a service starts with, beside its certificate.
+#[derive(Drop)]
+pub struct Start {
+    names: Names,
+    repertoire: Repertoire,
+    sources: Sources,
+}
+
+/// The names, the repertoire and the old table.
+pub fn read_start(rt: &HostRuntime) -> Result<Start, Failure> {
     let names = read_names(rt)?;
+    read_start_with(rt, names)
+}
+
+/// The same with these names.
+fn read_start_with(rt: &HostRuntime, names: Names) -> Result<Start, Failure> {
     let repertoire = read_repertoire(rt)?;
     let sources = read_sources(rt, "old")?;
-    let certificate = read_file(rt, "certificate")?;
-    match Service::start(
-        rt.alloc(),
+    Ok(Start {
         names,
         repertoire,
         sources,
+    })
+}
+
+/// Starts a service of these parts.
+pub fn start_with(
+    rt: &HostRuntime,
+    parts: Start,
+    certificate: &[u8],
+) -> Result<Service<PackedTable>, StartFault> {
+    Service::start(
+        rt.alloc(),
+        parts.names,
+        parts.repertoire,
+        parts.sources,
         Rule::Refuse,
-        &certificate,
-    ) {
+        certificate,
+    )
+}
+
+/// A service over the old table.
+pub fn start_service(rt: &HostRuntime) -> Result<Service<PackedTable>, Failure> {
+    let certificate = read_file(rt, "certificate")?;
+    let parts = read_start(rt)?;
+    match start_with(rt, parts, &certificate) {
         Ok(service) => Ok(service),
         Err(_) => Err(Failure::Input),
     }

@@ -4,6 +4,7 @@
 
 mod answering;
 mod certificates;
+mod checking;
 mod devices;
 mod endless;
 mod failure;

@@ -19,9 +19,14 @@ pub fn hexadecimal(rt: &HostRuntime, bytes: &[u8]) -> Result<String, Failure> {
     }
 }
 
+/// Prints bytes in hexadecimal.
+pub fn say_bytes(rt: &HostRuntime, bytes: &[u8]) -> Result<(), Failure> {
+    let text = hexadecimal(rt, bytes)?;
+    say(rt, text.as_str())
+}
+
 /// Prints the frame of a reply in hexadecimal.
 pub fn say_reply(rt: &HostRuntime, reply: &Reply) -> Result<(), Failure> {
     let frame = put_reply(reply);
-    let text = hexadecimal(rt, frame.as_slice())?;
-    say(rt, text.as_str())
+    say_bytes(rt, frame.as_slice())
 }

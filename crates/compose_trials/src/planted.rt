@@ -66,11 +66,16 @@ fn has_room(rt: &HostRuntime) -> bool {
 /// Answers an Open of session 9 by NoMemory, though it has opened the session.
 fn change_before_a_refusal(rt: &HostRuntime) -> Result<(), Failure> {
     let mut service = start_service(rt)?;
+    refuse_an_open(rt, &mut service)
+}
+
+/// The same by this service.
+fn refuse_an_open(rt: &HostRuntime, service: &mut Service<PackedTable>) -> Result<(), Failure> {
     mark(rt);
     let has_room = has_room(rt);
     mark(rt);
-    open_anyway(rt, &mut service, has_room)?;
-    answer_all(rt, &mut service, "after")
+    open_anyway(rt, service, has_room)?;
+    answer_all(rt, service, "after")
 }
 
 /// Opens the session, and says so only where there is room.

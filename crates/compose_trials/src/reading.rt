@@ -1,14 +1,11 @@
-//! Calls that read names and sources, and checks on bytes.
+//! Calls that read names and sources, start a service and write a bundle.
+use crate::checking::check;
 use crate::failure::Failure;
-use crate::input::{read_file, read_names, read_repertoire, read_sources};
+use crate::input::{Start, read_file, read_sources, read_start, start_with};
 use crate::marks::mark;
-use crate::output::say;
+use crate::output::{say, say_bytes};
 use compose_bundle::write_bundle;
-use compose_check::{CheckInput, Verdict, check_bytes};
-use compose_model::Rule;
 use compose_read::Sources;
-use compose_service::Service;
-use compose_tree::PackedTable;
 use keysym_core::Names;
 
 /// Tries the call that the word names.
@@ -27,11 +24,16 @@ pub fn try_call(rt: &HostRuntime, call: &str) -> Result<(), Failure> {
 fn names(rt: &HostRuntime) -> Result<(), Failure> {
     let header = read_file(rt, "header")?;
     let word = read_file(rt, "word")?;
+    read_names(rt, &header, &word)
+}
+
+/// Reads these bytes of a header, between two marks.
+fn read_names(rt: &HostRuntime, header: &[u8], word: &[u8]) -> Result<(), Failure> {
     mark(rt);
-    let read = Names::read(rt.alloc(), &header);
+    let read = Names::read(rt.alloc(), header);
     mark(rt);
     match read {
-        Ok(names) => say_text(rt, &names, &word),
+        Ok(names) => say_text(rt, &names, word),
         Err(fault) => say(rt, fault),
     }
 }
@@ -53,19 +55,30 @@ fn say_text(rt: &HostRuntime, names: &Names, word: &[u8]) -> Result<(), Failure>
 /// Adds a second source, and tries again after a refusal; prints the refusal, and all sources.
 fn add(rt: &HostRuntime) -> Result<(), Failure> {
     let mut sources = read_sources(rt, "old")?;
+    add_new(rt, &mut sources)
+}
+
+/// Adds it to these sources, between two marks.
+fn add_new(rt: &HostRuntime, sources: &mut Sources) -> Result<(), Failure> {
     let bytes = read_file(rt, "new")?;
-    let again = read_file(rt, "new")?;
     mark(rt);
     let added = sources.add("new", bytes);
     mark(rt);
     if let Err(fault) = added {
         say(rt, fault)?;
-        say_sources(rt, &sources)?;
-        if sources.add("new", again).is_err() {
-            return Err(Failure::Input);
-        }
+        add_again(rt, sources)?;
     }
-    say_sources(rt, &sources)
+    say_sources(rt, sources)
+}
+
+/// Prints the sources, and adds the second one again.
+fn add_again(rt: &HostRuntime, sources: &mut Sources) -> Result<(), Failure> {
+    say_sources(rt, sources)?;
+    let bytes = read_file(rt, "new")?;
+    match sources.add("new", bytes) {
+        Ok(()) => Ok(()),
+        Err(_) => Err(Failure::Input),
+    }
 }
 
 /// Prints each source: its name, and how many bytes it has.
@@ -79,47 +92,17 @@ fn say_sources(rt: &HostRuntime, sources: &Sources) -> Result<(), Failure> {
     Ok(())
 }
 
-/// Checks the certificate.
-fn check(rt: &HostRuntime) -> Result<(), Failure> {
-    let header = read_file(rt, "header")?;
-    let old = read_sources(rt, "old")?;
-    let new = read_sources(rt, "new")?;
-    let repertoire = read_file(rt, "repertoire")?;
-    let certificate = read_file(rt, "certificate")?;
-    let input = CheckInput {
-        header: &header,
-        old: &old,
-        new: &new,
-        old_rule: Rule::Refuse,
-        new_rule: Rule::Refuse,
-        repertoire: &repertoire,
-        certificate: &certificate,
-    };
-    mark(rt);
-    let verdict = check_bytes::<PackedTable>(rt.alloc(), &input);
-    mark(rt);
-    match verdict {
-        Ok(Verdict::Yes) => say(rt, "yes"),
-        Ok(Verdict::No(fault)) => say(rt, fault),
-        Err(fault) => say(rt, fault),
-    }
-}
-
 /// Starts a service.
 fn start(rt: &HostRuntime) -> Result<(), Failure> {
-    let names = read_names(rt)?;
-    let repertoire = read_repertoire(rt)?;
-    let sources = read_sources(rt, "old")?;
     let certificate = read_file(rt, "certificate")?;
+    let parts = read_start(rt)?;
+    start_marked(rt, parts, &certificate)
+}
+
+/// Starts it of these parts, between two marks.
+fn start_marked(rt: &HostRuntime, parts: Start, certificate: &[u8]) -> Result<(), Failure> {
     mark(rt);
-    let started = Service::<PackedTable>::start(
-        rt.alloc(),
-        names,
-        repertoire,
-        sources,
-        Rule::Refuse,
-        &certificate,
-    );
+    let started = start_with(rt, parts, certificate);
     mark(rt);
     match started {
         Ok(service) => say(rt, service.session_count()),
@@ -131,11 +114,16 @@ fn start(rt: &HostRuntime) -> Result<(), Failure> {
 fn bundle(rt: &HostRuntime) -> Result<(), Failure> {
     let sources = read_sources(rt, "new")?;
     let certificate = read_file(rt, "certificate")?;
+    write_marked(rt, &sources, &certificate)
+}
+
+/// Writes the bundle of these, between two marks.
+fn write_marked(rt: &HostRuntime, sources: &Sources, certificate: &[u8]) -> Result<(), Failure> {
     mark(rt);
-    let written = write_bundle(rt.alloc(), &sources, &certificate);
+    let written = write_bundle(rt.alloc(), sources, certificate);
     mark(rt);
     match written {
-        Ok(payload) => say(rt, crate::output::hexadecimal(rt, &payload)?),
+        Ok(payload) => say_bytes(rt, &payload),
         Err(fault) => say(rt, fault),
     }
 }

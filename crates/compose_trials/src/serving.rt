@@ -2,16 +2,16 @@
 use crate::devices::{Behaviour, TrialReader, TrialWriter};
 use crate::failure::Failure;
 use crate::input::{read_file, start_service};
-use crate::output::{hexadecimal, say};
+use crate::output::{say, say_bytes};
 use compose_serve::{Device, Ended, ServeFault};
 use compose_service::Service;
 use compose_tree::PackedTable;
 use std::io::{Read, Write};
 
 /// One stream of a trial: the bytes, and how its devices behave.
-#[derive(Drop)]
-struct Stream {
-    bytes: Vec<u8>,
+#[derive(Clone, Copy, Drop)]
+struct Stream<'a> {
+    bytes: &'a [u8],
     reading: Behaviour,
     writing: Behaviour,
 }
@@ -37,37 +37,47 @@ pub fn try_all(rt: &HostRuntime) -> Result<(), Failure> {
 /// Serves both streams of a line.
 fn try_line(rt: &HostRuntime, stream: &[u8], line: &str) -> Result<(), Failure> {
     let numbers = numbers_of(rt, line)?;
-    let [end, start, first @ .., reads, writes] = numbers.as_slice() else {
-        return Err(Failure::Input);
+    match streams_of(stream, &numbers) {
+        Some((first, second)) => serve_both(rt, first, second),
+        None => Err(Failure::Input),
+    }
+}
+
+/// Both streams of a line's numbers.
+fn streams_of<'a>(stream: &'a [u8], numbers: &[usize]) -> Option<(Stream<'a>, Stream<'a>)> {
+    let [end, start, behaviours @ .., reads, writes] = numbers else {
+        return None;
     };
-    let [
-        read_most,
-        read_failing,
-        read_idle,
-        read_interrupted,
-        write_most,
-        write_failing,
-        write_idle,
-        write_interrupted,
-    ] = first
-    else {
-        return Err(Failure::Input);
+    let first = first_stream(stream.get(..*end)?, behaviours)?;
+    let second = Stream {
+        bytes: stream.get(*start..)?,
+        reading: sound(*reads),
+        writing: sound(*writes),
     };
-    let reading = Behaviour {
-        most: *read_most,
-        failing: *read_failing,
-        idle: *read_idle,
-        interrupted: *read_interrupted,
+    Some((first, second))
+}
+
+/// The first stream of a line, whose devices may fail.
+fn first_stream<'a>(bytes: &'a [u8], behaviours: &[usize]) -> Option<Stream<'a>> {
+    let (reading, writing) = behaviours.split_at_checked(4)?;
+    Some(Stream {
+        bytes,
+        reading: behaviour_of(reading)?,
+        writing: behaviour_of(writing)?,
+    })
+}
+
+/// How a device behaves, by four numbers.
+fn behaviour_of(numbers: &[usize]) -> Option<Behaviour> {
+    let [most, failing, idle, interrupted] = numbers else {
+        return None;
     };
-    let writing = Behaviour {
-        most: *write_most,
-        failing: *write_failing,
-        idle: *write_idle,
-        interrupted: *write_interrupted,
-    };
-    let first = part(rt, stream.get(..*end), reading, writing)?;
-    let second = part(rt, stream.get(*start..), sound(*reads), sound(*writes))?;
-    serve_both(rt, first, second)
+    Some(Behaviour {
+        most: *most,
+        failing: *failing,
+        idle: *idle,
+        interrupted: *interrupted,
+    })
 }
 
 /// The numbers of a line.
@@ -94,50 +104,47 @@ fn sound(most: usize) -> Behaviour {
     }
 }
 
-/// A part of the stream.
-fn part(
-    rt: &HostRuntime,
-    bytes: Option<&[u8]>,
-    reading: Behaviour,
-    writing: Behaviour,
-) -> Result<Stream, Failure> {
-    let Some(bytes) = bytes else {
-        return Err(Failure::Input);
-    };
-    let Ok(bytes) = Vec::from_slice(rt.alloc(), bytes) else {
-        return Err(Failure::NoMemory);
-    };
-    Ok(Stream {
-        bytes,
-        reading,
-        writing,
-    })
+/// Serves one stream after the other.
+fn serve_both(rt: &HostRuntime, first: Stream<'_>, second: Stream<'_>) -> Result<(), Failure> {
+    let mut service = start_service(rt)?;
+    serve_in_turn(rt, &mut service, first, second)
 }
 
-/// Serves one stream after the other.
-fn serve_both(rt: &HostRuntime, first: Stream, second: Stream) -> Result<(), Failure> {
-    let mut service = start_service(rt)?;
-    serve_one(rt, &mut service, first)?;
-    serve_one(rt, &mut service, second)
+/// The same by this service.
+fn serve_in_turn(
+    rt: &HostRuntime,
+    service: &mut Service<PackedTable>,
+    first: Stream<'_>,
+    second: Stream<'_>,
+) -> Result<(), Failure> {
+    serve_one(rt, service, first)?;
+    serve_one(rt, service, second)
 }
 
 /// Serves a stream; prints how it ends, and what is written.
 fn serve_one(
     rt: &HostRuntime,
     service: &mut Service<PackedTable>,
-    stream: Stream,
+    stream: Stream<'_>,
 ) -> Result<(), Failure> {
-    let Stream {
-        bytes,
-        reading,
-        writing,
-    } = stream;
-    let mut reader = Device::new(TrialReader::new(bytes, reading));
-    let mut writer = TrialWriter::new(rt.alloc(), writing);
-    let ended = serve(rt, service, &mut reader, &mut Device::new(&mut writer));
-    let written = hexadecimal(rt, writer.taken())?;
+    let mut writer = TrialWriter::new(rt.alloc(), stream.writing);
+    let ended = serve_into(rt, service, stream, &mut writer)?;
     say_end(rt, ended)?;
-    say(rt, written.as_str())
+    say_bytes(rt, writer.taken())
+}
+
+/// Serves a stream into this writer.
+fn serve_into(
+    rt: &HostRuntime,
+    service: &mut Service<PackedTable>,
+    stream: Stream<'_>,
+    writer: &mut TrialWriter,
+) -> Result<Result<Ended, ServeFault>, Failure> {
+    let Ok(bytes) = Vec::from_slice(rt.alloc(), stream.bytes) else {
+        return Err(Failure::NoMemory);
+    };
+    let mut reader = Device::new(TrialReader::new(bytes, stream.reading));
+    Ok(serve(rt, service, &mut reader, &mut Device::new(writer)))
 }
 
 /// Serves a stream.

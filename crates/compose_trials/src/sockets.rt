@@ -1,7 +1,7 @@
 //! Streams over a Unix socket inside this process.
 use crate::failure::Failure;
 use crate::input::{read_file, start_service};
-use crate::output::{hexadecimal, say};
+use crate::output::say_bytes;
 use crate::serving::{say_end, serve};
 use compose_serve::{Device, Ended, ServeFault};
 use std::io::{Read, Write};
@@ -18,10 +18,18 @@ pub fn try_all(rt: &HostRuntime) -> Result<(), Failure> {
     };
     let client = send(rt, &stream)?;
     let ended = serve_next(rt, &listener)?;
+    say_replies(rt, ended, &client)
+}
+
+/// Prints how the stream ended, and what comes back.
+fn say_replies(
+    rt: &HostRuntime,
+    ended: Result<Ended, ServeFault>,
+    client: &UnixStream,
+) -> Result<(), Failure> {
     let replies = receive(rt, client)?;
     say_end(rt, ended)?;
-    let replies = hexadecimal(rt, &replies)?;
-    say(rt, replies.as_str())
+    say_bytes(rt, &replies)
 }
 
 /// Connects, sends the stream, and ends its side.
@@ -40,22 +48,27 @@ fn serve_next(
     rt: &HostRuntime,
     listener: &UnixListener,
 ) -> Result<Result<Ended, ServeFault>, Failure> {
+    match listener.accept() {
+        Ok((stream, _)) => serve_stream(rt, &stream),
+        Err(_) => Err(Failure::System),
+    }
+}
+
+/// Serves a connection by a service of its own.
+fn serve_stream(
+    rt: &HostRuntime,
+    stream: &UnixStream,
+) -> Result<Result<Ended, ServeFault>, Failure> {
     let mut service = start_service(rt)?;
-    let Ok((stream, _)) = listener.accept() else {
-        return Err(Failure::System);
-    };
-    Ok(serve(
-        rt,
-        &mut service,
-        &mut Device::new(&stream),
-        &mut Device::new(&stream),
-    ))
+    let mut reader = Device::new(stream);
+    let mut writer = Device::new(stream);
+    Ok(serve(rt, &mut service, &mut reader, &mut writer))
 }
 
 /// All that comes back.
-fn receive(rt: &HostRuntime, client: UnixStream) -> Result<Vec<u8>, Failure> {
+fn receive(rt: &HostRuntime, mut client: &UnixStream) -> Result<Vec<u8>, Failure> {
     let mut replies = Vec::new(rt.alloc());
-    match (&client).read_to_end(&mut replies) {
+    match client.read_to_end(&mut replies) {
         Ok(_) => Ok(replies),
         Err(_) => Err(Failure::System),
     }

@@ -3,41 +3,76 @@ use crate::failure::Failure;
 use crate::input::{read_names, read_repertoire, read_table};
 use crate::marks::mark;
 use crate::output::say;
-use compose_cert::Certificate;
-use compose_make::{Made, make};
+use compose_cert::{Certificate, Repertoire};
+use compose_make::{Made, MakeFault, make};
 use compose_tree::PackedTable;
 use compose_walk::{Counterexample, explain};
 use keysym_core::{Names, ShownChar};
 
+/// The names, and an old and a new table.
+#[derive(Drop)]
+struct Tables {
+    names: Names,
+    old: PackedTable,
+    new: PackedTable,
+}
+
 /// Tries the call that the word names.
 pub fn try_call(rt: &HostRuntime, call: &str) -> Result<(), Failure> {
-    let names = read_names(rt)?;
-    let old: PackedTable = read_table(rt, &names, "old")?;
-    let new: PackedTable = read_table(rt, &names, "new")?;
+    let tables = read_tables(rt)?;
+    try_on(rt, &tables, call)
+}
+
+/// The same on these tables.
+fn try_on(rt: &HostRuntime, tables: &Tables, call: &str) -> Result<(), Failure> {
     match call {
-        "make" => try_make(rt, &names, &old, &new),
-        "explain" => try_explain(rt, &names, &old, &new),
+        "make" => try_make(rt, tables),
+        "explain" => try_explain(rt, tables),
         _ => Err(Failure::Words),
     }
 }
 
-/// Makes a certificate.
-fn try_make(
-    rt: &HostRuntime,
-    names: &Names,
-    old: &PackedTable,
-    new: &PackedTable,
-) -> Result<(), Failure> {
+/// The tables in the files.
+fn read_tables(rt: &HostRuntime) -> Result<Tables, Failure> {
+    let names = read_names(rt)?;
+    let old = read_table(rt, &names, "old")?;
+    read_new(rt, names, old)
+}
+
+/// The tables, the names and the old one of which are read.
+fn read_new(rt: &HostRuntime, names: Names, old: PackedTable) -> Result<Tables, Failure> {
+    let new = read_table(rt, &names, "new")?;
+    Ok(Tables { names, old, new })
+}
+
+/// Makes a certificate, between two marks.
+fn try_make(rt: &HostRuntime, tables: &Tables) -> Result<(), Failure> {
     let repertoire = read_repertoire(rt)?;
     mark(rt);
-    let made = make(rt.alloc(), old, new, names, &repertoire, &[]);
+    let made = make_with(rt, tables, &repertoire);
     mark(rt);
     match made {
         Ok(Made::Made(certificate)) => say_certificate(rt, &certificate),
         Ok(Made::Unreachable(character)) => say(rt, ShownChar(character)),
-        Ok(Made::Differs(counterexample)) => say_evidence(rt, names, &counterexample),
+        Ok(Made::Differs(counterexample)) => say_evidence(rt, &tables.names, &counterexample),
         Err(fault) => say(rt, fault),
     }
+}
+
+/// Makes a certificate.
+fn make_with(
+    rt: &HostRuntime,
+    tables: &Tables,
+    repertoire: &Repertoire,
+) -> Result<Made, MakeFault> {
+    make(
+        rt.alloc(),
+        &tables.old,
+        &tables.new,
+        &tables.names,
+        repertoire,
+        &[],
+    )
 }
 
 /// Prints the text of a certificate.
@@ -61,18 +96,12 @@ fn say_evidence(
 }
 
 /// Writes the evidence that the tables differ.
-fn try_explain(
-    rt: &HostRuntime,
-    names: &Names,
-    old: &PackedTable,
-    new: &PackedTable,
-) -> Result<(), Failure> {
+fn try_explain(rt: &HostRuntime, tables: &Tables) -> Result<(), Failure> {
     let repertoire = read_repertoire(rt)?;
-    let made = make(rt.alloc(), old, new, names, &repertoire, &[]);
-    match made {
+    match make_with(rt, tables, &repertoire) {
         Ok(Made::Made(certificate)) => say_certificate(rt, &certificate),
         Ok(Made::Unreachable(character)) => say(rt, ShownChar(character)),
-        Ok(Made::Differs(counterexample)) => explain_marked(rt, names, &counterexample),
+        Ok(Made::Differs(counterexample)) => explain_marked(rt, &tables.names, &counterexample),
         Err(fault) => say(rt, fault),
     }
 }

@@ -1,0 +1,156 @@
+//! Loads of a table into a service over the same table, beside `check_bytes` on the same bytes.
+use crate::failure::Failure;
+use crate::figures::print;
+use crate::input::{read_file, read_sources};
+use crate::serving::start;
+use crate::stopwatch::{Stopwatch, now};
+use compose_bundle::write_bundle;
+use compose_check::{CheckInput, Verdict, check_bytes};
+use compose_model::Rule;
+use compose_read::Sources;
+use compose_service::Service;
+use compose_tree::ComposeTable;
+use compose_wire::{Answer, Body, Payload, Request};
+
+/// How often the table is loaded, and the same is checked.
+const LOADS: u32 = 100;
+
+/// The bytes of a header of names, of a table, and of its certificate against itself.
+#[derive(Drop)]
+struct Parts {
+    header: Vec<u8>,
+    sources: Sources,
+    certificate: Vec<u8>,
+}
+
+/// Loads the table of a file into a service over it, and checks the same bytes, by turns; prints the quickest times.
+pub fn load<T: ComposeTable>(
+    rt: &HostRuntime,
+    header: &str,
+    path: &str,
+    certificate: &str,
+) -> Result<(), Failure> {
+    let mut service: Service<T> = start(rt, header, path, certificate)?;
+    load_files(rt, &mut service, header, path, certificate)
+}
+
+/// The same by this service.
+fn load_files<T: ComposeTable>(
+    rt: &HostRuntime,
+    service: &mut Service<T>,
+    header: &str,
+    path: &str,
+    certificate: &str,
+) -> Result<(), Failure> {
+    let parts = read_parts(rt, header, path, certificate)?;
+    load_parts(rt, service, &parts)
+}
+
+/// The parts in these files.
+fn read_parts(
+    rt: &HostRuntime,
+    header: &str,
+    path: &str,
+    certificate: &str,
+) -> Result<Parts, Failure> {
+    let header = read_file(rt, header)?;
+    let sources = read_sources(rt, path)?;
+    let certificate = read_file(rt, certificate)?;
+    Ok(Parts {
+        header,
+        sources,
+        certificate,
+    })
+}
+
+/// Loads and checks these parts.
+fn load_parts<T: ComposeTable>(
+    rt: &HostRuntime,
+    service: &mut Service<T>,
+    parts: &Parts,
+) -> Result<(), Failure> {
+    let request = load_of(rt, parts)?;
+    measure(rt, service, &request, parts)
+}
+
+/// The request that loads the table.
+fn load_of(rt: &HostRuntime, parts: &Parts) -> Result<Request, Failure> {
+    match write_bundle(rt.alloc(), &parts.sources, &parts.certificate) {
+        Ok(payload) => Ok(Request {
+            session: 0,
+            body: Body::Load(Payload::new(payload)),
+        }),
+        Err(_) => Err(Failure::Input),
+    }
+}
+
+/// Prints the quickest times of the request and of a check.
+fn measure<T: ComposeTable>(
+    rt: &HostRuntime,
+    service: &mut Service<T>,
+    request: &Request,
+    parts: &Parts,
+) -> Result<(), Failure> {
+    let mut loading = Stopwatch::new();
+    let mut checking = Stopwatch::new();
+    for _ in 0..LOADS {
+        load_round(rt, service, request, &mut loading)?;
+        check_round::<T>(rt, parts, &mut checking)?;
+    }
+    print(
+        rt,
+        &[("load", loading.least()), ("check", checking.least())],
+    )
+}
+
+/// Loads the table.
+fn load_round<T: ComposeTable>(
+    rt: &HostRuntime,
+    service: &mut Service<T>,
+    request: &Request,
+    stopwatch: &mut Stopwatch,
+) -> Result<(), Failure> {
+    let start = now(rt)?;
+    if !is_loaded(rt, service, request) {
+        return Err(Failure::Input);
+    }
+    stopwatch.stop(rt, start)
+}
+
+/// Whether the service takes the load.
+fn is_loaded<T: ComposeTable>(
+    rt: &HostRuntime,
+    service: &mut Service<T>,
+    request: &Request,
+) -> bool {
+    let reply = service.answer(rt.alloc(), request);
+    matches!(&reply.answer, Answer::Loaded(_))
+}
+
+/// Checks the same bytes.
+fn check_round<T: ComposeTable>(
+    rt: &HostRuntime,
+    parts: &Parts,
+    stopwatch: &mut Stopwatch,
+) -> Result<(), Failure> {
+    let start = now(rt)?;
+    if !is_valid::<T>(rt, parts) {
+        return Err(Failure::Input);
+    }
+    stopwatch.stop(rt, start)
+}
+
+/// Whether the certificate is valid for the table against itself.
+fn is_valid<T: ComposeTable>(rt: &HostRuntime, parts: &Parts) -> bool {
+    let input = CheckInput {
+        header: &parts.header,
+        old: &parts.sources,
+        new: &parts.sources,
+        old_rule: Rule::Refuse,
+        new_rule: Rule::Refuse,
+        repertoire: &[],
+        certificate: &parts.certificate,
+    };
+    let verdict = check_bytes::<T>(rt.alloc(), &input);
+    matches!(verdict, Ok(Verdict::Yes))
+}
