@@ -1,6 +1,6 @@
 //! What the checker says of the worked migrations, over a table of each form.
 use crate::rows::{CHECKED, Row};
-use crate::tables::table;
+use crate::tables::{Tables, certificate_of, repertoire_of};
 use compose_cert::{Certificate, Repertoire};
 use compose_check::{Verdict, check};
 use compose_tree::{ComposeTable, ListTable, PackedTable};
@@ -18,9 +18,7 @@ fn printed(alloc: Global, verdict: Verdict) -> Result<String, Fail> {
 
 /// The verdict on a row.
 fn verdict<T: ComposeTable, U: ComposeTable>(alloc: Global, row: &Row) -> Result<String, Fail> {
-    let names = Names::core(alloc)?;
-    let old: T = table(alloc, &names, row.old)?;
-    let new: U = table(alloc, &names, row.new)?;
+    let Tables { names, old, new } = Tables::<T, U>::read(alloc, row.old, row.new)?;
     verdict_over(alloc, &names, &old, &new, row)
 }
 
@@ -32,9 +30,19 @@ fn verdict_over<T: ComposeTable, U: ComposeTable>(
     new: &U,
     row: &Row,
 ) -> Result<String, Fail> {
-    let repertoire = Repertoire::read(alloc, row.repertoire.as_bytes())?;
-    let certificate = Certificate::read(alloc, row.certificate.as_bytes())?;
-    printed(alloc, check(old, new, names, &repertoire, &certificate))
+    let repertoire = repertoire_of(alloc, row.repertoire)?;
+    let certificate = certificate_of(alloc, row.certificate)?;
+    printed(alloc, checked(old, new, names, &repertoire, &certificate))
+}
+
+pub fn checked<T: ComposeTable, U: ComposeTable>(
+    old: &T,
+    new: &U,
+    names: &Names,
+    repertoire: &Repertoire,
+    certificate: &Certificate,
+) -> Verdict {
+    check(old, new, names, repertoire, certificate)
 }
 
 /// The first row on which the verdict is another one.

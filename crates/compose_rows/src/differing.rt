@@ -1,6 +1,6 @@
 //! All differences of the worked tables, over a table of each form.
 use crate::rows::{ALL_EXPLAINED, Explained};
-use crate::tables::table;
+use crate::tables::Tables;
 use compose_tree::{ComposeTable, ListTable, PackedTable};
 use compose_walk::{differences, explain_all};
 use keysym_core::Names;
@@ -12,11 +12,19 @@ fn printed<T: ComposeTable, U: ComposeTable>(
     alloc: Global,
     row: &Explained,
 ) -> Result<String, Fail> {
-    let names = Names::core(alloc)?;
-    let old: T = table(alloc, &names, row.old)?;
-    let new: U = table(alloc, &names, row.new)?;
-    let differences = differences(alloc, &old, &new, &names, &[])?;
-    Ok(explain_all(alloc, &names, &differences)?)
+    let Tables { names, old, new } = Tables::<T, U>::read(alloc, row.old, row.new)?;
+    printed_over(alloc, &old, &new, &names)
+}
+
+/// What is printed of these tables.
+fn printed_over<T: ComposeTable, U: ComposeTable>(
+    alloc: Global,
+    old: &T,
+    new: &U,
+    names: &Names,
+) -> Result<String, Fail> {
+    let all = differences(alloc, old, new, names, &[])?;
+    Ok(explain_all(alloc, names, &all)?)
 }
 
 /// The first row of which something else is printed.

@@ -1,8 +1,8 @@
 //! The shortest keys on which the worked tables differ, over a table of each form.
 use crate::rows::{EXPLAINED, Explained};
-use crate::tables::table;
+use crate::tables::Tables;
 use compose_tree::{ComposeTable, ListTable, PackedTable};
-use compose_walk::{Walk, explain, walk};
+use compose_walk::{MakeFault, Walk, explain, walk};
 use keysym_core::Names;
 use std::alloc::Global;
 use std::test::Fail;
@@ -12,9 +12,7 @@ fn printed<T: ComposeTable, U: ComposeTable>(
     alloc: Global,
     row: &Explained,
 ) -> Result<String, Fail> {
-    let names = Names::core(alloc)?;
-    let old: T = table(alloc, &names, row.old)?;
-    let new: U = table(alloc, &names, row.new)?;
+    let Tables { names, old, new } = Tables::<T, U>::read(alloc, row.old, row.new)?;
     printed_over(alloc, &names, &old, &new)
 }
 
@@ -25,10 +23,19 @@ fn printed_over<T: ComposeTable, U: ComposeTable>(
     old: &T,
     new: &U,
 ) -> Result<String, Fail> {
-    match walk(alloc, old, new, names, &[])? {
+    match walked(alloc, old, new, names)? {
         Walk::Follows(_pairs) => Ok(String::from_str(alloc, "follows\n")?),
         Walk::Differs(counterexample) => Ok(explain(alloc, names, &counterexample)?),
     }
+}
+
+fn walked<T: ComposeTable, U: ComposeTable>(
+    alloc: Global,
+    old: &T,
+    new: &U,
+    names: &Names,
+) -> Result<Walk, MakeFault> {
+    walk(alloc, old, new, names, &[])
 }
 
 /// The first row of which something else is printed.

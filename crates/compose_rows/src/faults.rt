@@ -1,5 +1,5 @@
 //! The printed texts of faults above the reading of tables, and the faults of fresh keysyms over each form of a table.
-use crate::tables::table;
+use crate::tables::{core, table};
 use compose_cert::{CertFault, RepertoireFault};
 use compose_check::{CheckFault, InputFault, check_fresh};
 use compose_migration::{KeyFault, MigrationFault, Side};
@@ -7,9 +7,10 @@ use compose_read::{ReadFault, SettleFault, SourceFault};
 use compose_tool::TypeFault;
 use compose_tree::{BuildFault, ComposeTable, ListTable, PackedTable, TableFault};
 use compose_walk::MakeFault;
-use keysym_core::{Keysym, NameFault, Names};
+use keysym_core::{Keysym, NameFault};
 use std::alloc::Global;
 use std::fmt::Display;
+use std::process::Abort;
 use std::test::Fail;
 
 /// The text of the first fault that is printed in another way.
@@ -166,14 +167,30 @@ fn faults_of_typing_words_and_making(rt: HostRuntime) -> Result<(), Fail> {
     Ok(())
 }
 
-/// What is wrong with these as fresh keysyms for a small table.
-fn fault_of_fresh<T: ComposeTable>(
+/// A small table.
+fn small_table<T: ComposeTable>(alloc: Global) -> Result<T, Fail> {
+    let names = core(alloc)?;
+    table(alloc, &names, "<dead_acute> <e> : \"é\"\n")
+}
+
+/// Expects what is wrong with keysyms as fresh ones for a small table.
+fn expect_fresh<T: ComposeTable>(
+    rt: &impl Abort,
     alloc: Global,
-    fresh: &[Keysym],
-) -> Result<Option<CheckFault>, Fail> {
-    let names = Names::core(alloc)?;
-    let old: T = table(alloc, &names, "<dead_acute> <e> : \"é\"\n")?;
-    Ok(check_fresh(&old, fresh))
+    faults: &[(&[Keysym], Option<CheckFault>)],
+) -> Result<(), Fail> {
+    expect_fresh_for::<T>(rt, &small_table(alloc)?, faults);
+    Ok(())
+}
+
+fn expect_fresh_for<T: ComposeTable>(
+    rt: &impl Abort,
+    old: &T,
+    faults: &[(&[Keysym], Option<CheckFault>)],
+) {
+    for (fresh, fault) in faults {
+        assert_eq!(rt; check_fresh(old, fresh), *fault);
+    }
 }
 
 #[test]
@@ -191,10 +208,8 @@ fn faults_of_fresh_keysyms(rt: HostRuntime) -> Result<(), Fail> {
         ),
         (&[used, fresh], Some(CheckFault::FreshUsed { keysym: used })),
     ];
-    for (fresh, fault) in &faults {
-        assert_eq!(rt; fault_of_fresh::<ListTable>(rt.alloc(), fresh)?, *fault);
-        assert_eq!(rt; fault_of_fresh::<PackedTable>(rt.alloc(), fresh)?, *fault);
-    }
+    expect_fresh::<ListTable>(&rt, rt.alloc(), &faults)?;
+    expect_fresh::<PackedTable>(&rt, rt.alloc(), &faults)?;
     Ok(())
 }
 

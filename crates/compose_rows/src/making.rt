@@ -1,20 +1,19 @@
 //! Certificates for the worked migrations, over a table of each form; the checker accepts each.
+use crate::checking::checked;
 use crate::rows::{Asked, MADE};
-use crate::tables::{fresh_of, table};
+use crate::tables::{Tables, fresh_of, repertoire_of};
 use compose_cert::{Certificate, Repertoire};
-use compose_check::{Verdict, check};
+use compose_check::Verdict;
 use compose_make::{Made, make};
 use compose_tree::{ComposeTable, ListTable, PackedTable};
-use compose_walk::explain;
-use keysym_core::{Names, ShownChar};
+use compose_walk::{Counterexample, MakeFault, explain};
+use keysym_core::{Keysym, Names, ShownChar};
 use std::alloc::Global;
 use std::test::Fail;
 
 /// What is printed for a row.
 fn printed<T: ComposeTable, U: ComposeTable>(alloc: Global, row: &Asked) -> Result<String, Fail> {
-    let names = Names::core(alloc)?;
-    let old: T = table(alloc, &names, row.old)?;
-    let new: U = table(alloc, &names, row.new)?;
+    let Tables { names, old, new } = Tables::<T, U>::read(alloc, row.old, row.new)?;
     printed_over(alloc, &names, &old, &new, row)
 }
 
@@ -26,16 +25,44 @@ fn printed_over<T: ComposeTable, U: ComposeTable>(
     new: &U,
     row: &Asked,
 ) -> Result<String, Fail> {
-    let repertoire = Repertoire::read(alloc, row.repertoire.as_bytes())?;
+    let repertoire = repertoire_of(alloc, row.repertoire)?;
     let fresh = fresh_of(alloc, names, row.fresh)?;
-    match make(alloc, old, new, names, &repertoire, &fresh)? {
-        Made::Differs(counterexample) => Ok(explain(alloc, names, &counterexample)?),
-        Made::Unreachable(character) => unreachable(alloc, character),
+    let made = made(alloc, old, new, names, &repertoire, &fresh)?;
+    printed_made(alloc, old, new, names, &repertoire, &made)
+}
+
+/// What is printed of what was made for these tables.
+fn printed_made<T: ComposeTable, U: ComposeTable>(
+    alloc: Global,
+    old: &T,
+    new: &U,
+    names: &Names,
+    repertoire: &Repertoire,
+    made: &Made,
+) -> Result<String, Fail> {
+    match made {
+        Made::Differs(counterexample) => explained(alloc, names, counterexample),
+        Made::Unreachable(character) => unreachable(alloc, *character),
         Made::Made(certificate) => {
-            let verdict = check(old, new, names, &repertoire, &certificate);
-            certified(alloc, &certificate, verdict)
+            let verdict = checked(old, new, names, repertoire, certificate);
+            certified(alloc, certificate, verdict)
         }
     }
+}
+
+fn made<T: ComposeTable, U: ComposeTable>(
+    alloc: Global,
+    old: &T,
+    new: &U,
+    names: &Names,
+    repertoire: &Repertoire,
+    fresh: &[Keysym],
+) -> Result<Made, MakeFault> {
+    make(alloc, old, new, names, repertoire, fresh)
+}
+
+fn explained(alloc: Global, names: &Names, found: &Counterexample) -> Result<String, Fail> {
+    Ok(explain(alloc, names, found)?)
 }
 
 /// The line of a character that can't be typed.

@@ -1,7 +1,7 @@
 //! The least typings of a table, and the least character that has none.
-use crate::tables::table;
+use crate::tables::{core, repertoire_of, table};
 use compose_cert::{Repertoire, Typing};
-use compose_make::{Typings, find_typings};
+use compose_make::{MakeFault, Typings, find_typings};
 use compose_tree::{ComposeTable, ListTable, PackedTable};
 use keysym_core::{Names, ShownChar};
 use std::alloc::Global;
@@ -10,16 +10,40 @@ use std::test::Fail;
 
 /// What is found, a line each: the character, and the keys' numbers; or the character that has no typing.
 fn found<T: ComposeTable>(alloc: Global, source: &str, repertoire: &str) -> Result<String, Fail> {
-    let names = Names::core(alloc)?;
+    let names = core(alloc)?;
     let new: T = table(alloc, &names, source)?;
-    let repertoire = Repertoire::read(alloc, repertoire.as_bytes())?;
-    match find_typings(alloc, &new, &names, &repertoire)? {
+    found_over(alloc, &new, &names, repertoire)
+}
+
+/// What is found over this table.
+fn found_over<T: ComposeTable>(
+    alloc: Global,
+    new: &T,
+    names: &Names,
+    repertoire: &str,
+) -> Result<String, Fail> {
+    let repertoire = repertoire_of(alloc, repertoire)?;
+    let typings = typings_of(alloc, new, names, &repertoire)?;
+    printed(alloc, &typings)
+}
+
+fn printed(alloc: Global, typings: &Typings) -> Result<String, Fail> {
+    match typings {
         Typings::Found(typings) => lines_of(alloc, typings.as_slice()),
         Typings::Unreachable(character) => {
-            let shown = ShownChar(character);
+            let shown = ShownChar(*character);
             Ok(format!(in alloc; "unreachable {shown}\n")?)
         }
     }
+}
+
+fn typings_of<T: ComposeTable>(
+    alloc: Global,
+    new: &T,
+    names: &Names,
+    repertoire: &Repertoire,
+) -> Result<Typings, MakeFault> {
+    find_typings(alloc, new, names, repertoire)
 }
 
 /// A line for each typing.
