@@ -5,12 +5,12 @@ use Rattle.compose_wire.specs.Messages.{Request, Fits, Reply}
 use Rattle.compose_wire.specs.Frames.{frame, reply_bytes, kind_of, payload}
 use Rattle.compose_machine.specs.Machine.{ServiceState, Reading, Step}
 use Rattle.compose_machine.specs.Laws.{Exchange, IsHistory}
-use Rattle.compose_serve.specs.Ends.{max_frames}
+use Rattle.compose_serve.specs.Ends.{max_frames, malformed_reply}
 use Rattle.compose_many.specs.Connection.{ConnectionState, Event, answers, refuses, Answers, Refuses, AllHappen, piece_of, sent_of, received, exchanges, sent, max_reply}
 use Rattle.compose_many.specs.Steps.{NextSo, AnswersSo, AreAnswers}
 use Rattle.compose_many.specs.declared.connection.Stop.{Stop}
 use Rattle.compose_many.specs.declared.connection.Stop.TheVariants.{NeedsBytes, Full, Refused, NoMemory, TooManyFrames}
-use Rattle.compose_many.proofs.Happening.{flat-more, run-both, happen-more}
+use Rattle.compose_many.proofs.Happening.{behind_nothing, flat-more, run-both, happen-more}
 
 -- one request
 pub next_answered : (limit : ℕ) (reading : Reading) (old new : ServiceState) (s : ConnectionState) (held unsent : List ℕ) (q : Request) (r : Reply) → s.refused ≡ false → length s.unsent < limit → s.answered < max_frames
@@ -49,7 +49,7 @@ module _ (limit : ℕ) (reading : Reading) (old : ServiceState) (before : Connec
       events ++ refuses ∷ [],
       now,
       one_more refuses refl refl (happen-more limit before s now events refuses a.happen n.1) n.0,
-      ap (λ (t : ConnectionState). t.refused) n.1.after,
+      (ap (λ (t : ConnectionState). t.refused) n.1.after, λ e. (let none = behind_nothing s.unsent (reply_bytes malformed_reply) (sym (ap (λ (t : ConnectionState). t.unsent) n.1.after) ∙ e) in cc)),
       refl,
     )
     answers_stop NeedsBytes n = (events, s, as_before n.0, n.1, n.2)

@@ -11,6 +11,7 @@ use Rattle.compose_serve.specs.declared.ends.Ended.TheVariants.{InputEnd, Malfor
 use Rattle.compose_serve.specs.declared.ends.ServeFault.TheVariants.{Read, Write, Cut, TooManyFrames, NoMemory}
 use Rattle.compose_many.specs.Connection.{ConnectionState, new_connection, Event, receives, answers, refuses, sends, Receives, Answers, Refuses, Sends, Happens, AllHappen, replies, sent, refusal, HasItsOwn}
 use Rattle.compose_many.specs.Ends.{IsQuiet, served, EndsAsStream, EndsAtWrite, EndsAtWriteAsStream}
+use Rattle.compose_many.proofs.Happening.{behind_nothing}
 use Rattle.compose_many.proofs.Own.{no_refusal, sent_more, replies_more, written_open, own_more, own_at_first, has_its_own}
 
 all_written : (limit : ℕ) (events : List Event) (now : ConnectionState) → HasItsOwn limit events now → IsQuiet now → sent events ≡ replies_bytes (replies events)
@@ -51,10 +52,6 @@ pub record IsPart (events : List Event) (s : ConnectionState) : Type 0 where
 empty : (xs : List ℕ) → length xs < 1 → xs ≡ []
 empty [] h = refl
 empty (x ∷ xs) h = absurd (omega arith)
-
-behind_nothing : (xs ys : List ℕ) → xs ++ ys ≡ [] → ys ≡ []
-behind_nothing [] ys e = e
-behind_nothing (x ∷ xs) ys e = absurd (cc)
 
 module _ (events : List Event) (s m : ConnectionState) (own : HasItsOwn 1 events s) where
   all_sent : s.unsent ≡ [] → s.refused ≡ false → sent events ≡ replies_bytes (replies events)

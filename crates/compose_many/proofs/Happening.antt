@@ -5,6 +5,10 @@ use Rattle.compose_machine.specs.Machine.{ServiceState, Reading}
 use Rattle.compose_machine.specs.Laws.{Exchange, IsHistory}
 use Rattle.compose_many.specs.Connection.{ConnectionState, Event, Happens, AllHappen, exchange_of, exchanges}
 
+pub behind_nothing : (xs ys : List ℕ) → xs ++ ys ≡ [] → ys ≡ []
+behind_nothing [] ys e = e
+behind_nothing (x ∷ xs) ys e = absurd (cc)
+
 pub flat-both : {X Y : Type 0} (f : X → List Y) (xs ys : List X) → flat_map f (xs ++ ys) ≡ flat_map f xs ++ flat_map f ys
 flat-both f [] ys = refl
 flat-both f (x ∷ xs) ys = ap (λ r. f x ++ r) (flat-both f xs ys) ∙ sym (append_assoc (f x) (flat_map f xs) (flat_map f ys))

@@ -21,6 +21,10 @@ new_connection = record { held = []; unsent = []; answered = 0; refused = false 
 abbrev pub max_reply : ℕ
 max_reply = 272
 
+-- so many bytes are read at once
+abbrev pub max_piece : ℕ
+max_piece = 4096
+
 -- ---- events
 
 -- a piece comes, a request is answered, a faulty frame is refused, or bytes are sent

@@ -12,7 +12,7 @@ use Rattle.compose_serve.specs.declared.ends.Ended.{Ended}
 use Rattle.compose_serve.specs.declared.ends.Ended.TheVariants.{InputEnd}
 use Rattle.compose_serve.specs.declared.ends.ServeFault.{ServeFault}
 use Rattle.compose_serve.specs.declared.ends.ServeFault.TheVariants.{Read, Write, Cut, NoMemory as EndsNoMemory}
-use Rattle.compose_many.specs.Connection.{ConnectionState, Event, Answers, AllHappen, Refuses, received, exchanges, sent, max_reply}
+use Rattle.compose_many.specs.Connection.{ConnectionState, Event, Answers, AllHappen, Refuses, received, exchanges, sent, max_reply, max_piece}
 use Rattle.compose_many.specs.Ends.{IsQuiet}
 use Rattle.compose_many.specs.declared.connection.Stop.{Stop}
 use Rattle.compose_many.specs.declared.connection.Stop.TheVariants.{NeedsBytes, Full, Refused, NoMemory, TooManyFrames}
@@ -37,7 +37,7 @@ HasRoom (Err _) len capacity = ⊤
 abbrev pub StopsSo : ℕ → Stop → ConnectionState → Type 0
 StopsSo limit NeedsBytes now = IsBegun now.held × (now.refused ≡ false)
 StopsSo limit Full now = (limit ≤ length now.unsent) ⊎ (now.unsent ≢ [])
-StopsSo limit Refused now = now.refused ≡ true
+StopsSo limit Refused now = (now.refused ≡ true) × (now.unsent ≢ [])
 StopsSo limit NoMemory now = (now.held ≢ []) × (now.refused ≡ false)
 StopsSo limit TooManyFrames now = (max_frames ≤ now.answered) × BeginsWithFrame now.held × IsQuiet now
 
@@ -64,13 +64,13 @@ abbrev pub AnswersSo : ℕ → Reading → ServiceState → ServiceState → Con
 AnswersSo limit reading old new before now stop =
     (events : List Event) × (after : ConnectionState) × AreAnswers limit reading old new before after events × StopsSo limit stop after × KeptSo stop after now
 
--- nothing is unsent, or why not all was sent
-abbrev pub SendsSo : Option Turn → ConnectionState → Bool → Type 0
-SendsSo None now failed' = now.unsent ≡ []
-SendsSo (Some GoesOn) now failed' = ⊤
-SendsSo (Some Waits) now failed' = ⊤
-SendsSo (Some (Ends (Err Write))) now failed' = (failed' ≡ true) × (now.unsent ≢ [])
-SendsSo (Some _) now failed' = ⊥
+-- all is sent, or why not
+abbrev pub SendsSo : Option Turn → List ℕ → ConnectionState → Bool → Type 0
+SendsSo None bytes now failed' = now.unsent ≡ []
+SendsSo (Some GoesOn) bytes now failed' = bytes ≢ []
+SendsSo (Some Waits) bytes now failed' = now.unsent ≢ []
+SendsSo (Some (Ends (Err Write))) bytes now failed' = (failed' ≡ true) × (now.unsent ≢ [])
+SendsSo (Some _) bytes now failed' = ⊥
 
 -- how a connection ends at the end of the input, where so many bytes are held
 abbrev pub EndsAt : ℕ → Result Ended ServeFault → Type 0
@@ -78,9 +78,13 @@ EndsAt held (Ok InputEnd) = held ≡ 0
 EndsAt held (Err Cut) = held ≢ 0
 EndsAt held _ = ⊥
 
+-- a piece is read only where less is held than may be
+abbrev pub IsRoomFor : ℕ → List ℕ → List ℕ → Type 0
+IsRoomFor most held piece = (piece ≡ []) ⊎ ((length held < most) × (length piece ≤ max_piece))
+
 -- a piece is read, or why there is none
 abbrev pub ReadsSo : ℕ → Turn → ConnectionState → List ℕ → ConnectionState → Option (List ℕ) → Bool → Type 0
-ReadsSo most GoesOn s piece s' left' failed' = s' ≡ record s { held = s.held ++ piece }
+ReadsSo most GoesOn s piece s' left' failed' = (piece ≢ []) × (s' ≡ record s { held = s.held ++ piece })
 ReadsSo most Waits s piece s' left' failed' = (piece ≡ []) × (s' ≡ s)
 ReadsSo most NeedsRoom s piece s' left' failed' = (piece ≡ []) × (s' ≡ s) × (most ≤ length s.held)
 ReadsSo most (Ends (Ok InputEnd)) s piece s' left' failed' = (piece ≡ []) × IsAtEnd left' × (s.held ≡ [])

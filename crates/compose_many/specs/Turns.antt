@@ -1,10 +1,10 @@
 -- A turn of a connection on its stream.
-use Rattle.std.specs.Prelude.{◌≡◌, ℕ, ◌≤◌, max, Bool, List, length, Option, Result}
+use Rattle.std.specs.Prelude.{◌≡◌, ◌≢◌, ◌⊎◌, ℕ, ◌+◌, ◌<◌, ◌≤◌, max, Bool, List, [], length, Option, Result}
 use Rattle.std.specs.Io.KnownBytes.{Consumes, Appends}
 use Rattle.compose_wire.specs.Frames.{IsBegun}
 use Rattle.compose_machine.specs.Machine.{ServiceState, Reading}
 use Rattle.compose_machine.specs.Laws.{IsHistory}
-use Rattle.compose_many.specs.Connection.{ConnectionState, Event, AllHappen, received, exchanges, sent}
+use Rattle.compose_many.specs.Connection.{ConnectionState, Event, AllHappen, received, exchanges, sent, max_piece}
 use Rattle.compose_many.specs.Ends.{IsQuiet, EndsSo}
 use Rattle.compose_many.specs.declared.turn.Limits.{Limits}
 use Rattle.compose_many.specs.declared.turn.Turn.{Turn}
@@ -17,15 +17,24 @@ pub record IsTurn (limit : ℕ) (reading : Reading) (old new : ServiceState) (be
   pub read : Consumes left left' (received events)
   pub wrote : Appends written written' (sent events)
 
--- what follows a turn: the connection goes on as the events leave it, or ends so
-abbrev pub FollowsSo : ℕ → Turn → ConnectionState → ConnectionState → Option (List ℕ) → Bool → Bool → Type 0
-FollowsSo most GoesOn after now left' read_failed write_failed = now ≡ after
-FollowsSo most Waits after now left' read_failed write_failed = now ≡ after
-FollowsSo most NeedsRoom after now left' read_failed write_failed = (now ≡ after) × (most ≤ length now.held) × IsBegun now.held × IsQuiet now
-FollowsSo most (Ends end) after now left' read_failed write_failed = EndsSo end left' read_failed write_failed after
+-- some bytes came or were sent, or something else is unsent now
+abbrev pub Moves : ConnectionState → List Event → ConnectionState → Type 0
+Moves before events after = (sent events ≢ []) ⊎ ((received events ≢ []) ⊎ (after.unsent ≢ before.unsent))
 
--- a turn is events of its own connection; the limit 0 is as 1
+-- all that came is answered, up to a part of a frame, and all is sent
+abbrev pub IsIdle : ConnectionState → Type 0
+IsIdle now = IsBegun now.held × IsQuiet now
+
+-- what follows a turn: the connection stands as the events leave it, where it goes on there was something to do, and where it waits
+-- something is unsent or there is nothing to do; or it ends so
+abbrev pub FollowsSo : ℕ → Turn → ConnectionState → List Event → ConnectionState → ConnectionState → Option (List ℕ) → Bool → Bool → Type 0
+FollowsSo most GoesOn before events after now left' read_failed write_failed = (now ≡ after) × Moves before events after
+FollowsSo most Waits before events after now left' read_failed write_failed = (now ≡ after) × ((now.unsent ≢ []) ⊎ IsIdle now)
+FollowsSo most NeedsRoom before events after now left' read_failed write_failed = (now ≡ after) × (most ≤ length now.held) × IsIdle now
+FollowsSo most (Ends end) before events after now left' read_failed write_failed = EndsSo end left' read_failed write_failed after
+
+-- a turn is events of its own connection; the limit 0 is as 1, and little is held where little was
 abbrev pub TurnSo : Limits → Reading → Turn → ServiceState → ServiceState → ConnectionState → ConnectionState → Option (List ℕ) → Option (List ℕ) → Option (List ℕ) → Option (List ℕ) → Bool → Bool → Type 0
 TurnSo limits reading turn old new before now left left' written written' read_failed write_failed =
     (events : List Event) × (after : ConnectionState) × IsTurn (max limits.unsent 1) reading old new before after left left' written written' events
-    × FollowsSo limits.held turn after now left' read_failed write_failed
+    × (length before.held < limits.held + max_piece → length after.held < limits.held + max_piece) × FollowsSo limits.held turn before events after now left' read_failed write_failed

@@ -2,7 +2,7 @@
 ghost use Rattle.std.specs.Prelude.{◌≡◌, ◌≢◌, ◌+◌, ◌<◌, ◌≤◌, ℕ, List, [], false, length, max, Err, Some};
 ghost use Rattle.std.specs.Io.KnownBytes.{Consumes, Appends};
 ghost use Rattle.compose_many.specs.Connection.{Sends};
-ghost use Rattle.compose_many.specs.Steps.{SendsSo, EndsAt, ReadsSo};
+ghost use Rattle.compose_many.specs.Steps.{SendsSo, EndsAt, IsRoomFor, ReadsSo};
 ghost use Rattle.compose_many.specs.Turns.{TurnSo};
 
 use crate::connection::{Connection, Stop};
@@ -78,7 +78,7 @@ pub fn take_turn<S: Answer, R: TryPull, W: TryPush>(
 
 /// Sends what is unsent, as far as the stream takes it at once; None where all is sent.
 fn send<W: TryPush>(connection: &mut Connection, writer: &mut W) -> Option<Turn>
-    ensures so { (bytes : List ℕ) × Sends connection.old bytes connection.new × Appends (W.written writer.old) (W.written writer.new) bytes × SendsSo result connection.new (W.failed writer.new) }
+    ensures so { (bytes : List ℕ) × Sends connection.old bytes connection.new × Appends (W.written writer.old) (W.written writer.new) bytes × SendsSo result bytes connection.new (W.failed writer.new) }
     ensures mark { result ≢ Some (Turn.Ends (Err ServeFault.Write)) → W.failed writer.new ≡ W.failed writer.old }
 {
     if connection.unsent().is_empty() {
@@ -97,7 +97,7 @@ fn send<W: TryPush>(connection: &mut Connection, writer: &mut W) -> Option<Turn>
 
 /// Reads a piece, unless as much is held as may be.
 fn read<R: TryPull>(connection: &mut Connection, reader: &mut R, most: usize) -> Turn
-    ensures so { (piece : List ℕ) × Consumes (R.left reader.old) (R.left reader.new) piece × ReadsSo most result connection.old piece connection.new (R.left reader.new) (R.failed reader.new) }
+    ensures so { (piece : List ℕ) × Consumes (R.left reader.old) (R.left reader.new) piece × IsRoomFor most connection.old.held piece × ReadsSo most result connection.old piece connection.new (R.left reader.new) (R.failed reader.new) }
     ensures mark { result ≢ Turn.Ends (Err ServeFault.Read) → R.failed reader.new ≡ R.failed reader.old }
 {
     if connection.held() >= most {
