@@ -52,6 +52,7 @@ filter-both p (x ∷ xs) ys = kept (p x) ∙ ap (λ zs. cond (p x) (x ∷ zs) zs
   where
     kept : (b : Bool) → cond b (x ∷ filter p (xs ++ ys)) (filter p (xs ++ ys)) ≡ cond b (x ∷ filter p (xs ++ ys)) (filter p (xs ++ ys))
     kept b = refl
+
     moved : (b : Bool) → cond b (x ∷ filter p xs) (filter p xs) ++ filter p ys ≡ cond b (x ∷ (filter p xs ++ filter p ys)) (filter p xs ++ filter p ys)
     moved true = refl
     moved false = refl

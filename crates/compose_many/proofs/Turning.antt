@@ -14,6 +14,8 @@ use Rattle.compose_many.specs.Steps.{StopsSo, KeptSo, AreAnswers, AnswersSo, Sen
 use Rattle.compose_many.specs.Turns.{IsTurn, Moves, IsIdle, FollowsSo}
 use Rattle.compose_many.specs.declared.connection.Stop.{Stop}
 use Rattle.compose_many.specs.declared.connection.Stop.TheVariants.{NeedsBytes, Full, Refused, NoMemory, TooManyFrames}
+use Rattle.compose_many.specs.Streams.{is_failed}
+use Rattle.compose_many.specs.declared.streams.TryError.{TryError}
 use Rattle.compose_many.specs.declared.turn.Turn.{Turn}
 use Rattle.compose_many.specs.declared.turn.Turn.TheVariants.{GoesOn, Waits, NeedsRoom, Ends}
 use Rattle.compose_many.proofs.Happening.{behind_nothing, flat-both, flat-more, run-both, happen-both}
@@ -90,10 +92,10 @@ read_holds_little most held piece (inr r) h =
 
 -- ---- what follows
 
-pub follows_sent : (most : ℕ) (turn : Turn) (before now : ConnectionState) (bytes : List ℕ) (left' : Option (List ℕ)) (read_failed write_failed : Bool) → SendsSo (Some turn) bytes now write_failed → FollowsSo most turn before (sends bytes ∷ []) now now left' read_failed write_failed
+pub follows_sent : (most : ℕ) (turn : Turn) (before now : ConnectionState) (bytes : List ℕ) (left' : Option (List ℕ)) (read_mark write_mark : Option TryError) → SendsSo (Some turn) bytes now write_mark → FollowsSo most turn before (sends bytes ∷ []) now now left' read_mark write_mark
 follows_sent most GoesOn before now bytes left' rf wf h = (refl, inl (λ e. h (sym (append-nil bytes) ∙ e)))
 follows_sent most Waits before now bytes left' rf wf h = (refl, inl h)
-follows_sent most (Ends (Err Write)) before now bytes left' rf wf h = h
+follows_sent most (Ends (Err Write)) before now bytes left' rf wf h = (ap is_failed h.0, h.1)
 follows_sent most _ before now bytes left' rf wf h = absurd h
 
 -- all is sent, and something is unsent after the answers
@@ -109,7 +111,7 @@ is_kept Full after now k n = k
 is_kept Refused after now k n = k
 is_kept NoMemory after now k n = k
 
-module _ (most : ℕ) (s now : ConnectionState) (piece : List ℕ) (left' : Option (List ℕ)) (read_failed write_failed : Bool) (begun : IsBegun s.held) (quiet : IsQuiet s) where
+module _ (most : ℕ) (s now : ConnectionState) (piece : List ℕ) (left' : Option (List ℕ)) (read_mark write_mark : Option TryError) (begun : IsBegun s.held) (quiet : IsQuiet s) where
   abbrev with_piece : ConnectionState
   with_piece = record s { held = s.held ++ piece }
 
@@ -128,13 +130,13 @@ module _ (most : ℕ) (s now : ConnectionState) (piece : List ℕ) (left' : Opti
   begun_then : piece ≡ [] → IsBegun (s.held ++ piece)
   begun_then e = subst IsBegun (sym (held_is e)) begun
 
-  pub follows_read : (turn : Turn) (before : ConnectionState) (events : List Event) → ReadsSo most turn s piece now left' read_failed → FollowsSo most turn before (events ++ receives piece ∷ []) with_piece now left' read_failed write_failed
+  pub follows_read : (turn : Turn) (before : ConnectionState) (events : List Event) → ReadsSo most turn s piece now left' read_mark → FollowsSo most turn before (events ++ receives piece ∷ []) with_piece now left' read_mark write_mark
   follows_read GoesOn before events h = (h.1, inr (inl (λ e. h.0 (behind_nothing (received events) piece (sym (flat-more piece_of events (receives piece)) ∙ e)))))
-  follows_read Waits before events h = (h.1 ∙ nothing_came h.0, inr (idle h.1))
+  follows_read Waits before events h = (h.2 ∙ nothing_came h.1, inr (h.0, idle h.2))
   follows_read NeedsRoom before events h = (h.1 ∙ nothing_came h.0, subst (λ (t : ConnectionState). most ≤ length t.held) (sym h.1) h.2, idle h.1)
   follows_read (Ends (Ok InputEnd)) before events h = (h.1, held_is h.0 ∙ h.2, quiet_then)
   follows_read (Ends (Err Cut)) before events h = (h.1, λ e. h.2 (sym (held_is h.0) ∙ e), begun_then h.0, quiet_then)
-  follows_read (Ends (Err Read)) before events h = (h.1, begun_then h.0, quiet_then)
+  follows_read (Ends (Err Read)) before events h = (ap is_failed h.1, begun_then h.0, quiet_then)
   follows_read (Ends (Err EndsNoMemory)) before events h = (h, quiet_then)
   follows_read (Ends _) before events h = absurd h
 

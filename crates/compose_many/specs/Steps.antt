@@ -16,6 +16,8 @@ use Rattle.compose_many.specs.Connection.{ConnectionState, Event, Answers, AllHa
 use Rattle.compose_many.specs.Ends.{IsQuiet}
 use Rattle.compose_many.specs.declared.connection.Stop.{Stop}
 use Rattle.compose_many.specs.declared.connection.Stop.TheVariants.{NeedsBytes, Full, Refused, NoMemory, TooManyFrames}
+use Rattle.compose_many.specs.declared.streams.TryError.{TryError}
+use Rattle.compose_many.specs.declared.streams.TryError.TheVariants.{WouldBlock, Failed}
 use Rattle.compose_many.specs.declared.turn.Turn.{Turn}
 use Rattle.compose_many.specs.declared.turn.Turn.TheVariants.{GoesOn, Waits, NeedsRoom, Ends}
 
@@ -65,12 +67,12 @@ AnswersSo limit reading old new before now stop =
     (events : List Event) × (after : ConnectionState) × AreAnswers limit reading old new before after events × StopsSo limit stop after × KeptSo stop after now
 
 -- all is sent, or why not
-abbrev pub SendsSo : Option Turn → List ℕ → ConnectionState → Bool → Type 0
-SendsSo None bytes now failed' = now.unsent ≡ []
-SendsSo (Some GoesOn) bytes now failed' = bytes ≢ []
-SendsSo (Some Waits) bytes now failed' = now.unsent ≢ []
-SendsSo (Some (Ends (Err Write))) bytes now failed' = (failed' ≡ true) × (now.unsent ≢ [])
-SendsSo (Some _) bytes now failed' = ⊥
+abbrev pub SendsSo : Option Turn → List ℕ → ConnectionState → Option TryError → Type 0
+SendsSo None bytes now mark' = now.unsent ≡ []
+SendsSo (Some GoesOn) bytes now mark' = bytes ≢ []
+SendsSo (Some Waits) bytes now mark' = (mark' ≡ Some WouldBlock) × (now.unsent ≢ [])
+SendsSo (Some (Ends (Err Write))) bytes now mark' = (mark' ≡ Some Failed) × (now.unsent ≢ [])
+SendsSo (Some _) bytes now mark' = ⊥
 
 -- how a connection ends at the end of the input, where so many bytes are held
 abbrev pub EndsAt : ℕ → Result Ended ServeFault → Type 0
@@ -83,12 +85,12 @@ abbrev pub IsRoomFor : ℕ → List ℕ → List ℕ → Type 0
 IsRoomFor most held piece = (piece ≡ []) ⊎ ((length held < most) × (length piece ≤ max_piece))
 
 -- a piece is read, or why there is none
-abbrev pub ReadsSo : ℕ → Turn → ConnectionState → List ℕ → ConnectionState → Option (List ℕ) → Bool → Type 0
-ReadsSo most GoesOn s piece s' left' failed' = (piece ≢ []) × (s' ≡ record s { held = s.held ++ piece })
-ReadsSo most Waits s piece s' left' failed' = (piece ≡ []) × (s' ≡ s)
-ReadsSo most NeedsRoom s piece s' left' failed' = (piece ≡ []) × (s' ≡ s) × (most ≤ length s.held)
-ReadsSo most (Ends (Ok InputEnd)) s piece s' left' failed' = (piece ≡ []) × IsAtEnd left' × (s.held ≡ [])
-ReadsSo most (Ends (Err Cut)) s piece s' left' failed' = (piece ≡ []) × IsAtEnd left' × (s.held ≢ [])
-ReadsSo most (Ends (Err Read)) s piece s' left' failed' = (piece ≡ []) × (failed' ≡ true)
-ReadsSo most (Ends (Err EndsNoMemory)) s piece s' left' failed' = s.held ++ piece ≢ []
-ReadsSo most (Ends _) s piece s' left' failed' = ⊥
+abbrev pub ReadsSo : ℕ → Turn → ConnectionState → List ℕ → ConnectionState → Option (List ℕ) → Option TryError → Type 0
+ReadsSo most GoesOn s piece s' left' mark' = (piece ≢ []) × (s' ≡ record s { held = s.held ++ piece })
+ReadsSo most Waits s piece s' left' mark' = (mark' ≡ Some WouldBlock) × (piece ≡ []) × (s' ≡ s)
+ReadsSo most NeedsRoom s piece s' left' mark' = (piece ≡ []) × (s' ≡ s) × (most ≤ length s.held)
+ReadsSo most (Ends (Ok InputEnd)) s piece s' left' mark' = (piece ≡ []) × IsAtEnd left' × (s.held ≡ [])
+ReadsSo most (Ends (Err Cut)) s piece s' left' mark' = (piece ≡ []) × IsAtEnd left' × (s.held ≢ [])
+ReadsSo most (Ends (Err Read)) s piece s' left' mark' = (piece ≡ []) × (mark' ≡ Some Failed)
+ReadsSo most (Ends (Err EndsNoMemory)) s piece s' left' mark' = s.held ++ piece ≢ []
+ReadsSo most (Ends _) s piece s' left' mark' = ⊥

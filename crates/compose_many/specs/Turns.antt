@@ -1,11 +1,14 @@
 -- A turn of a connection on its stream.
-use Rattle.std.specs.Prelude.{◌≡◌, ◌≢◌, ◌⊎◌, ℕ, ◌+◌, ◌<◌, ◌≤◌, max, Bool, List, [], length, Option, Result}
+use Rattle.std.specs.Prelude.{◌≡◌, ◌≢◌, ◌⊎◌, ℕ, ◌+◌, ◌<◌, ◌≤◌, max, List, [], length, Option, Some, Result}
 use Rattle.std.specs.Io.KnownBytes.{Consumes, Appends}
 use Rattle.compose_wire.specs.Frames.{IsBegun}
 use Rattle.compose_machine.specs.Machine.{ServiceState, Reading}
 use Rattle.compose_machine.specs.Laws.{IsHistory}
 use Rattle.compose_many.specs.Connection.{ConnectionState, Event, AllHappen, received, exchanges, sent, max_piece}
 use Rattle.compose_many.specs.Ends.{IsQuiet, EndsSo}
+use Rattle.compose_many.specs.Streams.{is_failed}
+use Rattle.compose_many.specs.declared.streams.TryError.{TryError}
+use Rattle.compose_many.specs.declared.streams.TryError.TheVariants.{WouldBlock}
 use Rattle.compose_many.specs.declared.turn.Limits.{Limits}
 use Rattle.compose_many.specs.declared.turn.Turn.{Turn}
 use Rattle.compose_many.specs.declared.turn.Turn.TheVariants.{GoesOn, Waits, NeedsRoom, Ends}
@@ -26,15 +29,16 @@ abbrev pub IsIdle : ConnectionState → Type 0
 IsIdle now = IsBegun now.held × IsQuiet now
 
 -- what follows a turn: the connection stands as the events leave it, where it goes on there was something to do, and where it waits
--- something is unsent or there is nothing to do; or it ends so
-abbrev pub FollowsSo : ℕ → Turn → ConnectionState → List Event → ConnectionState → ConnectionState → Option (List ℕ) → Bool → Bool → Type 0
-FollowsSo most GoesOn before events after now left' read_failed write_failed = (now ≡ after) × Moves before events after
-FollowsSo most Waits before events after now left' read_failed write_failed = (now ≡ after) × ((now.unsent ≢ []) ⊎ IsIdle now)
-FollowsSo most NeedsRoom before events after now left' read_failed write_failed = (now ≡ after) × (most ≤ length now.held) × IsIdle now
-FollowsSo most (Ends end) before events after now left' read_failed write_failed = EndsSo end left' read_failed write_failed after
+-- the writer takes nothing for now, or the reader gives nothing and there is nothing to do; or it ends so
+abbrev pub FollowsSo : ℕ → Turn → ConnectionState → List Event → ConnectionState → ConnectionState → Option (List ℕ) → Option TryError → Option TryError → Type 0
+FollowsSo most GoesOn before events after now left' read_mark write_mark = (now ≡ after) × Moves before events after
+FollowsSo most Waits before events after now left' read_mark write_mark =
+    (now ≡ after) × (((write_mark ≡ Some WouldBlock) × (now.unsent ≢ [])) ⊎ ((read_mark ≡ Some WouldBlock) × IsIdle now))
+FollowsSo most NeedsRoom before events after now left' read_mark write_mark = (now ≡ after) × (most ≤ length now.held) × IsIdle now
+FollowsSo most (Ends end) before events after now left' read_mark write_mark = EndsSo end left' (is_failed read_mark) (is_failed write_mark) after
 
 -- a turn is events of its own connection; the limit 0 is as 1, and little is held where little was
-abbrev pub TurnSo : Limits → Reading → Turn → ServiceState → ServiceState → ConnectionState → ConnectionState → Option (List ℕ) → Option (List ℕ) → Option (List ℕ) → Option (List ℕ) → Bool → Bool → Type 0
-TurnSo limits reading turn old new before now left left' written written' read_failed write_failed =
+abbrev pub TurnSo : Limits → Reading → Turn → ServiceState → ServiceState → ConnectionState → ConnectionState → Option (List ℕ) → Option (List ℕ) → Option (List ℕ) → Option (List ℕ) → Option TryError → Option TryError → Type 0
+TurnSo limits reading turn old new before now left left' written written' read_mark write_mark =
     (events : List Event) × (after : ConnectionState) × IsTurn (max limits.unsent 1) reading old new before after left left' written written' events
-    × (length before.held < limits.held + max_piece → length after.held < limits.held + max_piece) × FollowsSo limits.held turn before events after now left' read_failed write_failed
+    × (length before.held < limits.held + max_piece → length after.held < limits.held + max_piece) × FollowsSo limits.held turn before events after now left' read_mark write_mark

@@ -1,5 +1,6 @@
 //! What bytes are read from and written to, without waiting.
-ghost use Rattle.std.specs.Prelude.{ℕ, List, Bool, Option};
+ghost use Rattle.std.specs.Prelude.{ℕ, List, Option};
+ghost use Rattle.compose_many.specs.declared.streams.TryError.{TryError};
 ghost use Rattle.compose_many.specs.Streams.{TryPulls, TryPushes};
 
 /// Why a device gives or takes no bytes.
@@ -16,14 +17,14 @@ pub trait TryPull {
     /// The bytes that are left, where they are told.
     ghost left: { Self → Option (List ℕ) };
 
-    /// Whether it is marked as failed.
-    ghost failed: { Self → Bool };
+    /// Why it gave or took no bytes, since it was made: it is marked so.
+    ghost mark: { Self → Option TryError };
 
     /// Puts the next bytes at the start of the piece and says how many; none only at the end, or where the piece has no room.
     ///
-    /// WouldBlock where there are none for now. Failed where it cannot: it is marked then. In both cases no byte is gone.
+    /// WouldBlock where there are none for now, Failed where it cannot: it is marked so, and no byte is gone.
     fn try_pull(&mut self, piece: &mut [u8]) -> Result<usize, TryError>
-        ensures { TryPulls (left self.old) (left self.new) (failed self.old) (failed self.new) result piece.new };
+        ensures { TryPulls (left self.old) (left self.new) (mark self.old) (mark self.new) result piece.new };
 }
 
 /// What bytes are pushed to, without waiting.
@@ -31,12 +32,12 @@ pub trait TryPush {
     /// The bytes that were written, where they are told.
     ghost written: { Self → Option (List ℕ) };
 
-    /// Whether it is marked as failed.
-    ghost failed: { Self → Bool };
+    /// Why it gave or took no bytes, since it was made: it is marked so.
+    ghost mark: { Self → Option TryError };
 
     /// Takes bytes from the start of the piece and says how many: one at least, where the piece has any.
     ///
-    /// WouldBlock where it takes none for now. Failed where it cannot: it is marked then. In both cases it has taken none.
+    /// WouldBlock where it takes none for now, Failed where it cannot: it is marked so, and has taken none.
     fn try_push(&mut self, piece: &[u8]) -> Result<usize, TryError>
-        ensures { TryPushes (written self.old) (written self.new) (failed self.old) (failed self.new) result piece.now };
+        ensures { TryPushes (written self.old) (written self.new) (mark self.old) (mark self.new) result piece.now };
 }

@@ -5,5 +5,5 @@ use Rattle.compose_many.proofs.nonblocking.NonblockingTryPull.try_pull.Given as 
 abbrev pub invariant-reads : goal.invariant-reads
 invariant-reads g l = record {
   kept : Keeps (g.D.Read.remaining l.fn.self.inner) (g.D.Read.remaining l.self.inner);
-  mark : l.self.failed ≡ l.fn.self.failed;
+  mark : l.self.mark ≡ l.fn.self.mark;
 }

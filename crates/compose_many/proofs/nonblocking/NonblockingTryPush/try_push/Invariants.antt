@@ -5,5 +5,5 @@ use Rattle.compose_many.proofs.nonblocking.NonblockingTryPush.try_push.Given as 
 abbrev pub invariant-writes : goal.invariant-writes
 invariant-writes g l = record {
   kept : Keeps (g.D.Write.contents l.fn.self.inner) (g.D.Write.contents l.self.inner);
-  mark : l.self.failed ≡ l.fn.self.failed;
+  mark : l.self.mark ≡ l.fn.self.mark;
 }
