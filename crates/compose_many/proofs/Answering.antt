@@ -1,12 +1,12 @@
 -- What is held is answered.
-use Rattle.std.proofs.Common.{◌≡◌, ℕ, ◌+◌, ◌<◌, ◌≤◌, List, [], ◌∷◌, ◌++◌, Bool, true, false, length, refl, sym, ◌∙◌, ap, subst, append-nil, length-append, arith}
+use Rattle.std.proofs.Common.{◌≡◌, ℕ, ◌+◌, ◌<◌, ◌≤◌, List, [], ◌∷◌, ◌++◌, false, length, refl, sym, ◌∙◌, ap, subst}
 use Rattle.std.specs.Prelude.{Ok, Err}
 use Rattle.compose_wire.specs.Messages.{Request, Fits, Reply}
-use Rattle.compose_wire.specs.Frames.{frame, reply_bytes, kind_of, payload}
+use Rattle.compose_wire.specs.Frames.{frame, reply_bytes}
 use Rattle.compose_machine.specs.Machine.{ServiceState, Reading, Step}
 use Rattle.compose_machine.specs.Laws.{Exchange, IsHistory}
 use Rattle.compose_serve.specs.Ends.{max_frames, malformed_reply}
-use Rattle.compose_many.specs.Connection.{ConnectionState, Event, answers, refuses, Answers, Refuses, AllHappen, piece_of, sent_of, received, exchanges, sent, max_reply}
+use Rattle.compose_many.specs.Connection.{ConnectionState, Event, answers, refuses, Answers, AllHappen, piece_of, sent_of, exchanges, max_reply}
 use Rattle.compose_many.specs.Steps.{NextSo, AnswersSo, AreAnswers}
 use Rattle.compose_many.specs.declared.connection.Stop.{Stop}
 use Rattle.compose_many.specs.declared.connection.Stop.TheVariants.{NeedsBytes, Full, Refused, NoMemory, TooManyFrames}

@@ -1,5 +1,5 @@
 -- A connection ends as a stream does.
-use Rattle.std.proofs.Common.{◌≡◌, ◌≢◌, ℕ, ◌<◌, ◌≤◌, List, [], ◌∷◌, ◌++◌, Bool, true, false, length, refl, sym, ◌∙◌, ap, subst, inl, inr, append_assoc, append-nil, eq-eqb, arith}
+use Rattle.std.proofs.Common.{◌≡◌, ◌≢◌, ℕ, ◌<◌, List, [], ◌∷◌, ◌++◌, true, false, length, refl, sym, ◌∙◌, ap, subst, inl, inr, append_assoc, append-nil, eq-eqb, arith}
 use Rattle.std.specs.Prelude.{◌==◌, ◌⊎◌, Ok, Err, IsSome}
 use Rattle.std.proofs.lemmas.Bool.{and_from}
 use Rattle.compose_model.specs.Table.{is_proper_prefix}
@@ -9,10 +9,10 @@ use Rattle.compose_machine.specs.Laws.{Exchange}
 use Rattle.compose_serve.specs.Ends.{replies_bytes, malformed_reply, EndsWrite}
 use Rattle.compose_serve.specs.declared.ends.Ended.TheVariants.{InputEnd, Malformed}
 use Rattle.compose_serve.specs.declared.ends.ServeFault.TheVariants.{Read, Write, Cut, TooManyFrames, NoMemory}
-use Rattle.compose_many.specs.Connection.{ConnectionState, new_connection, Event, receives, answers, refuses, sends, Receives, Answers, Refuses, Sends, Happens, AllHappen, replies, sent, refusal, HasItsOwn}
+use Rattle.compose_many.specs.Connection.{ConnectionState, new_connection, Event, receives, answers, refuses, sends, Answers, Refuses, Sends, Happens, AllHappen, replies, sent, refusal, HasItsOwn}
 use Rattle.compose_many.specs.Ends.{IsQuiet, served, EndsAsStream, EndsAtWrite, EndsAtWriteAsStream}
 use Rattle.compose_many.proofs.Happening.{behind_nothing}
-use Rattle.compose_many.proofs.Own.{no_refusal, sent_more, replies_more, written_open, own_more, own_at_first, has_its_own}
+use Rattle.compose_many.proofs.Own.{sent_more, replies_more, written_open, own_more, own_at_first, has_its_own}
 
 all_written : (limit : ℕ) (events : List Event) (now : ConnectionState) → HasItsOwn limit events now → IsQuiet now → sent events ≡ replies_bytes (replies events)
 all_written limit events now own q = sym (append-nil (sent events)) ∙ ap (λ y. sent events ++ y) (sym q.sent) ∙ written_open events limit now now own q.goes_on

@@ -1,11 +1,11 @@
 -- A connection has the replies to its own requests.
-use Rattle.std.proofs.Common.{◌≡◌, ◌≢◌, ℕ, suc, ◌+◌, ◌<◌, ◌≤◌, List, [], ◌∷◌, ◌++◌, Bool, true, false, length, map, refl, sym, ◌∙◌, ap, subst, append_assoc, append-nil, length-append, arith}
+use Rattle.std.proofs.Common.{◌≡◌, ℕ, ◌+◌, List, [], ◌∷◌, ◌++◌, Bool, true, false, length, map, refl, sym, ◌∙◌, ap, subst, append_assoc, append-nil, length-append, arith}
 use Rattle.std.specs.List.{AllByRecursion}
-use Rattle.compose_wire.specs.Messages.{Request, Fits, Reply}
-use Rattle.compose_wire.specs.Frames.{frame, frames, reply_bytes, kind_of, payload}
+use Rattle.compose_wire.specs.Messages.{Fits, Reply}
+use Rattle.compose_wire.specs.Frames.{frame, frames, reply_bytes}
 use Rattle.compose_machine.specs.Laws.{Exchange}
-use Rattle.compose_serve.specs.Ends.{max_frames, replies_bytes, malformed_reply}
-use Rattle.compose_many.specs.Connection.{ConnectionState, new_connection, Event, receives, answers, refuses, sends, Receives, Answers, Refuses, Sends, Happens, AllHappen, piece_of, exchange_of, sent_of, received, exchanges, requests, replies, sent, refusal, HasItsOwn, max_reply}
+use Rattle.compose_serve.specs.Ends.{replies_bytes, malformed_reply}
+use Rattle.compose_many.specs.Connection.{ConnectionState, new_connection, Event, receives, answers, refuses, sends, Receives, Answers, Refuses, Sends, Happens, AllHappen, piece_of, exchange_of, sent_of, received, exchanges, requests, replies, sent, refusal, HasItsOwn}
 use Rattle.compose_many.proofs.Happening.{flat-more, map-both}
 
 all-more : {X : Type 0} (P : X → Type 0) (xs : List X) (x : X) → AllByRecursion P xs → P x → AllByRecursion P (xs ++ x ∷ [])

@@ -1,8 +1,8 @@
 -- Many connections, each by its own events.
 use Rattle.std.proofs.Common.{◌≡◌, ℕ, List, [], ◌∷◌, ◌++◌, Bool, true, false, cond, map, refl, sym, ◌∙◌, ap, subst, eqb-true}
 use Rattle.std.specs.Prelude.{◌==◌, filter}
-use Rattle.compose_machine.specs.Laws.{Exchange, IsHistory}
-use Rattle.compose_many.specs.Connection.{ConnectionState, Event, AllHappen, exchanges, HasItsOwn}
+use Rattle.compose_machine.specs.Laws.{IsHistory}
+use Rattle.compose_many.specs.Connection.{ConnectionState, Event, AllHappen, exchanges}
 use Rattle.compose_many.specs.Service.{NumberedEvent, events_of, numbered, EachHasItsOwn, TurnsAreServed, ServedOneAfterAnother}
 use Rattle.compose_many.proofs.Happening.{map-both, run-both, happen-both}
 use Rattle.compose_many.proofs.Own.{has_its_own}

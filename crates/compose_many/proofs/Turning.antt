@@ -3,14 +3,13 @@ use Rattle.std.proofs.Common.{◌≡◌, ◌≢◌, ℕ, ◌+◌, ◌<◌, ◌�
 use Rattle.std.specs.Prelude.{◌==◌, ◌⊎◌, Option, Some, Ok, Err}
 use Rattle.std.specs.Io.KnownBytes.{Consumes, Appends}
 use Rattle.std.proofs.KnownBytes.{Consumes-nil, Consumes-trans, Appends-nil, Appends-trans}
-use Rattle.compose_wire.specs.Frames.{frame, IsBegun, kind_of, payload}
+use Rattle.compose_wire.specs.Frames.{frame, IsBegun}
 use Rattle.compose_machine.specs.Machine.{ServiceState, Reading}
-use Rattle.compose_machine.specs.Laws.{IsHistory}
-use Rattle.compose_serve.specs.declared.ends.Ended.TheVariants.{InputEnd, Malformed}
-use Rattle.compose_serve.specs.declared.ends.ServeFault.TheVariants.{Read, Write, Cut, NoMemory as EndsNoMemory, TooManyFrames as EndsTooManyFrames}
-use Rattle.compose_many.specs.Connection.{ConnectionState, Event, receives, answers, refuses, sends, AllHappen, max_piece, Receives, Sends, piece_of, sent_of, received, exchanges, sent}
+use Rattle.compose_serve.specs.declared.ends.Ended.TheVariants.{InputEnd}
+use Rattle.compose_serve.specs.declared.ends.ServeFault.TheVariants.{Read, Write, Cut, NoMemory as EndsNoMemory}
+use Rattle.compose_many.specs.Connection.{ConnectionState, Event, receives, answers, refuses, sends, AllHappen, max_piece, Receives, Sends, piece_of, sent_of, received, sent}
 use Rattle.compose_many.specs.Ends.{IsQuiet}
-use Rattle.compose_many.specs.Steps.{StopsSo, KeptSo, AreAnswers, AnswersSo, SendsSo, IsRoomFor, ReadsSo}
+use Rattle.compose_many.specs.Steps.{StopsSo, KeptSo, AreAnswers, SendsSo, IsRoomFor, ReadsSo}
 use Rattle.compose_many.specs.Turns.{IsTurn, Moves, IsIdle, FollowsSo}
 use Rattle.compose_many.specs.declared.connection.Stop.{Stop}
 use Rattle.compose_many.specs.declared.connection.Stop.TheVariants.{NeedsBytes, Full, Refused, NoMemory, TooManyFrames}

@@ -1,7 +1,7 @@
 -- Many connections to one service.
-use Rattle.std.specs.Prelude.{◌≡◌, ℕ, ◌==◌, Bool, false, List, ◌++◌, map, filter}
+use Rattle.std.specs.Prelude.{◌≡◌, ℕ, ◌==◌, false, List, ◌++◌, map, filter}
 use Rattle.compose_machine.specs.Machine.{ServiceState, Reading}
-use Rattle.compose_machine.specs.Laws.{Exchange, IsHistory}
+use Rattle.compose_machine.specs.Laws.{IsHistory}
 use Rattle.compose_many.specs.Connection.{ConnectionState, new_connection, Event, AllHappen, exchanges, HasItsOwn}
 
 -- an event, and the number of the connection on which it happens

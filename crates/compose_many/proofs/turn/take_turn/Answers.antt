@@ -1,8 +1,7 @@
-use Rattle.std.proofs.Common.{◌≡◌, ◌∙◌, ◌+◌, ℕ, arith, ◌++◌, List, [], ◌∷◌, Bool, true, false, max, sym, ap, subst}
+use Rattle.std.proofs.Common.{◌≡◌, ◌∙◌, ◌+◌, ℕ, arith, ◌++◌, [], ◌∷◌, max, sym, ap, subst}
 use Rattle.compose_many.specs.Connection.{ConnectionState, sends, receives, max_piece}
 use Rattle.compose_many.specs.Steps.{StopsSo, KeptSo, AnswersSo, IsRoomFor, ReadsSo}
 use Rattle.compose_many.specs.declared.connection.Stop.{Stop}
-use Rattle.compose_many.specs.declared.connection.Stop.TheVariants.{NeedsBytes, NoMemory, TooManyFrames}
 use Rattle.compose_many.proofs.Turning.{turn_then, turn_sent, turn_read, turn_on, follows_sent, follows_read, receives_so, is_kept, is_quiet, none_left, some_left, not_full, moves, sent_holds_no_more, holds_no_more, read_holds_little}
 use Rattle.compose_many.proofs.turn.take_turn.Goals as goal
 

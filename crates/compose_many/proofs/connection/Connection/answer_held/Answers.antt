@@ -1,4 +1,4 @@
-use Rattle.std.proofs.Common.{◌≡◌, [], ◌∷◌, ◌++◌}
+use Rattle.std.proofs.Common.{[], ◌∷◌, ◌++◌}
 use Rattle.compose_many.specs.Connection.{answers}
 use Rattle.compose_many.proofs.Answering.{answers_more, stays_open, answers_stop}
 use Rattle.compose_many.proofs.connection.Connection.answer_held.Goals as goal

@@ -1,4 +1,4 @@
-use Rattle.std.proofs.Common.{◌≡◌, ℕ, List, Bool, false, length}
+use Rattle.std.proofs.Common.{◌≡◌, List, false, length}
 use Rattle.compose_many.specs.Connection.{Event}
 use Rattle.compose_many.specs.Steps.{AreAnswers}
 use Rattle.compose_many.proofs.connection.Connection.answer_held.Given as goal

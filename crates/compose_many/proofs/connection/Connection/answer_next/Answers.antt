@@ -1,4 +1,4 @@
-use Rattle.std.proofs.Common.{◌≡◌, ◌+◌, ◌∙◌, ◌++◌, ◌≤◌, sym, ap, subst, length, Ok, arith}
+use Rattle.std.proofs.Common.{◌≡◌, ◌+◌, ◌∙◌, ◌++◌, ◌≤◌, ap, subst, length, Ok, arith}
 use Rattle.compose_wire.specs.Requests.{request_of}
 use Rattle.compose_wire.specs.Frames.{reply_bytes}
 use Rattle.compose_many.specs.Connection.{ConnectionState, max_reply}
