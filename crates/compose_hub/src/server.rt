@@ -1,0 +1,257 @@
+//! The connections of a service, and their turns.
+ghost use Rattle.compose_hub.specs.Turns.{GoesOnBy};
+
+use crate::client::{Client, Limits, WaitsFor};
+use compose_many::Turn;
+use compose_serve::{Answer, Ended, ServeFault};
+use mio::net::{UnixListener, UnixStream};
+use mio::{Events, Interest, Poll, Registry, Token};
+use std::alloc::Global;
+use std::io;
+use std::io::ErrorKind;
+use std::net::Net;
+use std::time::Duration;
+
+/// What the listener is reported as.
+const LISTENER: Token = Token(usize::MAX);
+
+/// So many connections may hold more of a load than the others.
+const ROOMS: usize = 8;
+
+/// What is told of the connections.
+pub trait Report {
+    /// The connection with this number, from 1 in the order in which they were accepted, has ended so. An error ends the service.
+    fn ended(&mut self, number: u32, how: Result<Ended, ServeFault>) -> io::Result<()>;
+}
+
+/// Whether connections may wait in the listener's queue.
+#[derive(Clone, Copy, Debug, PartialEq, Eq, Drop)]
+enum Queue {
+    /// None did when it was last looked at.
+    Empty,
+    /// Some may.
+    Waits,
+    /// Some may, but none could be accepted.
+    Failed,
+}
+
+/// The connections, each in a slot of its own, which is the token of its stream.
+#[derive(Drop)]
+struct Server {
+    slots: Vec<Option<Client>>,
+    accepted: u32,
+    queue: Queue,
+    limits: Limits,
+}
+
+/// Serves the connections to the listener, many at once, until as many as are asked for have ended.
+///
+/// An error of `accept` or of registering a stream ends nothing but that connection; where `accept` fails for another cause, as too
+/// many open files, it is tried again after a second at the latest. An error is one of `Poll`, of the memory for the slots, or of
+/// the report.
+///
+/// It takes memory for as many slots as connections are served at once. A round costs O(slots) beside the turns in it.
+pub fn serve_at_once<S: Answer, E: Report>(
+    net: &impl Net,
+    alloc: Global,
+    listener: &mut UnixListener,
+    service: &mut S,
+    limits: Limits,
+    report: &mut E,
+) -> io::Result<()>
+    ensures { GoesOnBy S.reading (S.state service.old) (S.state service.new) }
+{
+    let mut poll = Poll::new(net)?;
+    poll.registry()
+        .register(listener, LISTENER, Interest::READABLE)?;
+    let mut events = Events::with_capacity(alloc, 256)?;
+    let mut server = Server::new(alloc, limits)?;
+    'rounds: for _ in 0..u64::MAX {
+        server.accept_all(alloc, poll.registry(), listener);
+        if server.is_done() {
+            return Ok(());
+        }
+        poll.poll(&mut events, server.longest_wait())?;
+        server.mark_ready(&events);
+        server.take_turns(service, alloc, report)?;
+        server.share_room();
+    }
+    Ok(())
+}
+
+impl Server {
+    /// A server without connections.
+    fn new(alloc: Global, limits: Limits) -> io::Result<Server> {
+        let mut slots = Vec::new(alloc);
+        for _ in 0..limits.at_once.max(1) {
+            slots.push(None)?;
+        }
+        Ok(Server {
+            slots,
+            accepted: 0,
+            queue: Queue::Waits,
+            limits,
+        })
+    }
+
+    /// Whether all connections that are asked for have ended.
+    fn is_done(&self) -> bool {
+        self.accepted >= self.limits.connections && self.slots.iter().all(|slot| slot.is_none())
+    }
+
+    /// How long there is nothing to do unless something becomes ready.
+    fn longest_wait(&self) -> Option<Duration> {
+        if self.has_turns() || (self.queue == Queue::Waits && self.has_slot()) {
+            return Some(Duration::ZERO);
+        }
+        match self.queue {
+            Queue::Failed => Some(Duration::from_secs(1)),
+            Queue::Empty | Queue::Waits => None,
+        }
+    }
+
+    /// Whether a connection waits for its next turn alone.
+    fn has_turns(&self) -> bool {
+        self.slots.iter().any(|slot| match slot {
+            Some(client) => client.waits_for == WaitsFor::Turn,
+            None => false,
+        })
+    }
+
+    /// Whether a further connection is served.
+    fn has_slot(&self) -> bool {
+        self.accepted < self.limits.connections && self.slots.iter().any(|slot| slot.is_none())
+    }
+
+    /// Accepts the connections that wait in the listener's queue, while there is a slot for them.
+    fn accept_all(&mut self, alloc: Global, registry: &Registry, listener: &UnixListener) {
+        if self.queue == Queue::Failed {
+            self.queue = Queue::Waits;
+        }
+        for (key, slot) in self.slots.iter_mut().enumerate() {
+            if self.queue != Queue::Waits || self.accepted >= self.limits.connections {
+                return;
+            }
+            if slot.is_some() {
+                continue;
+            }
+            match accept(listener) {
+                Ok(stream) => {
+                    *slot = admitted(alloc, registry, stream, Token(key), self.accepted + 1);
+                    if slot.is_some() {
+                        self.accepted += 1;
+                    }
+                }
+                Err(queue) => self.queue = queue,
+            }
+        }
+    }
+
+    /// Gives what is reported as ready its next turn.
+    fn mark_ready(&mut self, events: &Events) {
+        for event in events {
+            let Token(key) = event.token();
+            if key == usize::MAX {
+                self.queue = Queue::Waits;
+            } else if let Some(Some(client)) = self.slots.get_mut(key) {
+                client.waits_for = WaitsFor::Turn;
+            }
+        }
+    }
+
+    /// The turns of all connections that are ready.
+    fn take_turns<S: Answer, E: Report>(
+        &mut self,
+        service: &mut S,
+        alloc: Global,
+        report: &mut E,
+    ) -> io::Result<()>
+        ensures { GoesOnBy S.reading (S.state service.old) (S.state service.new) }
+    {
+        'slots: for slot in &mut self.slots {
+            if let Some((number, how)) = serve_slot(slot, service, alloc, self.limits.unsent) {
+                report.ended(number, how)?;
+            }
+        }
+        Ok(())
+    }
+
+    /// Gives room to connections that wait for it, as far as there is some.
+    fn share_room(&mut self) {
+        let used = self.slots.iter().filter(|slot| uses_room(slot)).count();
+        let mut rooms_left = ROOMS.saturating_sub(used);
+        for slot in &mut self.slots {
+            if let Some(client) = slot {
+                client.share_room(&mut rooms_left);
+            }
+        }
+    }
+}
+
+/// Whether the connection in this slot uses the room that it was given.
+fn uses_room(slot: &Option<Client>) -> bool {
+    match slot {
+        Some(client) => client.uses_room(),
+        None => false,
+    }
+}
+
+/// The stream of the next connection in the listener's queue, or what is known of the queue then.
+fn accept(listener: &UnixListener) -> Result<UnixStream, Queue> {
+    match listener.accept() {
+        Ok((stream, _)) => Ok(stream),
+        Err(error) => Err(match error.kind() {
+            ErrorKind::WouldBlock => Queue::Empty,
+            ErrorKind::ConnectionAborted | ErrorKind::Interrupted => Queue::Waits,
+            _ => Queue::Failed,
+        }),
+    }
+}
+
+/// A client on this stream, unless it cannot be registered.
+fn admitted(
+    alloc: Global,
+    registry: &Registry,
+    mut stream: UnixStream,
+    token: Token,
+    number: u32,
+) -> Option<Client> {
+    let interest = Interest::READABLE | Interest::WRITABLE;
+    match registry.register(&mut stream, token, interest) {
+        Ok(()) => Some(Client::new(alloc, number, stream)),
+        Err(_) => None,
+    }
+}
+
+/// The turns of the connection in this slot, if it is ready; the number of its connection and how it ended, where it did.
+fn serve_slot<S: Answer>(
+    slot: &mut Option<Client>,
+    service: &mut S,
+    alloc: Global,
+    unsent: usize,
+) -> Option<(u32, Result<Ended, ServeFault>)>
+    ensures { GoesOnBy S.reading (S.state service.old) (S.state service.new) }
+{
+    let Some(client) = slot else {
+        return None;
+    };
+    if client.waits_for != WaitsFor::Turn {
+        return None;
+    }
+    let number = client.number();
+    match client.take_turns(service, alloc, unsent) {
+        Turn::GoesOn => None,
+        Turn::Waits => {
+            client.waits_for = WaitsFor::Stream;
+            None
+        }
+        Turn::NeedsRoom => {
+            client.waits_for = WaitsFor::Room;
+            None
+        }
+        Turn::Ends(how) => {
+            *slot = None;
+            Some((number, how))
+        }
+    }
+}

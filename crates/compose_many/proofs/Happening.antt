@@ -1,0 +1,37 @@
+-- Events one after another.
+use Rattle.std.proofs.Common.{◌≡◌, ℕ, List, [], ◌∷◌, ◌++◌, map, refl, sym, ◌∙◌, ap, subst, append_assoc, append-nil}
+use Rattle.std.specs.Prelude.{flat_map}
+use Rattle.compose_machine.specs.Machine.{ServiceState, Reading}
+use Rattle.compose_machine.specs.Laws.{Exchange, IsHistory}
+use Rattle.compose_many.specs.Connection.{ConnectionState, Event, Happens, AllHappen, exchange_of, exchanges}
+
+pub behind_nothing : (xs ys : List ℕ) → xs ++ ys ≡ [] → ys ≡ []
+behind_nothing [] ys e = e
+behind_nothing (x ∷ xs) ys e = absurd (cc)
+
+pub flat-both : {X Y : Type 0} (f : X → List Y) (xs ys : List X) → flat_map f (xs ++ ys) ≡ flat_map f xs ++ flat_map f ys
+flat-both f [] ys = refl
+flat-both f (x ∷ xs) ys = ap (λ r. f x ++ r) (flat-both f xs ys) ∙ sym (append_assoc (f x) (flat_map f xs) (flat_map f ys))
+
+pub flat-more : {X Y : Type 0} (f : X → List Y) (xs : List X) (x : X) → flat_map f (xs ++ x ∷ []) ≡ flat_map f xs ++ f x
+flat-more f xs x = flat-both f xs (x ∷ []) ∙ ap (λ r. flat_map f xs ++ r) (append-nil (f x))
+
+pub map-both : {X Y : Type 0} (f : X → Y) (xs ys : List X) → map f (xs ++ ys) ≡ map f xs ++ map f ys
+map-both f [] ys = refl
+map-both f (x ∷ xs) ys = ap (λ r. f x ∷ r) (map-both f xs ys)
+
+pub history-both : (reading : Reading) (old mid new : ServiceState) (g h : List Exchange) → IsHistory reading old g mid → IsHistory reading mid h new → IsHistory reading old (g ++ h) new
+history-both reading old mid new [] h a b = subst (λ (s : ServiceState). IsHistory reading s h new) a b
+history-both reading old mid new (x ∷ g) h a b = (a.0, a.1, history-both reading a.0 mid new g h a.2 b)
+
+-- the exchanges of both
+pub run-both : (reading : Reading) (old mid new : ServiceState) (es fs : List Event) → IsHistory reading old (exchanges es) mid → IsHistory reading mid (exchanges fs) new → IsHistory reading old (exchanges (es ++ fs)) new
+run-both reading old mid new es fs a b =
+    subst (λ (h : List Exchange). IsHistory reading old h new) (sym (flat-both exchange_of es fs)) (history-both reading old mid new (exchanges es) (exchanges fs) a b)
+
+pub happen-both : (limit : ℕ) (a b c : ConnectionState) (es fs : List Event) → AllHappen limit a es b → AllHappen limit b fs c → AllHappen limit a (es ++ fs) c
+happen-both limit a b c [] fs x y = subst (λ (s : ConnectionState). AllHappen limit s fs c) x y
+happen-both limit a b c (e ∷ es) fs x y = (x.0, x.1, happen-both limit x.0 b c es fs x.2 y)
+
+pub happen-more : (limit : ℕ) (a b c : ConnectionState) (es : List Event) (e : Event) → AllHappen limit a es b → Happens limit b e c → AllHappen limit a (es ++ e ∷ []) c
+happen-more limit a b c es e x y = happen-both limit a b c es (e ∷ []) x (c, y, refl)

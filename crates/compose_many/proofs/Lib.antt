@@ -1,0 +1,6 @@
+pub mod Happening
+pub mod Answering
+pub mod Turning
+pub mod Own
+pub mod Serving
+pub mod Ending

@@ -1,0 +1,21 @@
+use Rattle.std.proofs.Common.{[], ◌∷◌, ◌++◌}
+use Rattle.compose_many.specs.Connection.{answers}
+use Rattle.compose_many.proofs.Answering.{answers_more, stays_open, answers_stop}
+use Rattle.compose_many.proofs.connection.Connection.answer_held.Goals as goal
+
+pub answers-preserved : goal.answers-preserved
+answers-preserved g c =
+    let so = c.answers.invariant.so in
+    let next = c.in-Ok.ensures in
+    record {
+      so = (
+        so.0 ++ answers next.0 ∷ [],
+        answers_more c.args.limit g.S.Answer.reading (g.S.Answer.state c.args.service.now) c.args.self.now (g.S.Answer.state c.answers.service) (g.S.Answer.state c.answer_next.new.service) c.answers.self c.answer_next.new.self so.0 so.1 next.0 next.1 next.2,
+      );
+      goes_on = stays_open c.args.limit c.answers.self c.answer_next.new.self next.0 next.1;
+    }
+
+pub returns-in-Err : goal.returns-in-Err
+returns-in-Err g c =
+    let so = c.answers.invariant.so in
+    answers_stop c.args.limit g.S.Answer.reading (g.S.Answer.state c.args.service.now) c.args.self.now (g.S.Answer.state c.answers.service) (g.S.Answer.state c.answer_next.new.service) c.answers.self c.answer_next.new.self so.0 so.1 c.in-Err.stop c.in-Err.ensures

@@ -1,0 +1,13 @@
+use Rattle.std.proofs.Common.{◌≡◌, List, false, length}
+use Rattle.compose_many.specs.Connection.{Event}
+use Rattle.compose_many.specs.Steps.{AreAnswers}
+use Rattle.compose_many.proofs.connection.Connection.answer_held.Given as goal
+
+abbrev pub invariant-answers : goal.invariant-answers
+invariant-answers g l = record {
+  so : (events : List Event) × AreAnswers l.limit g.S.Answer.reading (g.S.Answer.state l.fn.service) (g.S.Answer.state l.service) l.fn.self l.self events;
+  goes_on : l.self.refused ≡ false;
+}
+
+abbrev pub decreases-answers : goal.decreases-answers
+decreases-answers g l = length l.self.held

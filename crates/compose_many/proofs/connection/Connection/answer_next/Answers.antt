@@ -1,0 +1,22 @@
+use Rattle.std.proofs.Common.{◌≡◌, ◌+◌, ◌∙◌, ◌++◌, ◌≤◌, ap, subst, length, Ok, arith}
+use Rattle.compose_wire.specs.Requests.{request_of}
+use Rattle.compose_wire.specs.Frames.{reply_bytes}
+use Rattle.compose_many.specs.Connection.{ConnectionState, max_reply}
+use Rattle.compose_many.specs.Steps.{NextSo}
+use Rattle.compose_many.proofs.Answering.{next_answered}
+use Rattle.compose_many.proofs.connection.Connection.answer_next.Goals as goal
+
+pub returns : goal.returns
+returns g c =
+    let so = c.in-Ok.ensures in
+    let told = c.answer-reply.ensures in
+    let bytes : c.as_slice.result.now ≡ reply_bytes told.0 = c.as_slice.ensures.value ∙ c.put_reply.ensures.value told.0 told.2 in
+    let before : ConnectionState = record { held = c.self.inside.feeder; unsent = c.self.inside.unsent.items; answered = c.self.inside.answered; refused = c.self.inside.refused } in
+    let after : ConnectionState = record { held = c.first_request.new.feeder; unsent = c.append-2.new.bytes.items; answered = c.self.inside.answered + 1; refused = c.self.inside.refused } in
+    let old = g.S.Answer.state c.args.service.now in
+    let new = g.S.Answer.state c.answer-reply.new.self in
+    subst (λ (o : ConnectionState). NextSo c.args.limit g.S.Answer.reading old new o after (Ok tt)) c.self.view_is
+    (next_answered c.args.limit g.S.Answer.reading old new before c.first_request.new.feeder c.append-2.new.bytes.items (request_of c.in-Ok.request) told.0
+    (ap (λ (o : ConnectionState). o.refused) c.self.view_is ∙ c.requires) (omega arith) (omega arith) so.so.0 so.so.1 told.1
+    (c.append-2.ensures ∙ ap (λ y. y ++ c.as_slice.result.now) so.items ∙ ap (λ y. c.self.inside.unsent.items ++ y) bytes)
+    (subst (λ y. length y ≤ max_reply) bytes c.as_slice.ensures.fits))

@@ -1,0 +1,6 @@
+pub mod Streams
+pub mod Connection
+pub mod Ends
+pub mod Steps
+pub mod Turns
+pub mod Service

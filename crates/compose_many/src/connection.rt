@@ -1,0 +1,193 @@
+//! A connection: what came on it and is not answered, and what is not sent.
+ghost use Rattle.std.specs.Prelude.{◌≡◌, ◌≢◌, ◌+◌, ◌≤◌, ◌++◌, ℕ, List, [], false, length, take, drop, vec_len, vec_capacity, OnOk, OnErr};
+ghost use Rattle.compose_many.specs.Connection.{Sends, max_reply};
+ghost use Rattle.compose_many.specs.Steps.{ComesSo, HasRoom, NextSo, AnswersSo};
+
+use compose_serve::Answer;
+use compose_wire::{Feeder, Request, WireFault, put_reply};
+use std::alloc::Global;
+use std::marker::Model;
+
+/// The most requests that are answered on one connection.
+const MAX_FRAMES: u32 = 16_777_216;
+
+/// The most bytes of a reply.
+const MAX_REPLY: usize = 272;
+
+/// Why no further request of a connection is answered.
+#[derive(Clone, Copy)]
+pub(crate) enum Stop {
+    /// Less than a frame is held.
+    NeedsBytes,
+    /// What is unsent has to be sent first.
+    Full,
+    /// A faulty frame was refused.
+    Refused,
+    /// There is no memory for a reply or for the payload of a load.
+    NoMemory,
+    /// A further frame came after 16,777,216 of them.
+    TooManyFrames,
+}
+
+/// A connection to the service: the bytes that came and are not answered, and the bytes of replies that are not sent.
+#[derive(Drop)]
+pub struct Connection {
+    feeder: Feeder,
+    unsent: Vec<u8>,
+    answered: u32,
+    refused: bool,
+}
+
+impl Model for Connection {
+    ghost use Rattle.compose_many.specs.Connection.{ConnectionState};
+
+    ghost Value = { ConnectionState };
+
+    ghost view = { λ c. record { held = c.feeder; unsent = c.unsent.items; answered = c.answered; refused = c.refused } };
+}
+
+impl Connection {
+    ghost use Rattle.compose_many.specs.Connection.{new_connection};
+
+    /// A connection on which nothing came. O(1), takes no memory.
+    pub fn new(alloc: Global) -> Connection
+        ensures { result ≡ new_connection }
+    {
+        Connection {
+            feeder: Feeder::new(alloc),
+            unsent: Vec::new(alloc),
+            answered: 0,
+            refused: false,
+        }
+    }
+
+    /// How many bytes came and are not answered. O(1).
+    pub fn held(&self) -> usize
+        ensures { result ≡ length self.now.held }
+    {
+        self.feeder.held()
+    }
+
+    /// The bytes of replies that are not sent. O(1).
+    pub(crate) fn unsent(&self) -> &[u8]
+        ensures { result.now ≡ self.now.unsent }
+    {
+        self.unsent.as_slice()
+    }
+
+    /// Whether a faulty frame was refused. O(1).
+    pub(crate) fn is_refused(&self) -> bool
+        ensures { result ≡ self.now.refused }
+    {
+        self.refused
+    }
+
+    /// Puts a piece that came behind what is held; where there is no memory for it, nothing changes.
+    pub(crate) fn receive(&mut self, piece: &[u8]) -> Result<(), WireFault>
+        ensures ok { OnOk result (self.new ≡ record self.old { held = self.old.held ++ piece.now }) }
+        ensures err { OnErr result (piece.now ≢ []) }
+    {
+        self.feeder.feed(piece)
+    }
+
+    /// Takes the first bytes of what is unsent away: they were sent.
+    pub(crate) fn sent(&mut self, count: usize)
+        requires { count ≤ length self.old.unsent }
+        ensures { Sends self.old (take count self.old.unsent) self.new }
+    {
+        remove_front(&mut self.unsent, count);
+    }
+
+    /// Answers the next request, or says why not; a faulty frame is refused.
+    ///
+    /// Room for the reply is taken first, so that no request is answered whose reply cannot be kept.
+    fn answer_next<S: Answer>(
+        &mut self,
+        service: &mut S,
+        alloc: Global,
+        limit: usize,
+    ) -> Result<(), Stop>
+        requires { self.old.refused ≡ false }
+        ensures { NextSo limit S.reading (S.state service.old) (S.state service.new) self.old self.new result }
+    {
+        if self.unsent.len() >= limit {
+            return Err(Stop::Full);
+        }
+        let full = self.answered >= MAX_FRAMES;
+        if full && !self.unsent.is_empty() {
+            return Err(Stop::Full);
+        }
+        let request = match first_request(&mut self.feeder, &mut self.unsent, alloc) {
+            Ok(request) => request,
+            Err(Stop::Refused) => {
+                append(&mut self.unsent, &[0xff, 0, 0, 0, 0, 0, 0, 0, 2, 0, 10]);
+                self.refused = true;
+                return Err(Stop::Refused);
+            }
+            Err(stop) => return Err(stop),
+        };
+        if full {
+            return Err(Stop::TooManyFrames);
+        }
+        let reply = service.answer(alloc, &request);
+        append(&mut self.unsent, put_reply(&reply).as_slice());
+        self.answered += 1;
+        Ok(())
+    }
+
+    /// Answers the requests that are held, in order, while less than the limit is unsent.
+    pub(crate) fn answer_held<S: Answer>(
+        &mut self,
+        service: &mut S,
+        alloc: Global,
+        limit: usize,
+    ) -> Stop
+        requires { self.old.refused ≡ false }
+        ensures { AnswersSo limit S.reading (S.state service.old) (S.state service.new) self.old self.new result }
+    {
+        'answers: loop {
+            match self.answer_next(service, alloc, limit) {
+                Ok(()) => {}
+                Err(stop) => return stop,
+            }
+        }
+    }
+}
+
+/// Takes the first request away, once there is room for its reply, or for that to a faulty frame.
+fn first_request(feeder: &mut Feeder, unsent: &mut Vec<u8>, alloc: Global) -> Result<Request, Stop>
+    ensures so { ComesSo result feeder.old feeder.new }
+    ensures items { unsent.new.items ≡ unsent.old.items }
+    ensures room { HasRoom result (vec_len unsent.new) (vec_capacity unsent.new) }
+{
+    if feeder.held() == 0 {
+        return Err(Stop::NeedsBytes);
+    }
+    let Ok(()) = unsent.reserve(MAX_REPLY) else {
+        return Err(Stop::NoMemory);
+    };
+    match feeder.next_request(alloc) {
+        Ok(Some(request)) => Ok(request),
+        Ok(None) => Err(Stop::NeedsBytes),
+        Err(WireFault::NoMemory) => Err(Stop::NoMemory),
+        Err(_) => Err(Stop::Refused),
+    }
+}
+
+/// Puts the bytes behind the others, where there is room for them.
+fn append(bytes: &mut Vec<u8>, more: &[u8])
+    requires { vec_len bytes.old + length more.now ≤ vec_capacity bytes.old }
+    ensures { bytes.new.items ≡ bytes.old.items ++ more.now }
+{
+    bytes.extend_from_slice(more).unwrap();
+}
+
+/// Moves the bytes behind the first ones to the front.
+fn remove_front(bytes: &mut Vec<u8>, count: usize)
+    requires { count ≤ vec_len bytes.old }
+    ensures { bytes.new.items ≡ drop count bytes.old.items }
+{
+    let len = bytes.len();
+    bytes.as_mut_slice().copy_within(count..len, 0);
+    bytes.truncate(len - count);
+}

@@ -1,0 +1,80 @@
+//! Readers and writers of std that do not wait.
+use crate::streams::{TryError, TryPull, TryPush};
+use std::io::{Error, ErrorKind, Read, Write};
+
+/// A reader or a writer that answers `WouldBlock` where it would wait, and its mark: why it gave or took no bytes.
+///
+/// A call that the system interrupted is tried again.
+#[derive(Drop)]
+pub struct Nonblocking<D> {
+    inner: D,
+    mark: Option<TryError>,
+}
+
+impl<D> Nonblocking<D> {
+    ghost use Rattle.std.specs.Prelude.{◌≡◌, None, Some};
+
+    /// A device that is not marked. O(1).
+    pub fn new(inner: D) -> Nonblocking<D>
+        ensures { result ≡ record { inner = inner; mark = None } }
+    {
+        Nonblocking { inner, mark: None }
+    }
+
+    /// Marks it by what an error means: that it would wait, or that it failed.
+    fn stopped(&mut self, error: &Error) -> TryError
+        ensures { self.new ≡ record self.old { mark = Some result } }
+    {
+        if error.kind() == ErrorKind::WouldBlock {
+            self.marked(TryError::WouldBlock)
+        } else {
+            self.marked(TryError::Failed)
+        }
+    }
+
+    /// Marks it so.
+    fn marked(&mut self, why: TryError) -> TryError
+        ensures mark { self.new ≡ record self.old { mark = Some why } }
+        ensures same { result ≡ why }
+    {
+        self.mark = Some(why);
+        why
+    }
+}
+
+impl<D: Read> TryPull for Nonblocking<D> {
+    ghost left = { λ d. D.remaining d.inner };
+
+    ghost mark = { λ d. d.mark };
+
+    /// One read. It is marked where a read gives an error.
+    fn try_pull(&mut self, piece: &mut [u8]) -> Result<usize, TryError> {
+        'reads: for _ in 0..u64::MAX {
+            match self.inner.read(piece) {
+                Ok(count) => return Ok(count),
+                Err(error) if error.kind() == ErrorKind::Interrupted => {}
+                Err(error) => return Err(self.stopped(&error)),
+            }
+        }
+        Err(self.marked(TryError::Failed))
+    }
+}
+
+impl<D: Write> TryPush for Nonblocking<D> {
+    ghost written = { λ d. D.contents d.inner };
+
+    ghost mark = { λ d. d.mark };
+
+    /// One write. It is marked where a write gives an error, and as failed where it takes no bytes.
+    fn try_push(&mut self, piece: &[u8]) -> Result<usize, TryError> {
+        'writes: for _ in 0..u64::MAX {
+            match self.inner.write(piece) {
+                Ok(0) if !piece.is_empty() => return Err(self.marked(TryError::Failed)),
+                Ok(taken) => return Ok(taken),
+                Err(error) if error.kind() == ErrorKind::Interrupted => {}
+                Err(error) => return Err(self.stopped(&error)),
+            }
+        }
+        Err(self.marked(TryError::Failed))
+    }
+}
