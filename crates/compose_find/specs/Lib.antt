@@ -1,0 +1,2 @@
+pub mod Expand
+pub mod Given

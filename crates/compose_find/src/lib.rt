@@ -1,0 +1,10 @@
+//! Where the files of a Compose file lie on a system.
+//!
+//! [`expand`] gives the path that the text of an include stands for: `%S`, `%L`, `%H` and `%%` give way to what they mean.
+#![tactic(auto)]
+
+mod fault;
+mod percent;
+
+pub use fault::IncludeFault;
+pub use percent::{Meanings, expand};
