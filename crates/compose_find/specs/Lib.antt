@@ -1,2 +1,3 @@
 pub mod Expand
+pub mod Locales
 pub mod Given

@@ -4,7 +4,9 @@
 #![tactic(auto)]
 
 mod fault;
+mod locales;
 mod percent;
 
 pub use fault::IncludeFault;
+pub use locales::{compose_dir_entry, locale_alias};
 pub use percent::{Meanings, expand};
