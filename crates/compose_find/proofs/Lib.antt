@@ -1,1 +1,2 @@
 mod Percents
+mod IncludeLines

@@ -1,3 +1,4 @@
 pub mod Expand
+pub mod Includes
 pub mod Locales
 pub mod Given

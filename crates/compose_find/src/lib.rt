@@ -4,9 +4,11 @@
 #![tactic(auto)]
 
 mod fault;
+mod includes;
 mod locales;
 mod percent;
 
 pub use fault::IncludeFault;
+pub use includes::{Include, includes_of};
 pub use locales::{compose_dir_entry, locale_alias};
 pub use percent::{Meanings, expand};
