@@ -1,2 +1,3 @@
 mod Percents
 mod IncludeLines
+mod Folders

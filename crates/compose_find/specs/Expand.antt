@@ -1,10 +1,14 @@
 -- The path that the text of an include stands for (Compose(5): `%H`, `%L`, `%S` and `%%`).
 use Rattle.std.specs.Prelude.{ℕ, Bool, true, false, not, ◌==◌, if◌then◌else◌, List, [], ◌∷◌, ◌++◌, Option, Some, None, Result, Ok, Err}
+use Rattle.std.specs.List.{list_any}
+use Rattle.compose_text.specs.Bytes.{begins}
+use Rattle.compose_lex.specs.Escape.{text_of}
+use Rattle.compose_lex.specs.declared.LexFault.{LexFault}
 use Rattle.compose_find.specs.declared.fault.IncludeFault.{IncludeFault}
-use Rattle.compose_find.specs.declared.fault.IncludeFault.TheVariants.{UnknownPercent, NoLocale, NoHome}
+use Rattle.compose_find.specs.declared.fault.IncludeFault.TheVariants.{Text, UnknownPercent, NoLocale, NoHome}
 
 infixl 10 ◌>>=◌
-abbrev pub ◌>>=◌ : {A B : Type 0} → Result A IncludeFault → (A → Result B IncludeFault) → Result B IncludeFault
+abbrev pub ◌>>=◌ : {A B E : Type 0} → Result A E → (A → Result B E) → Result B E
 (Ok x) >>= f = f x
 (Err e) >>= f = Err e
 
@@ -51,3 +55,26 @@ meaning_at words [] = Err UnknownPercent
 meaning_at words (b ∷ rest) = do
   front ← meaning words b
   Ok (front, rest)
+
+-- ---- the include's string
+
+abbrev pub as_text : Result (List ℕ) LexFault → Result (List ℕ) IncludeFault
+as_text (Ok text) = Ok text
+as_text (Err fault) = Err (Text fault)
+
+-- the path of the raw text of an include
+abbrev pub include_path : Words → List ℕ → Result (List ℕ) IncludeFault
+include_path words raw = do
+  text ← as_text (text_of raw)
+  path_of words text
+
+-- ---- folders
+
+-- what stands up to the last slash (code 47) and with it
+abbrev pub folder_of : List ℕ → List ℕ
+folder_of [] = []
+folder_of (b ∷ rest) = if list_any (λ b. b == 47) (b ∷ rest) then b ∷ folder_of rest else []
+
+-- a relative path, taken from the folder of the file that includes it; an absolute one stays
+abbrev pub beside : List ℕ → List ℕ → List ℕ
+beside from path = if begins (λ b. b == 47) path then path else folder_of from ++ path

@@ -21,8 +21,20 @@ pub enum IncludeFault {
     /// `%H`, where no home folder is known.
     #[error("4 NoHome")]
     NoHome,
+    /// There is no file at the path, nor, where it is a relative one, beside the including file.
+    #[error("5 MissingFile")]
+    MissingFile,
+    /// The same raw text led to another file before.
+    #[error("6 TwoFiles")]
+    TwoFiles,
+    /// A 65th source.
+    #[error("7 TooManySources")]
+    TooManySources,
+    /// An include in a file to which eight includes lead at least.
+    #[error("8 IncludeDepth")]
+    IncludeDepth,
     /// Memory was refused in this call.
-    #[error("5 NoMemory")]
+    #[error("9 NoMemory")]
     NoMemory,
 }
 

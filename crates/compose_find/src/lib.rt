@@ -4,11 +4,14 @@
 #![tactic(auto)]
 
 mod fault;
+mod files;
 mod includes;
 mod locales;
+mod paths;
 mod percent;
 
 pub use fault::IncludeFault;
+pub use files::Files;
 pub use includes::{Include, includes_of};
 pub use locales::{compose_dir_entry, locale_alias};
 pub use percent::{Meanings, expand};
