@@ -1,11 +1,13 @@
 //! Files that were looked for, and what they include.
 ghost use Rattle.std.specs.Prelude.{◌≡◌, ◌++◌, ◌∷◌, [], OnOk, OnErr, option_copied, bytes_eq, string_bytes};
-ghost use Rattle.std.specs.List.{position};
+ghost use Rattle.std.specs.List.{find};
 ghost use Rattle.std.specs.Option.{option_map};
 ghost use Rattle.compose_find.specs.Includes.{includes_of};
 ghost use Rattle.compose_find.specs.Found as found;
+ghost use Rattle.compose_find.specs.Given.{FindGives};
 
 use crate::includes::{Include, includes_of};
+use crate::met::{FindFault, missing, wanted};
 use std::alloc::{AllocError, Global};
 use std::marker::Model;
 
@@ -66,11 +68,35 @@ impl Files {
         Ok(())
     }
 
-    /// The place of the file that was looked for at this path first.
-    fn place(&self, path: &str) -> Option<usize>
-        ensures { result ≡ position (λ f. bytes_eq path.now f.path) self.now }
+    /// What was found at this path: the includes of the file, if it is there.
+    pub(crate) fn looked_at(
+        &self,
+        alloc: Global,
+        path: &str,
+    ) -> Result<Option<&[Include]>, FindFault>
+        ensures { FindGives option_copied result (found.looked_at self.now path.now) }
     {
-        self.files.iter().position(|file| has_path(file, path))
+        match self.looked(path) {
+            Some(file) => Ok(file.includes.as_deref()),
+            None => Err(wanted(alloc, path)),
+        }
+    }
+
+    /// The includes of the file at this path.
+    pub(crate) fn includes_at(&self, alloc: Global, path: &str) -> Result<&[Include], FindFault>
+        ensures { FindGives (λ i. i.now) result (found.includes_at self.now path.now) }
+    {
+        match self.looked_at(alloc, path)? {
+            Some(includes) => Ok(includes),
+            None => Err(missing(alloc, path)),
+        }
+    }
+
+    /// The file that was looked for at this path.
+    fn looked(&self, path: &str) -> Option<&Looked>
+        ensures { option_copied result ≡ find (λ f. bytes_eq path.now f.path) self.now }
+    {
+        self.files.iter().find(|file| has_path(file, path))
     }
 }
 
