@@ -1,5 +1,5 @@
 -- The includes of lines, one line after another.
-use Rattle.std.proofs.Common.{◌≡◌, ℕ, ◌+◌, List, [], ◌∷◌, ◌++◌, Some, refl, sym, ◌∙◌, ap, subst, append_assoc}
+use Rattle.std.proofs.Common.{◌≡◌, ℕ, ◌+◌, List, [], ◌∷◌, ◌++◌, Some, refl, sym, ◌∙◌, ap, append_assoc}
 use Rattle.compose_find.specs.Includes.{Include, raw_include, includes_from}
 
 include_first : (n : ℕ) (line raw : List ℕ) (lines : List (List ℕ)) → raw_include line ≡ Some raw → includes_from n (line ∷ lines) ≡ record { line = n; raw = raw } ∷ includes_from (1 + n) lines

@@ -3,7 +3,6 @@ use Rattle.std.proofs.Common.{◌≡◌, ℕ, suc, ◌+◌, ◌<◌, ◌≤◌, 
 use Rattle.std.specs.Prelude.{◌==◌, Result, Ok, Err, slice_get}
 use Rattle.std.specs.List.{prefix_len}
 use Rattle.std.specs.Str.{IsUtf8, IsCharBoundary}
-use Rattle.std.proofs.lemmas.Str.{IsCharBoundary-end, IsCharBoundary-before_ascii}
 use Rattle.compose_text.specs.Bytes.{front, behind}
 use Rattle.compose_find.specs.Expand.{◌>>=◌, Words, is_plain, path_from, path_of, meaning_at, meaning}
 use Rattle.compose_find.specs.declared.fault.IncludeFault.{IncludeFault}

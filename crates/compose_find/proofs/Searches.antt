@@ -1,8 +1,8 @@
 -- The search, one source after another.
-use Rattle.std.proofs.Common.{◌≡◌, ℕ, suc, zero, ◌+◌, ◌<◌, ◌≤◌, List, length, Some, refl, sym, ◌∙◌, ap, subst, string_bytes}
+use Rattle.std.proofs.Common.{◌≡◌, ℕ, suc, zero, ◌+◌, ◌≤◌, List, length, Some, refl, sym, subst, string_bytes}
 use Rattle.std.specs.Prelude.{Result, Ok, Err, slice_get}
 use Rattle.std.proofs.lemmas.Option.{slice_get_past}
-use Rattle.compose_find.specs.Expand.{◌>>=◌, Words}
+use Rattle.compose_find.specs.Expand.{Words}
 use Rattle.compose_find.specs.Found.{Looked, Met, Stop, wanted, missing, refused, meet_source, found_on}
 use Rattle.compose_find.specs.Given.{FindGives}
 use Rattle.compose_find.specs.declared.met.FindFault.{FindFault}

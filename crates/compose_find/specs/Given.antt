@@ -1,7 +1,7 @@
 -- What the calls give, unless memory runs out.
 use Rattle.std.specs.Prelude.{◌≡◌, ◌<◌, ℕ, List, ◌++◌, length, Result, Ok, Err, option_copied, string_bytes}
 use Rattle.std.proofs.Common.{Bor}
-use Rattle.compose_find.specs.Expand.{Words, path_of, ◌>>=◌}
+use Rattle.compose_find.specs.Expand.{Words, path_of}
 use Rattle.compose_find.specs.Found.{Stop, wanted, missing, refused}
 use Rattle.compose_find.specs.declared.met.FindFault.{FindFault}
 use Rattle.compose_find.specs.declared.met.FindFault.TheVariants.{Wanted, Missing, Refused, NoMemory as FindNoMemory}

@@ -55,7 +55,12 @@ impl Files {
 
     /// Adds what was found at a path: the bytes of the file, or none where it isn't there. Of the file its includes are kept. A refusal changes
     /// nothing. O(bytes).
-    pub fn add(&mut self, alloc: Global, path: &str, source: Option<&[u8]>) -> Result<(), AllocError>
+    pub fn add(
+        &mut self,
+        alloc: Global,
+        path: &str,
+        source: Option<&[u8]>,
+    ) -> Result<(), AllocError>
         ensures ok { OnOk result (self.new ≡ self.old ++ record { path = path.now; includes = option_map includes_of (option_copied source.entry) } ∷ []) }
         ensures err { OnErr result (self.new ≡ self.old) }
     {

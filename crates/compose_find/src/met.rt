@@ -49,10 +49,14 @@ impl Met {
 pub enum FindFault {
     /// This path is to be looked for first.
     #[error("1 Wanted path={path}")]
-    Wanted { path: String },
+    Wanted {
+        path: String,
+    },
     /// The root isn't there.
     #[error("2 Missing path={path}")]
-    Missing { path: String },
+    Missing {
+        path: String,
+    },
     /// An include leads nowhere, which stands on this line, from 1, of the file at this path.
     #[error("3 Refused from={from} line={line}: {fault}")]
     Refused {

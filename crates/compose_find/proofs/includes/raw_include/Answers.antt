@@ -1,5 +1,5 @@
 use Rattle.std.proofs.Common.{◌≡◌, sym, refl, ◌∙◌, ap, map, inl, inr}
-use Rattle.std.specs.Prelude.{Ok, Some}
+use Rattle.std.specs.Prelude.{Ok}
 use Rattle.std.specs.Str.{is_utf8}
 use Rattle.std.proofs.lemmas.Bool.{cases_Bool}
 use Rattle.std.proofs.lemmas.Str.{is_utf8-from_IsUtf8, IsUtf8-from_is_utf8}

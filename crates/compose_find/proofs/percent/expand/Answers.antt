@@ -1,4 +1,4 @@
-use Rattle.std.proofs.Common.{◌≡◌, ◌∙◌, sym, ap, rules}
+use Rattle.std.proofs.Common.{◌∙◌, ap, rules}
 use Rattle.compose_find.specs.Given.{words, onto}
 use Rattle.compose_find.specs.Expand.{path_of}
 use Rattle.compose_find.proofs.Percents.{onto-none, piece_more}

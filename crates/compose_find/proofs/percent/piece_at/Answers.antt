@@ -1,4 +1,4 @@
-use Rattle.std.proofs.Common.{◌≡◌, ◌∙◌, sym, ap, arith, drop, Some, None}
+use Rattle.std.proofs.Common.{◌≡◌, ◌∙◌, sym, ap, arith, Some, None}
 use Rattle.std.specs.Prelude.{slice_get, option_copied}
 use Rattle.compose_lex.proofs.Firsts.{cut_first}
 use Rattle.compose_find.specs.Given.{words}

@@ -1,5 +1,5 @@
-use Rattle.std.proofs.Common.{[], ◌≡◌, ◌∙◌, ◌+◌, ◌-◌, ◌<◌, suc, sym, ap, arith, rules, List, length, get_or, string_bytes, Some, Vec, Global}
-use Rattle.std.specs.Prelude.{Err, Ok, slice_get}
+use Rattle.std.proofs.Common.{[], ◌≡◌, ◌∙◌, ◌+◌, ◌-◌, ◌<◌, suc, sym, ap, arith, rules, length, get_or, Some, Vec, Global}
+use Rattle.std.specs.Prelude.{Err, slice_get}
 use Rattle.std.proofs.lemmas.Option.{slice_get-get_or}
 use Rattle.compose_find.specs.Found.{Met, found_on, meet_source}
 use Rattle.compose_find.specs.Given.{words}
@@ -29,10 +29,11 @@ loop-place-preserved c =
     let at : slice_get met place ≡ Some from = slice_get-get_or met place no_source within in
     let left : 64 - place ≡ suc (63 - place) = omega (arith, c.loop-place.invariant.1) in
     let next : 64 - (place + 1) ≡ 63 - place = omega arith in
-    let one : place + 1 ≡ 1 + place = omega arith in
-    (ap (λ n. found_on files words n (place + 1) c.meet_source.new.met.items) next ∙ ap (λ p. found_on files words (63 - place) p c.meet_source.new.met.items) one
-    ∙ sym (search_goes files words (63 - place) place met from c.meet_source.new.met.items at (c.in_ok-meet_source.ensures.meets from at)) ∙ ap (λ n. found_on files words n place met) (sym left) ∙ c.loop-place.invariant.0,
-    c.in_ok-meet_source.ensures.few)
+    let one : place + 1 ≡ 1 + place = omega arith in (
+      ap (λ n. found_on files words n (place + 1) c.meet_source.new.met.items) next ∙ ap (λ p. found_on files words (63 - place) p c.meet_source.new.met.items) one
+          ∙ sym (search_goes files words (63 - place) place met from c.meet_source.new.met.items at (c.in_ok-meet_source.ensures.meets from at)) ∙ ap (λ n. found_on files words n place met) (sym left) ∙ c.loop-place.invariant.0,
+      c.in_ok-meet_source.ensures.few,
+    )
 
 pub returns : goal.returns
 returns c = sym c.loop-place.invariant.0 ∙ search_ends c.args.files.now (words c.args.meanings) (64 - c.loop-place.place) c.loop-place.place c.loop-place.met.items (omega (arith, c.loop-place-test.false))
