@@ -1,0 +1,4 @@
+mod Percents
+mod IncludeLines
+mod Folders
+mod Searches

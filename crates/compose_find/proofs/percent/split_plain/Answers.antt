@@ -1,0 +1,32 @@
+use Rattle.std.proofs.Common.{◌≡◌, ◌-◌, take, drop, sym, ap, ◌∙◌, subst, arith}
+use Rattle.std.specs.List.{prefix_len}
+use Rattle.std.specs.Str.{IsCharBoundary}
+use Rattle.compose_lex.proofs.Scans.{front_taken, behind_left}
+use Rattle.compose_find.specs.Expand.{is_plain}
+use Rattle.compose_find.proofs.Percents.{cut_at_percent}
+use Rattle.compose_find.proofs.percent.split_plain.Goals as goal
+
+pub range-requires-clause-end_boundary : goal.range-requires-clause-end_boundary
+range-requires-clause-end_boundary c =
+    let text = c.args.text.now in
+    let len = c.leading_len-len.ensures ∙ ap (prefix_len is_plain) c.as_bytes.ensures.value in
+    subst (IsCharBoundary text) (sym len) (cut_at_percent text c.utf8.text)
+
+pub range_from-requires : goal.range_from-requires
+range_from-requires c =
+    let text = c.args.text.now in
+    let len = c.leading_len-len.ensures ∙ ap (prefix_len is_plain) c.as_bytes.ensures.value in
+    λ _. subst (IsCharBoundary text) (sym len) (cut_at_percent text c.utf8.text)
+
+pub returns-clause-plain : goal.returns-clause-plain
+returns-clause-plain c =
+    let text = c.args.text.now in
+    let len = c.leading_len-len.ensures ∙ ap (prefix_len is_plain) c.as_bytes.ensures.value in
+    let whole : c.leading_len-len.result - 0 ≡ c.leading_len-len.result = omega arith in
+    c.range.ensures.value ∙ ap (λ n. take n text) (whole ∙ len) ∙ sym (front_taken is_plain text)
+
+pub returns-clause-rest : goal.returns-clause-rest
+returns-clause-rest c =
+    let text = c.args.text.now in
+    let len = c.leading_len-len.ensures ∙ ap (prefix_len is_plain) c.as_bytes.ensures.value in
+    c.range_from.ensures.value ∙ ap (λ n. drop n text) len ∙ sym (behind_left is_plain text)

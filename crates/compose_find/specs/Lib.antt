@@ -1,0 +1,5 @@
+pub mod Expand
+pub mod Includes
+pub mod Locales
+pub mod Found
+pub mod Given

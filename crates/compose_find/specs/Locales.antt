@@ -1,0 +1,44 @@
+-- The files `compose.dir` and `locale.alias` of a system's folder of locales. Each line puts a word beside another one.
+use Rattle.std.specs.Prelude.{ℕ, Bool, not, ◌&&◌, ◌||◌, ◌==◌, if◌then◌else◌, List, [], ◌∷◌, length, Option, Some, None, bytes_eq}
+use Rattle.std.specs.List.{filter_map, find}
+use Rattle.std.specs.Option.{option_map}
+use Rattle.compose_text.specs.Bytes.{is_blank, begins, front, behind}
+use Rattle.compose_text.specs.Lines.{lines_of}
+
+-- any byte but a blank
+abbrev pub is_word_byte : ℕ → Bool
+is_word_byte b = not (is_blank b)
+
+-- nor a colon (code 58), which ends the left word
+abbrev pub is_left_byte : ℕ → Bool
+is_left_byte b = is_word_byte b && not (b == 58)
+
+abbrev pub skip_blanks : List ℕ → List ℕ
+skip_blanks bytes = behind is_blank bytes
+
+abbrev pub past_colon : List ℕ → List ℕ
+past_colon [] = []
+past_colon (b ∷ bytes) = if b == 58 then bytes else b ∷ bytes
+
+abbrev pub left_word : List ℕ → List ℕ
+left_word line = front is_left_byte (skip_blanks line)
+
+-- behind the left word come perhaps a colon, and perhaps blanks
+abbrev pub right_word : List ℕ → List ℕ
+right_word line = front is_word_byte (skip_blanks (past_colon (behind is_left_byte (skip_blanks line))))
+
+-- the two words of a line, `LEFT: RIGHT` or `LEFT RIGHT`; what follows them counts for nothing. A comment (code 35) has none
+abbrev pub pair_of : List ℕ → Option (List ℕ × List ℕ)
+pair_of line =
+    if length (left_word line) == 0 || length (right_word line) == 0 || begins (λ b. b == 35) (left_word line) then None else Some (left_word line, right_word line)
+
+abbrev pub pairs : List ℕ → List (List ℕ × List ℕ)
+pairs bytes = filter_map pair_of (lines_of bytes)
+
+-- the left word of the first line whose right word is the locale
+abbrev pub compose_dir_entry : List ℕ → List ℕ → Option (List ℕ)
+compose_dir_entry bytes locale = option_map (λ pair. pair.0) (find (λ pair. bytes_eq pair.1 locale) (pairs bytes))
+
+-- the right word of the first line whose left word is the alias
+abbrev pub locale_alias : List ℕ → List ℕ → Option (List ℕ)
+locale_alias bytes alias = option_map (λ pair. pair.1) (find (λ pair. bytes_eq pair.0 alias) (pairs bytes))

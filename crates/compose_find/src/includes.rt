@@ -1,0 +1,70 @@
+//! The includes of a source.
+ghost use Rattle.std.specs.Prelude.{◌≡◌, option_copied, IfOk};
+ghost use Rattle.compose_read.specs.Lines.{without_mark};
+ghost use Rattle.compose_find.specs.Includes as includes;
+
+use arrayvec::ArrayVec;
+use compose_lex::{Said, lex_line_into};
+use compose_text::first_line;
+use std::alloc::{AllocError, Global};
+use std::marker::Model;
+
+/// An include of a source.
+#[derive(Debug, Drop)]
+pub struct Include {
+    /// The number of its line, from 1.
+    pub line: usize,
+    /// What stands between the quotes of its string, escapes and all.
+    pub raw: String,
+}
+
+impl Model for Include {
+    ghost use Rattle.std.specs.Prelude.{string_bytes};
+    ghost use Rattle.compose_find.specs.Includes as includes;
+
+    ghost Value = { includes.Include };
+
+    ghost view = { λ i. record { line = i.line; raw = string_bytes i.raw } };
+}
+
+/// The includes of a source in order, as reading finds them: a line that is not UTF-8 or has a fault is none. Takes memory for the includes
+/// alone. O(bytes).
+pub fn includes_of(alloc: Global, source: &[u8]) -> Result<Vec<Include>, AllocError>
+    ensures { IfOk result (λ found. found.items ≡ includes.includes_of source.now) }
+{
+    let mut found = Vec::new(alloc);
+    let mut events = ArrayVec::new();
+    let mut rest = without_mark(source);
+    let mut line = 0;
+    while let Some((bytes, behind)) = first_line(rest) {
+        line += 1;
+        if let Some(raw) = raw_include(bytes, &mut events) {
+            found.push(Include {
+                line,
+                raw: String::from_str(alloc, raw)?,
+            })?;
+        }
+        rest = behind;
+    }
+    Ok(found)
+}
+
+/// The bytes without a UTF-8 byte order mark at their front.
+fn without_mark(bytes: &[u8]) -> &[u8]
+    ensures { result.now ≡ without_mark bytes.now }
+{
+    bytes.strip_prefix(&[0xef, 0xbb, 0xbf]).unwrap_or(bytes)
+}
+
+/// The raw text of the line's include, if it is one.
+fn raw_include<'a>(line: &'a [u8], events: &mut ArrayVec<&'a str, 32>) -> Option<&'a str>
+    ensures { option_copied result ≡ includes.raw_include line.now }
+{
+    let Ok(text) = str::from_utf8(line) else {
+        return None;
+    };
+    match lex_line_into(text, events) {
+        Ok(Said::Include(raw)) => Some(raw),
+        _ => None,
+    }
+}

@@ -1,0 +1,120 @@
+//! The files `compose.dir` and `locale.alias`, whose lines put a file or a locale beside another locale.
+ghost use Rattle.std.specs.Prelude.{◌≡◌, Some, None, option_copied, MatchOption};
+ghost use Rattle.compose_text.specs.Bytes.{front, behind};
+ghost use Rattle.compose_find.specs.Locales as locales;
+
+use compose_text::{ByteClass, blank_len, first_line, leading_len};
+use std::simd::prelude::*;
+
+/// All bytes but blanks.
+struct WordByte;
+
+impl ByteClass for WordByte {
+    ghost has = { locales.is_word_byte };
+
+    #[inline(always)]
+    fn has(byte: u8) -> bool {
+        byte != b' ' && byte != b'\t' && byte != b'\r'
+    }
+
+    #[inline(always)]
+    fn others(bytes: u8x16) -> u64 {
+        let space = bytes.simd_eq(u8x16::splat(b' '));
+        let tab = bytes.simd_eq(u8x16::splat(b'\t'));
+        let carriage_return = bytes.simd_eq(u8x16::splat(b'\r'));
+        (space | tab | carriage_return).to_bitmask()
+    }
+}
+
+/// All bytes but blanks and the colon.
+struct LeftByte;
+
+impl ByteClass for LeftByte {
+    ghost has = { locales.is_left_byte };
+
+    #[inline(always)]
+    fn has(byte: u8) -> bool {
+        WordByte::has(byte) && byte != b':'
+    }
+
+    #[inline(always)]
+    fn others(bytes: u8x16) -> u64 {
+        let space = bytes.simd_eq(u8x16::splat(b' '));
+        let tab = bytes.simd_eq(u8x16::splat(b'\t'));
+        let carriage_return = bytes.simd_eq(u8x16::splat(b'\r'));
+        let colon = bytes.simd_eq(u8x16::splat(b':'));
+        (space | tab | carriage_return | colon).to_bitmask()
+    }
+}
+
+/// The file that `compose.dir` lists for the locale: the left word of the first line whose right word is the locale. A line is
+/// `FILE: LOCALE` or `FILE LOCALE`; comments and lines without two words list nothing. O(bytes).
+pub fn compose_dir_entry<'a>(compose_dir: &'a [u8], locale: &str) -> Option<&'a [u8]>
+    ensures { option_copied result ≡ locales.compose_dir_entry compose_dir.now locale.now }
+{
+    let mut rest = compose_dir;
+    while let Some((line, behind)) = first_line(rest) {
+        if let Some((left, right)) = pair_of(line) {
+            if right == locale.as_bytes() {
+                return Some(left);
+            }
+        }
+        rest = behind;
+    }
+    None
+}
+
+/// The locale that `locale.alias` puts in the place of the alias: the right word of the first line whose left word is the alias. A
+/// line is `ALIAS: LOCALE` or `ALIAS LOCALE`; comments and lines without two words list nothing. O(bytes).
+pub fn locale_alias<'a>(locale_alias: &'a [u8], alias: &str) -> Option<&'a [u8]>
+    ensures { option_copied result ≡ locales.locale_alias locale_alias.now alias.now }
+{
+    let mut rest = locale_alias;
+    while let Some((line, behind)) = first_line(rest) {
+        if let Some((left, right)) = pair_of(line) {
+            if left == alias.as_bytes() {
+                return Some(right);
+            }
+        }
+        rest = behind;
+    }
+    None
+}
+
+/// The two words of a line, if it has two and is no comment.
+fn pair_of(line: &[u8]) -> Option<(&[u8], &[u8])>
+    ensures { MatchOption result (locales.pair_of line.now ≡ None) (λ pair. locales.pair_of line.now ≡ Some (pair.0.now, pair.1.now)) }
+{
+    let (left, behind) = split_front::<LeftByte>(skip_blanks(line));
+    let (right, _) = split_front::<WordByte>(skip_blanks(past_colon(behind)));
+    if left.is_empty() || right.is_empty() || left[0] == b'#' {
+        return None;
+    }
+    Some((left, right))
+}
+
+/// What follows the blanks at the front.
+fn skip_blanks(bytes: &[u8]) -> &[u8]
+    ensures { result.now ≡ locales.skip_blanks bytes.now }
+{
+    &bytes[blank_len(bytes)..]
+}
+
+/// The bytes of the class that come first, and what follows them.
+fn split_front<C: ByteClass>(bytes: &[u8]) -> (&[u8], &[u8])
+    ensures front { result.0.now ≡ front C.has bytes.now }
+    ensures rest { result.1.now ≡ behind C.has bytes.now }
+{
+    let len = leading_len::<C>(bytes);
+    (&bytes[..len], &bytes[len..])
+}
+
+/// What follows the colon at the front, if one stands there.
+fn past_colon(bytes: &[u8]) -> &[u8]
+    ensures { result.now ≡ locales.past_colon bytes.now }
+{
+    match bytes.first() {
+        Some(b':') => &bytes[1..],
+        _ => bytes,
+    }
+}

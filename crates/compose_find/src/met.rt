@@ -1,0 +1,139 @@
+//! The sources that the search met, and why it ends.
+ghost use Rattle.std.specs.Prelude.{◌≡◌, IfOk, option_copied, bytes_eq};
+ghost use Rattle.std.specs.List.{find};
+ghost use Rattle.compose_find.specs.Found as found;
+ghost use Rattle.compose_find.specs.Given.{IsStop};
+ghost use Rattle.compose_find.specs.declared.met.FindFault.TheVariants.{NoMemory};
+
+use crate::IncludeFault;
+use crate::includes::Include;
+use std::alloc::{AllocError, AllocFailed, Global};
+use std::marker::Model;
+use thiserror::Error;
+
+/// A source of a table.
+#[derive(Debug, Drop)]
+pub struct Met {
+    /// The raw text by which includes name it; of the root its path.
+    pub name: String,
+    /// The path of its file.
+    pub path: String,
+    /// How many includes lead to it at least.
+    pub depth: usize,
+}
+
+impl Model for Met {
+    ghost use Rattle.std.specs.Prelude.{string_bytes};
+    ghost use Rattle.compose_find.specs.Found as found;
+
+    ghost Value = { found.Met };
+
+    ghost view = { λ m. record { name = string_bytes m.name; path = string_bytes m.path; depth = m.depth } };
+}
+
+impl Met {
+    /// A copy.
+    pub(crate) fn copy(&self, alloc: Global) -> Result<Met, AllocError>
+        ensures { IfOk result (λ m. m ≡ self.now) }
+    {
+        Ok(Met {
+            name: String::from_str(alloc, &self.name)?,
+            path: String::from_str(alloc, &self.path)?,
+            depth: self.depth,
+        })
+    }
+}
+
+/// Why the search ends without all sources.
+#[derive(Debug, Drop, Error)]
+pub enum FindFault {
+    /// This path is to be looked for first.
+    #[error("1 Wanted path={path}")]
+    Wanted {
+        path: String,
+    },
+    /// The root isn't there.
+    #[error("2 Missing path={path}")]
+    Missing {
+        path: String,
+    },
+    /// An include leads nowhere, which stands on this line, from 1, of the file at this path.
+    #[error("3 Refused from={from} line={line}: {fault}")]
+    Refused {
+        from: String,
+        line: usize,
+        fault: IncludeFault,
+    },
+    /// Memory was refused in this call.
+    #[error("4 NoMemory")]
+    NoMemory,
+}
+
+impl From<AllocError> for FindFault {
+    ghost from_gives = { λ _ e. e ≡ NoMemory };
+
+    fn from(_error: AllocError) -> FindFault {
+        FindFault::NoMemory
+    }
+}
+
+impl<T: Drop> From<AllocFailed<T>> for FindFault {
+    ghost from_gives = { λ _ e. e ≡ NoMemory };
+
+    fn from(_error: AllocFailed<T>) -> FindFault {
+        FindFault::NoMemory
+    }
+}
+
+/// That a path is to be looked for first.
+pub(crate) fn wanted(alloc: Global, path: &str) -> FindFault
+    ensures { IsStop (found.wanted path.now) result }
+{
+    match String::from_str(alloc, path) {
+        Ok(path) => FindFault::Wanted { path },
+        Err(_) => FindFault::NoMemory,
+    }
+}
+
+/// That there is no file at a path.
+pub(crate) fn missing(alloc: Global, path: &str) -> FindFault
+    ensures { IsStop (found.missing path.now) result }
+{
+    match String::from_str(alloc, path) {
+        Ok(path) => FindFault::Missing { path },
+        Err(_) => FindFault::NoMemory,
+    }
+}
+
+/// That an include of this source leads nowhere.
+pub(crate) fn refused(
+    alloc: Global,
+    from: &Met,
+    include: &Include,
+    fault: IncludeFault,
+) -> FindFault
+    ensures { IsStop (found.refusal from.now include.now fault) result }
+{
+    match String::from_str(alloc, &from.path) {
+        Ok(from) => FindFault::Refused {
+            from,
+            line: include.line,
+            fault,
+        },
+        Err(_) => FindFault::NoMemory,
+    }
+}
+
+/// The source with this name, if it was met.
+pub(crate) fn known<'m>(met: &'m [Met], name: &str) -> Option<&'m Met>
+    ensures { option_copied result ≡ find (λ m. bytes_eq name.now m.name) met.now }
+{
+    met.iter().find(|source| has_name(source, name))
+}
+
+/// Whether this is the source's name.
+fn has_name(source: &Met, name: &str) -> bool
+    ensures { result ≡ bytes_eq name.now source.now.name }
+{
+    name == source.name.as_str()
+}

@@ -1,0 +1,46 @@
+//! The paths to which an include may lead.
+ghost use Rattle.std.specs.Prelude.{◌≡◌, IfOk, string_bytes};
+ghost use Rattle.compose_find.specs.Expand as paths;
+ghost use Rattle.compose_find.specs.Given.{words, Gives};
+
+use crate::IncludeFault;
+use crate::percent::{Meanings, expand};
+use compose_lex::{LexFault, unescape};
+use std::alloc::{AllocError, Global};
+
+/// The path that the raw text of an include stands for.
+pub(crate) fn include_path(
+    alloc: Global,
+    meanings: Meanings<'_>,
+    raw: &str,
+) -> Result<String, IncludeFault>
+    ensures { Gives string_bytes result (paths.include_path (words meanings.entry) raw.now) }
+{
+    match unescape(alloc, raw) {
+        Ok(text) => expand(alloc, meanings, &text),
+        Err(LexFault::NoMemory) => Err(IncludeFault::NoMemory),
+        Err(fault) => Err(IncludeFault::Text { fault }),
+    }
+}
+
+/// The path, taken from the folder of the including file where it is a relative one.
+pub(crate) fn beside(alloc: Global, from: &str, path: &str) -> Result<String, AllocError>
+    ensures { IfOk result (λ beside. string_bytes beside ≡ paths.beside from.now path.now) }
+{
+    let mut beside = String::new(alloc);
+    if path.as_bytes().first() != Some(&b'/') {
+        beside.push_str(folder_of(from))?;
+    }
+    beside.push_str(path)?;
+    Ok(beside)
+}
+
+/// What stands up to the last slash of a path, and with it.
+fn folder_of(path: &str) -> &str
+    ensures { result.now ≡ paths.folder_of path.now }
+{
+    match memchr::memrchr(b'/', path.as_bytes()) {
+        Some(at) => &path[..at + 1],
+        None => "",
+    }
+}

@@ -1,0 +1,90 @@
+//! The path that the text of an include stands for.
+ghost use Rattle.std.specs.Prelude.{◌≡◌, ◌<◌, length, string_bytes, option_copied};
+ghost use Rattle.std.specs.List.{prefix_len};
+ghost use Rattle.compose_text.specs.Bytes.{front, behind};
+ghost use Rattle.compose_find.specs.Expand.{is_plain, meaning_at, path_of};
+ghost use Rattle.compose_find.specs.Given.{words, Gives, IsPiece};
+
+use crate::IncludeFault;
+use compose_text::{ByteClass, leading_len};
+use std::alloc::Global;
+use std::simd::prelude::*;
+
+/// What `%S`, `%L` and `%H` stand for.
+#[derive(Clone, Copy, Debug, Drop)]
+pub struct Meanings<'a> {
+    /// The folder of the system's tables, for `%S`.
+    pub system: &'a str,
+    /// The table of the locale, for `%L`.
+    pub locale: Option<&'a str>,
+    /// The user's home folder, for `%H`.
+    pub home: Option<&'a str>,
+}
+
+/// All bytes but the percent sign.
+struct Plain;
+
+impl ByteClass for Plain {
+    ghost has = { is_plain };
+
+    #[inline(always)]
+    fn has(byte: u8) -> bool {
+        byte != b'%'
+    }
+
+    #[inline(always)]
+    fn others(bytes: u8x16) -> u64 {
+        bytes.simd_eq(u8x16::splat(b'%')).to_bitmask()
+    }
+}
+
+/// The path that the text of an include stands for: `%S`, `%L` and `%H` are replaced by what they mean, and `%%` by a percent sign; the leftmost
+/// bad percent sign is the fault. O(bytes of the text and of the path).
+pub fn expand(alloc: Global, meanings: Meanings<'_>, text: &str) -> Result<String, IncludeFault>
+    ensures { Gives string_bytes result (path_of (words meanings.entry) text.now) }
+{
+    let mut path = String::new(alloc);
+    let mut rest = text;
+    while !rest.is_empty() {
+        let (piece, behind) = piece_at(meanings, rest)?;
+        path.push_str(piece)?;
+        rest = behind;
+    }
+    Ok(path)
+}
+
+/// What the front of the text stands for, up to its first percent sign or by the percent sign there; and what follows.
+fn piece_at<'a>(meanings: Meanings<'a>, text: &'a str) -> Result<(&'a str, &'a str), IncludeFault>
+    requires { 0 < length text.now }
+    ensures { IsPiece (words meanings.entry) text.now result }
+{
+    match text.as_bytes().first() {
+        Some(b'%') => meaning_at(meanings, &text[1..]),
+        _ => Ok(split_plain(text)),
+    }
+}
+
+/// What stands before the first percent sign, and what follows from there.
+fn split_plain(text: &str) -> (&str, &str)
+    ensures plain { result.0.now ≡ front is_plain text.now }
+    ensures rest { result.1.now ≡ behind is_plain text.now }
+{
+    let len = leading_len::<Plain>(text.as_bytes());
+    (&text[..len], &text[len..])
+}
+
+/// What a percent sign and the byte behind it stand for; and what follows.
+fn meaning_at<'a>(
+    meanings: Meanings<'a>,
+    behind: &'a str,
+) -> Result<(&'a str, &'a str), IncludeFault>
+    ensures { Gives (λ x. (x.0.now, x.1.now)) result (meaning_at (words meanings.entry) behind.now) }
+{
+    match behind.as_bytes().first() {
+        Some(b'%') => Ok(("%", &behind[1..])),
+        Some(b'S') => Ok((meanings.system, &behind[1..])),
+        Some(b'L') => Ok((meanings.locale.ok_or(IncludeFault::NoLocale)?, &behind[1..])),
+        Some(b'H') => Ok((meanings.home.ok_or(IncludeFault::NoHome)?, &behind[1..])),
+        _ => Err(IncludeFault::UnknownPercent),
+    }
+}

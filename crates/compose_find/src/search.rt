@@ -1,0 +1,174 @@
+//! The search for the files of a table, includes followed.
+ghost use Rattle.std.specs.Prelude.{◌≡◌, ◌≤◌, ◌<◌, length, string_bytes, bytes_eq, slice_get, OnOk, Ok, Some};
+ghost use Rattle.std.specs.List.{find};
+ghost use Rattle.compose_find.specs.Found as found;
+ghost use Rattle.compose_find.specs.Given.{words, FindGives};
+
+use crate::files::Files;
+use crate::includes::Include;
+use crate::met::{FindFault, Met, known, refused};
+use crate::paths::{beside, include_path};
+use crate::{IncludeFault, Meanings};
+use compose_read::Sources;
+use std::alloc::Global;
+
+/// The most includes that lead to a source.
+const MAX_DEPTH: usize = 8;
+
+/// Every source of the table whose root stands at this path, the root first: each raw text of an include that is met, once, with the path to
+/// which it leads. A path that was not looked for yet is the fault `Wanted`: add what is found there, and search again. Beyond that the first
+/// include that leads nowhere is the fault, in the order of the search: one source after another, line by line. O(s + i * s) in the sources and includes, beside the
+/// copies of their texts and the look-ups of paths, O(f) in the files.
+pub fn find_sources(
+    alloc: Global,
+    files: &Files,
+    meanings: Meanings<'_>,
+    root: &str,
+) -> Result<Vec<Met>, FindFault>
+    ensures { FindGives (λ met. met.items) result (found.found files.now (words meanings.entry) root.now) }
+{
+    let mut met = Vec::new(alloc);
+    met.push(root_source(alloc, root)?)?;
+    let mut place = 0;
+    while place < met.len() {
+        meet_source(alloc, files, meanings, place, &mut met)?;
+        place += 1;
+    }
+    Ok(met)
+}
+
+/// The root, which its path names.
+fn root_source(alloc: Global, root: &str) -> Result<Met, FindFault>
+    ensures { FindGives (λ m. m) result (Ok (record { name = root.now; path = root.now; depth = 0 })) }
+{
+    Ok(Met {
+        name: String::from_str(alloc, root)?,
+        path: String::from_str(alloc, root)?,
+        depth: 0,
+    })
+}
+
+/// Adds the sources that the one at this place includes.
+fn meet_source(
+    alloc: Global,
+    files: &Files,
+    meanings: Meanings<'_>,
+    place: usize,
+    met: &mut Vec<Met>,
+) -> Result<(), FindFault>
+    requires within { place < length met.old.items }
+    requires few { length met.old.items ≤ 64 }
+    ensures meets { (from : found.Met) → slice_get met.old.items place ≡ Some from → FindGives (λ _. met.new.items) result (found.meet_source files.now (words meanings.entry) from met.old.items) }
+    ensures few { OnOk result (length met.new.items ≤ 64) }
+{
+    let from = met[place].copy(alloc)?;
+    let includes = files.includes_at(alloc, &from.path)?;
+    meet_all(alloc, files, meanings, &from, includes, met)
+}
+
+/// Adds the sources to which these includes lead.
+fn meet_all(
+    alloc: Global,
+    files: &Files,
+    meanings: Meanings<'_>,
+    from: &Met,
+    includes: &[Include],
+    met: &mut Vec<Met>,
+) -> Result<(), FindFault>
+    requires { length met.old.items ≤ 64 }
+    ensures meets { FindGives (λ _. met.new.items) result (found.meet_all files.now (words meanings.entry) from.now includes.now met.old.items) }
+    ensures few { OnOk result (length met.new.items ≤ 64) }
+{
+    for include in includes {
+        meet(alloc, files, meanings, from, include, met)?;
+    }
+    Ok(())
+}
+
+/// Adds the source to which an include leads, if it wasn't met.
+fn meet(
+    alloc: Global,
+    files: &Files,
+    meanings: Meanings<'_>,
+    from: &Met,
+    include: &Include,
+    met: &mut Vec<Met>,
+) -> Result<(), FindFault>
+    requires { length met.old.items ≤ 64 }
+    ensures meets { FindGives (λ _. met.new.items) result (found.meet files.now (words meanings.entry) from.now include.now met.old.items) }
+    ensures few { OnOk result (length met.new.items ≤ 64) }
+{
+    let path = lead(alloc, files, meanings, from, include)?;
+    add_source(alloc, from, include, path, met)
+}
+
+/// Adds the source at this path, if it wasn't met.
+fn add_source(
+    alloc: Global,
+    from: &Met,
+    include: &Include,
+    path: String,
+    met: &mut Vec<Met>,
+) -> Result<(), FindFault>
+    requires few { length met.old.items ≤ 64 }
+    requires level { from.now.depth < 8 }
+    ensures meets { FindGives (λ _. met.new.items) result (found.with_source from.now include.now (string_bytes path) (find (λ m. bytes_eq include.now.raw m.name) met.old.items) met.old.items) }
+    ensures few { OnOk result (length met.new.items ≤ 64) }
+{
+    if let Some(source) = known(met, &include.raw) {
+        if source.path.as_str() == path.as_str() {
+            return Ok(());
+        }
+        return Err(refused(alloc, from, include, IncludeFault::TwoFiles));
+    }
+    if met.len() >= Sources::MOST {
+        return Err(refused(alloc, from, include, IncludeFault::TooManySources));
+    }
+    met.push(Met {
+        name: String::from_str(alloc, &include.raw)?,
+        path,
+        depth: from.depth + 1,
+    })?;
+    Ok(())
+}
+
+/// The path of the file to which an include leads.
+fn lead(
+    alloc: Global,
+    files: &Files,
+    meanings: Meanings<'_>,
+    from: &Met,
+    include: &Include,
+) -> Result<String, FindFault>
+    ensures leads { FindGives string_bytes result (found.leads_to files.now (words meanings.entry) from.now include.now) }
+    ensures level { OnOk result (from.now.depth < 8) }
+{
+    if from.depth >= MAX_DEPTH {
+        return Err(refused(alloc, from, include, IncludeFault::IncludeDepth));
+    }
+    match include_path(alloc, meanings, &include.raw) {
+        Ok(path) => located(alloc, files, from, include, path),
+        Err(IncludeFault::NoMemory) => Err(FindFault::NoMemory),
+        Err(fault) => Err(refused(alloc, from, include, fault)),
+    }
+}
+
+/// The path as the program opens it, else beside the including file.
+fn located(
+    alloc: Global,
+    files: &Files,
+    from: &Met,
+    include: &Include,
+    path: String,
+) -> Result<String, FindFault>
+    ensures { FindGives string_bytes result (found.located files.now from.now include.now (string_bytes path)) }
+{
+    if files.looked_at(alloc, &path)?.is_some() {
+        return Ok(path);
+    }
+    let beside = beside(alloc, &from.path, &path)?;
+    if files.looked_at(alloc, &beside)?.is_some() {
+        return Ok(beside);
+    }
+    Err(refused(alloc, from, include, IncludeFault::MissingFile))
+}

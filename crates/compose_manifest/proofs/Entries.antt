@@ -1,0 +1,16 @@
+-- Entries that are not as many as the sources.
+use Rattle.std.proofs.Common.{◌≡◌, ◌≢◌, Bool, true, false, List, [], ◌∷◌, length, refl, ap, suc, ◌∙◌}
+use Rattle.std.specs.Prelude.{◌&&◌}
+use Rattle.compose_find.specs.Found.{Met}
+use Rattle.compose_tool.specs.Manifest.{Entry}
+use Rattle.compose_manifest.specs.Text.{is_entry, are_entries}
+
+not_both : (a b : Bool) → b ≡ false → a && b ≡ false
+not_both true b e = e
+not_both false b e = refl
+
+pub other_count : (entries : List Entry) (sources : List Met) → length entries ≢ length sources → are_entries entries sources ≡ false
+other_count [] [] h = absurd (h refl)
+other_count [] (source ∷ sources) h = refl
+other_count (entry ∷ entries) [] h = refl
+other_count (entry ∷ entries) (source ∷ sources) h = not_both (is_entry entry source) (are_entries entries sources) (other_count entries sources (λ e. h (ap suc e)))
