@@ -38,9 +38,10 @@ pub fn load_files(
 /// Types in a session of a running service.
 pub fn session_files(
     rt: &(impl Files + Net + Print + Eprint + AllocGlobal),
+    names: &[&str],
     words: &SessionWords<'_>,
 ) -> Result<Ended, Ended> {
-    let header = read_header(rt, words.names)?;
+    let header = read_header(rt, names)?;
     let named = read_names(rt, &header, &words.keys)?;
     let asked = Asked {
         session: words.session,

@@ -14,7 +14,7 @@ mod refusal;
 mod typing;
 
 pub use answer::{Answer, Ended};
-pub use checking::check_migration;
+pub use checking::{check_allowed, check_migration};
 pub use explaining::{explain_all_migration, explain_migration};
 pub use making::make_migration;
 pub use manifest::{Entry, Manifest, ManifestFault, read_manifest};
