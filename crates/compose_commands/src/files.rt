@@ -7,7 +7,7 @@ use builtin_names::builtin_names;
 use compose_migration::{MigrationInput, TableInput};
 use compose_model::Rule;
 use compose_read::{SourceFault, Sources};
-use compose_tool::{Ended, Entry, Manifest, ManifestFault, read_manifest};
+use compose_tool::{Ended, Entry, Manifest, ManifestFault, Shown, read_manifest};
 use compose_words::TablePaths;
 use std::alloc::AllocError;
 use std::rt::Files;
@@ -25,7 +25,7 @@ pub fn read_file(rt: &(impl Files + Eprint + AllocGlobal), path: &str) -> Result
 fn tell_unread(rt: &impl Eprint, path: &str, kind: io::ErrorKind) -> Ended {
     match kind {
         io::ErrorKind::OutOfMemory => no_memory(rt),
-        _ => refused(eprintln!(rt; "refused: file: {path}")),
+        _ => refused(eprintln!(rt; "refused: file: {path}", path = Shown(path))),
     }
 }
 

@@ -5,7 +5,7 @@ ghost use Rattle.compose_tool.specs.Ends.{end_of};
 ghost use Rattle.compose_commands.specs.Ends.{EndsPrinted, words_end, written_end};
 
 use clap::error::ErrorKind;
-use compose_tool::{Answer, Ended, Refusal};
+use compose_tool::{Answer, Ended, Refusal, Shown};
 use std::rt::Files;
 use std::{fs, io};
 
@@ -36,7 +36,7 @@ fn tell(
 fn tell_refusal(rt: &impl Eprint, refusal: &Refusal, words: &[&str]) -> io::Result<()> {
     if let Refusal::Key { index } = refusal {
         if let Some(word) = words.get(*index) {
-            return eprintln!(rt; "refused: key: {word}");
+            return eprintln!(rt; "refused: key: {word}", word = Shown(word));
         }
     }
     eprintln!(rt; "{refusal}")
@@ -64,7 +64,7 @@ fn write_whole(rt: &(impl Files + Eprint + AllocGlobal), path: &str, text: &str)
         return Ended::Yes;
     }
     let _ = fs::remove_file(rt, &part);
-    refused(eprintln!(rt; "refused: file: {path}"))
+    refused(eprintln!(rt; "refused: file: {path}", path = Shown(path)))
 }
 
 /// How a run ends that has printed this, and would end so. An answer that can't be written is refused, and nothing is said of it where

@@ -5,7 +5,7 @@ use compose_serve::{Device, serve};
 use compose_service::Service;
 use compose_serving::{BeginFault, BeginInput, begin, connection_line};
 use compose_socket::{SocketFault, SocketFile, listener_of_systemd};
-use compose_tool::{Answer, Ended};
+use compose_tool::{Answer, Ended, Shown};
 use compose_tree::ComposeTable;
 use compose_words::ServeWords;
 use std::alloc::Global;
@@ -105,7 +105,7 @@ fn bind(
     match file.bind(rt, process_id) {
         Ok(listener) => Ok(listener),
         Err(SocketFault::NoMemory) => Err(no_memory(rt)),
-        Err(_) => Err(refused(eprintln!(rt; "refused: socket: {}", words.socket))),
+        Err(_) => Err(refused(eprintln!(rt; "refused: socket: {}", Shown(words.socket)))),
     }
 }
 
@@ -119,7 +119,10 @@ fn serve_connections<T: ComposeTable>(
     for number in 1..=u32::from(words.connections) {
         match listener.accept() {
             Ok((stream, _)) => serve_connection(rt, number, &stream, service)?,
-            Err(_) => return Err(refused(eprintln!(rt; "refused: socket: {}", words.socket))),
+            Err(_) => return Err(refused(eprintln!(rt;
+                "refused: socket: {}",
+                Shown(words.socket)
+            ))),
         }
     }
     Ok(Ended::Yes)
