@@ -1,6 +1,7 @@
 # `make` proves and builds ./composecheck; `make test` is the gate; `make install PREFIX=/usr/local` installs, `make uninstall` takes it away.
 # `make dist` and `make deb` pack the proved program for others, in packages/; `make test-packages` looks at what they hold.
 # `make test-whole` is the gate with each must-fail edit in a check of its own, as the kit's `rt ci` tries them: for a release.
+# `make names HEADER=FILE` writes the names that are built in anew from keysymdef.h, and prints what changed.
 # `make real` runs the program on the tables that Debian ships, `make bench` measures it; both prove and build ./compose_bench too.
 PREFIX = /usr/local
 SOURCES = $(shell find crates -name out -prune -o '(' -name '*.rt' -o -name '*.antt' ')' -print) crates.txt
@@ -46,6 +47,10 @@ dist deb: composecheck
 test-packages: composecheck
 	python3 tests/packages.py ./composecheck
 
+HEADER = /usr/include/X11/keysymdef.h
+names:
+	python3 packaging/names.py $(HEADER) share/composecheck/short-unicode-names.h crates/builtin_names/src/lines.rt
+
 real: composecheck compose_bench
 	python3 tests/real.py ./composecheck ./compose_bench
 	python3 tests/real_service.py ./composecheck
@@ -58,4 +63,4 @@ bench: composecheck compose_bench
 clean:
 	rm -rf composecheck compose_bench packages crates/*/out
 
-.PHONY: all test test-whole install uninstall dist deb test-packages real bench clean
+.PHONY: all test test-whole install uninstall dist deb test-packages names real bench clean

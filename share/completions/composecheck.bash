@@ -7,14 +7,16 @@ _composecheck() {
         return
     fi
     case $before in
-        --names) COMPREPLY=($(compgen -f -- "$word")); return ;;
+        --names) COMPREPLY=($(compgen -f -- "$word") $(compgen -W builtin -- "$word")); return ;;
+        -o | --output) COMPREPLY=($(compgen -f -- "$word")); return ;;
         --fresh) return ;;
         --mode) COMPREPLY=($(compgen -W "600 660 666" -- "$word")); return ;;
     esac
     case ${COMP_WORDS[1]} in
-        type | check) options="--names --help" ;;
+        type) options="--names --help" ;;
+        check) options="--names --fresh --help" ;;
         explain) options="--names --fresh --all --help" ;;
-        make) options="--names --fresh --help" ;;
+        make) options="--names --fresh --output --help" ;;
         serve) options="--names --mode --replace --unlink --help" ;;
         load) options="--help" ;;
         session) options="--names --open --reset --ask --close --help" ;;

@@ -8,7 +8,7 @@ use compose_bundle::BundleFault;
 use compose_client::{ReplyFeeder, RequestFault, put_request};
 use compose_migration::Named;
 use compose_session::{Asked, End, Report, load_request, report_replies, session_requests};
-use compose_tool::{Ended, Refusal};
+use compose_tool::{Ended, Refusal, Shown};
 use compose_wire::{Answer, Reply, Request};
 use compose_words::{LoadWords, SessionWords};
 use keysym_core::Names;
@@ -38,9 +38,10 @@ pub fn load_files(
 /// Types in a session of a running service.
 pub fn session_files(
     rt: &(impl Files + Net + Print + Eprint + AllocGlobal),
+    names: &[&str],
     words: &SessionWords<'_>,
 ) -> Result<Ended, Ended> {
-    let header = read_header(rt, words.names)?;
+    let header = read_header(rt, names)?;
     let named = read_names(rt, &header, &words.keys)?;
     let asked = Asked {
         session: words.session,
@@ -76,7 +77,7 @@ fn exchange(
     requests: &[Request],
 ) -> Result<Ended, Ended> {
     let Ok(stream) = UnixStream::connect(rt, path) else {
-        return Err(refused(eprintln!(rt; "refused: socket: {path}")));
+        return Err(refused(eprintln!(rt; "refused: socket: {path}", path = Shown(path))));
     };
     let replies = replies_of(rt, &stream, requests)?;
     match report_replies(rt.alloc(), names, requests, &replies) {

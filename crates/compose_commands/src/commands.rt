@@ -2,14 +2,15 @@
 //! refusal was told.
 use crate::client::{load_files, session_files};
 use crate::files::{MoveFiles, TableFiles, read_file, read_header};
-use crate::report::report;
+use crate::report::{report, report_into};
 use crate::serving::serve_files;
 use compose_check::CheckInput;
 use compose_tool::{
-    Ended, check_migration, explain_all_migration, explain_migration, make_migration, type_keys,
+    Ended, check_allowed, check_migration, explain_all_migration, explain_migration,
+    make_migration, type_keys,
 };
 use compose_tree::ComposeTable;
-use compose_words::{Request, TablePaths};
+use compose_words::{CommandLine, Request, TablePaths};
 use std::net::Net;
 use std::rt::{Env, Files};
 
@@ -17,31 +18,45 @@ use std::rt::{Env, Files};
 pub fn answer<T: ComposeTable>(
     rt: &(impl Env + Files + Net + Print + Eprint + AllocGlobal),
     process_id: u32,
-    request: &Request<'_>,
+    words: &CommandLine<'_>,
 ) -> Result<Ended, Ended> {
-    match request {
-        Request::Type { names, table, keys } => type_files::<T>(rt, *names, *table, keys),
+    let names = words.names.as_slice();
+    match &words.request {
+        Request::Type { table, keys } => type_files::<T>(rt, names, *table, keys),
         Request::Check {
             tables,
+            fresh,
             repertoire,
             certificate,
-        } => check_files::<T>(rt, tables, *repertoire, *certificate),
-        Request::Explain { tables, fresh, all } => explain_files::<T>(rt, tables, fresh, *all),
+        } => {
+            let files = CheckFiles::read(rt, names, tables, *repertoire, *certificate)?;
+            match fresh {
+                Some(allowed) => Ok(report_allowed::<T>(rt, &files, allowed)),
+                None => Ok(report_check::<T>(rt, &files)),
+            }
+        }
+        Request::Explain { tables, fresh, all } => {
+            explain_files::<T>(rt, names, tables, fresh, *all)
+        }
         Request::Make {
             tables,
             fresh,
             repertoire,
-        } => make_files::<T>(rt, tables, fresh, *repertoire),
-        Request::Serve(words) => serve_files::<T>(rt, process_id, words),
+            output,
+        } => {
+            let files = MoveFiles::read(rt, names, tables, fresh)?;
+            make_files::<T>(rt, &files, *repertoire, *output)
+        }
+        Request::Serve(words) => serve_files::<T>(rt, process_id, names, words),
         Request::Load(words) => load_files(rt, words),
-        Request::Session(words) => session_files(rt, words),
+        Request::Session(words) => session_files(rt, names, words),
     }
 }
 
 /// Types keys with a table.
 fn type_files<T: ComposeTable>(
     rt: &(impl Files + Print + Eprint + AllocGlobal),
-    names: Option<&str>,
+    names: &[&str],
     table: &str,
     keys: &[&str],
 ) -> Result<Ended, Ended> {
@@ -51,37 +66,72 @@ fn type_files<T: ComposeTable>(
     Ok(report(rt, &answered, keys))
 }
 
+/// The files of a check.
+#[derive(Drop)]
+struct CheckFiles {
+    tables: MoveFiles<'static>,
+    repertoire: Vec<u8>,
+    certificate: Vec<u8>,
+}
+
+impl CheckFiles {
+    /// Reads the names, both tables, the repertoire and the certificate.
+    fn read(
+        rt: &(impl Files + Eprint + AllocGlobal),
+        names: &[&str],
+        tables: &TablePaths<'_>,
+        repertoire: &str,
+        certificate: &str,
+    ) -> Result<CheckFiles, Ended> {
+        Ok(CheckFiles {
+            tables: MoveFiles::read(rt, names, tables, &[])?,
+            repertoire: read_file(rt, repertoire)?,
+            certificate: read_file(rt, certificate)?,
+        })
+    }
+
+    /// The check that they are for.
+    fn input(&self) -> CheckInput<'_> {
+        let (old, new) = (self.tables.old.input(), self.tables.new.input());
+        CheckInput {
+            header: &self.tables.header,
+            old: old.sources,
+            new: new.sources,
+            old_rule: old.rule,
+            new_rule: new.rule,
+            repertoire: &self.repertoire,
+            certificate: &self.certificate,
+        }
+    }
+}
+
 /// Checks a certificate.
-fn check_files<T: ComposeTable>(
-    rt: &(impl Files + Print + Eprint + AllocGlobal),
-    tables: &TablePaths<'_>,
-    repertoire: &str,
-    certificate: &str,
-) -> Result<Ended, Ended> {
-    let files = MoveFiles::read(rt, tables, &[])?;
-    let repertoire = read_file(rt, repertoire)?;
-    let certificate = read_file(rt, certificate)?;
-    let (old, new) = (files.old.input(), files.new.input());
-    let input = CheckInput {
-        header: &files.header,
-        old: old.sources,
-        new: new.sources,
-        old_rule: old.rule,
-        new_rule: new.rule,
-        repertoire: &repertoire,
-        certificate: &certificate,
-    };
-    Ok(report(rt, &check_migration::<T>(rt.alloc(), &input), &[]))
+fn report_check<T: ComposeTable>(
+    rt: &(impl Print + Eprint + AllocGlobal),
+    files: &CheckFiles,
+) -> Ended {
+    report(rt, &check_migration::<T>(rt.alloc(), &files.input()), &[])
+}
+
+/// Checks a certificate whose fresh keysyms have to be among the allowed ones.
+fn report_allowed<T: ComposeTable>(
+    rt: &(impl Print + Eprint + AllocGlobal),
+    files: &CheckFiles,
+    allowed: &[&str],
+) -> Ended {
+    let answered = check_allowed::<T>(rt.alloc(), &files.input(), allowed);
+    report(rt, &answered, allowed)
 }
 
 /// Explains how two tables differ.
 fn explain_files<T: ComposeTable>(
     rt: &(impl Files + Print + Eprint + AllocGlobal),
+    names: &[&str],
     tables: &TablePaths<'_>,
     fresh: &[&str],
     all: bool,
 ) -> Result<Ended, Ended> {
-    let files = MoveFiles::read(rt, tables, fresh)?;
+    let files = MoveFiles::read(rt, names, tables, fresh)?;
     let input = files.input();
     let answered = if all {
         explain_all_migration::<T>(rt.alloc(), &input)
@@ -91,15 +141,17 @@ fn explain_files<T: ComposeTable>(
     Ok(report(rt, &answered, fresh))
 }
 
-/// Makes a certificate.
+/// Makes a certificate, and prints it or writes it to a file.
 fn make_files<T: ComposeTable>(
     rt: &(impl Files + Print + Eprint + AllocGlobal),
-    tables: &TablePaths<'_>,
-    fresh: &[&str],
+    files: &MoveFiles<'_>,
     repertoire: &str,
+    output: Option<&str>,
 ) -> Result<Ended, Ended> {
-    let files = MoveFiles::read(rt, tables, fresh)?;
     let repertoire = read_file(rt, repertoire)?;
     let answered = make_migration::<T>(rt.alloc(), &files.input(), &repertoire);
-    Ok(report(rt, &answered, fresh))
+    match output {
+        Some(path) => Ok(report_into(rt, path, &answered, &files.words)),
+        None => Ok(report(rt, &answered, &files.words)),
+    }
 }

@@ -1,10 +1,15 @@
 //! Files, and what they hold. An error is the end of a run whose refusal was told.
+ghost use Rattle.std.specs.Prelude.{◌≡◌, ◌++◌, OnOk};
+ghost use Rattle.compose_commands.specs.Headers.{ended};
+
 use crate::report::{no_memory, refused};
+use builtin_names::builtin_names;
 use compose_migration::{MigrationInput, TableInput};
 use compose_model::Rule;
 use compose_read::{SourceFault, Sources};
-use compose_tool::{Ended, Entry, Manifest, ManifestFault, read_manifest};
+use compose_tool::{Ended, Entry, Manifest, ManifestFault, Shown, read_manifest};
 use compose_words::TablePaths;
+use std::alloc::AllocError;
 use std::rt::Files;
 use std::{fs, io};
 
@@ -12,20 +17,46 @@ use std::{fs, io};
 pub fn read_file(rt: &(impl Files + Eprint + AllocGlobal), path: &str) -> Result<Vec<u8>, Ended> {
     match fs::read(rt, path) {
         Ok(bytes) => Ok(bytes),
-        Err(error) if error.kind() == io::ErrorKind::OutOfMemory => Err(no_memory(rt)),
-        Err(_) => Err(refused(eprintln!(rt; "refused: file: {path}"))),
+        Err(error) => Err(tell_unread(rt, path, error.kind())),
     }
 }
 
-/// The bytes of the file of names; none where no file is given.
+/// Tells why a file can't be read: memory was refused, or anything else.
+fn tell_unread(rt: &impl Eprint, path: &str, kind: io::ErrorKind) -> Ended {
+    match kind {
+        io::ErrorKind::OutOfMemory => no_memory(rt),
+        _ => refused(eprintln!(rt; "refused: file: {path}", path = Shown(path))),
+    }
+}
+
+/// The lines of the files of names, in their order; `builtin` stands for the names that are built in.
 pub fn read_header(
     rt: &(impl Files + Eprint + AllocGlobal),
-    path: Option<&str>,
+    names: &[&str],
 ) -> Result<Vec<u8>, Ended> {
-    match path {
-        Some(path) => read_file(rt, path),
-        None => Ok(Vec::new(rt.alloc())),
+    let mut header = Vec::new(rt.alloc());
+    for name in names {
+        let added = if *name == "builtin" {
+            add_names(&mut header, builtin_names().as_bytes())
+        } else {
+            add_names(&mut header, &read_file(rt, name)?)
+        };
+        if added.is_err() {
+            return Err(no_memory(rt));
+        }
     }
+    Ok(header)
+}
+
+/// Adds the lines of a file of names to those of the files before it. A newline ends each file, so that no line runs on.
+fn add_names(header: &mut Vec<u8>, lines: &[u8]) -> Result<(), AllocError>
+    ensures { OnOk result (header.new.items ≡ header.old.items ++ ended lines.now) }
+{
+    header.extend_from_slice(lines)?;
+    if !lines.ends_with(b"\n") {
+        header.push(b'\n')?;
+    }
+    Ok(())
 }
 
 /// The sources of a table, and what is done with its overlaps.
@@ -106,10 +137,11 @@ impl<'w> MoveFiles<'w> {
     /// Reads the file of names, and the files of both tables.
     pub fn read(
         rt: &(impl Files + Eprint + AllocGlobal),
+        names: &[&str],
         paths: &TablePaths<'_>,
         words: &[&'w str],
     ) -> Result<MoveFiles<'w>, Ended> {
-        let header = read_header(rt, paths.names)?;
+        let header = read_header(rt, names)?;
         let old = TableFiles::read(rt, "old", paths.old)?;
         let new = TableFiles::read(rt, "new", paths.new)?;
         let Ok(words) = Vec::from_slice(rt.alloc(), words) else {

@@ -6,7 +6,7 @@ use crate::commands::answer;
 use crate::report::{no_memory, refused, report_words};
 use compose_tool::Ended;
 use compose_tree::ComposeTable;
-use compose_words::read_request;
+use compose_words::read_command_line;
 use std::net::Net;
 use std::process::ExitCode;
 use std::rt::{Env, Files};
@@ -46,8 +46,8 @@ fn answer_words<T: ComposeTable>(
     process_id: u32,
     words: &[String],
 ) -> Ended {
-    match read_request(rt.alloc(), words) {
-        Ok(request) => answer::<T>(rt, process_id, &request).unwrap_or_else(|ended| ended),
+    match read_command_line(rt.alloc(), words) {
+        Ok(said) => answer::<T>(rt, process_id, &said).unwrap_or_else(|ended| ended),
         Err(error) => report_words(rt, &error),
     }
 }

@@ -5,8 +5,9 @@ ghost use Rattle.compose_tool.specs.Ends.{end_of};
 ghost use Rattle.compose_commands.specs.Ends.{EndsPrinted, words_end, written_end};
 
 use clap::error::ErrorKind;
-use compose_tool::{Answer, Ended, Refusal};
-use std::io;
+use compose_tool::{Answer, Ended, Refusal, Shown};
+use std::rt::Files;
+use std::{fs, io};
 
 /// Prints the answer, or why there is none. Of a word that has no keysym the refusal says the index, and `words` has the word.
 pub fn report(
@@ -35,21 +36,54 @@ fn tell(
 fn tell_refusal(rt: &impl Eprint, refusal: &Refusal, words: &[&str]) -> io::Result<()> {
     if let Refusal::Key { index } = refusal {
         if let Some(word) = words.get(*index) {
-            return eprintln!(rt; "refused: key: {word}");
+            return eprintln!(rt; "refused: key: {word}", word = Shown(word));
         }
     }
     eprintln!(rt; "{refusal}")
 }
 
-/// How a run ends that has printed this, and would end so. An answer that can't be written is refused; a run without an answer ends as
-/// it does, whether that can be told or not.
+/// Writes the answer to a file where it is yes, whole or not at all, and else prints it, or why there is none.
+pub fn report_into(
+    rt: &(impl Files + Print + Eprint + AllocGlobal),
+    path: &str,
+    answered: &Result<Answer, Refusal>,
+    words: &[&str],
+) -> Ended {
+    match answered {
+        Ok(Answer::Yes(text)) => write_whole(rt, path, text),
+        _ => report(rt, answered, words),
+    }
+}
+
+/// Writes a text to a new file beside the path, which then takes the place of what stood there.
+fn write_whole(rt: &(impl Files + Eprint + AllocGlobal), path: &str, text: &str) -> Ended {
+    let Ok(part) = format!(in rt.alloc(); "{path}.part") else {
+        return no_memory(rt);
+    };
+    if fs::write(rt, &part, text).is_ok() && fs::rename(rt, &part, path).is_ok() {
+        return Ended::Yes;
+    }
+    let _ = fs::remove_file(rt, &part);
+    refused(eprintln!(rt; "refused: file: {path}", path = Shown(path)))
+}
+
+/// How a run ends that has printed this, and would end so. An answer that can't be written is refused, and nothing is said of it where
+/// nobody reads on; a run without an answer ends as it does, whether that can be told or not.
 pub fn written(rt: &impl Eprint, printed: io::Result<()>, ended: Ended) -> Ended
     ensures { result ≡ written_end printed ended }
 {
     match (printed, ended) {
-        (Err(_), Ended::Yes | Ended::No) => refused(eprintln!(rt; "refused: output")),
+        (Err(error), Ended::Yes | Ended::No) => refused(tell_unwritten(rt, &error)),
         _ => ended,
     }
+}
+
+/// Prints that the answer can't be written, unless that is since its reader has closed the pipe.
+fn tell_unwritten(rt: &impl Eprint, error: &io::Error) -> io::Result<()> {
+    if error.kind() == io::ErrorKind::BrokenPipe {
+        return Ok(());
+    }
+    eprintln!(rt; "refused: output")
 }
 
 /// The end of a run whose refusal was told. A line that can't be written does not change it.

@@ -5,9 +5,10 @@ use compose_serve::{Device, serve};
 use compose_service::Service;
 use compose_serving::{BeginFault, BeginInput, begin, connection_line};
 use compose_socket::{SocketFault, SocketFile, listener_of_systemd};
-use compose_tool::{Answer, Ended};
+use compose_tool::{Answer, Ended, Shown};
 use compose_tree::ComposeTable;
 use compose_words::ServeWords;
+use std::alloc::Global;
 use std::fs;
 use std::net::Net;
 use std::os::unix::net::{UnixListener, UnixStream};
@@ -17,9 +18,10 @@ use std::rt::{Env, Files};
 pub fn serve_files<T: ComposeTable>(
     rt: &(impl Env + Files + Net + Print + Eprint + AllocGlobal),
     process_id: u32,
+    names: &[&str],
     words: &ServeWords<'_>,
 ) -> Result<Ended, Ended> {
-    let mut service = begin_files::<T>(rt, words)?;
+    let mut service = begin_files::<T>(rt, names, words)?;
     let listener = bind(rt, process_id, words)?;
     written(rt, println!(rt; "listening"), Ended::Yes);
     let ended = serve_connections(rt, &listener, &mut service, words)?;
@@ -29,26 +31,60 @@ pub fn serve_files<T: ComposeTable>(
     Ok(ended)
 }
 
+/// The files of a service.
+#[derive(Drop)]
+struct ServiceFiles {
+    header: Vec<u8>,
+    table: TableFiles,
+    repertoire: Vec<u8>,
+    certificate: Vec<u8>,
+}
+
+impl ServiceFiles {
+    /// Reads the names, the table, the repertoire and the certificate.
+    fn read(
+        rt: &(impl Files + Eprint + AllocGlobal),
+        names: &[&str],
+        words: &ServeWords<'_>,
+    ) -> Result<ServiceFiles, Ended> {
+        Ok(ServiceFiles {
+            header: read_header(rt, names)?,
+            table: TableFiles::read(rt, "table", words.table)?,
+            repertoire: read_file(rt, words.repertoire)?,
+            certificate: read_file(rt, words.certificate)?,
+        })
+    }
+
+    /// The service that begins with them.
+    fn begin<T: ComposeTable>(self, alloc: Global) -> Result<Service<T>, BeginFault> {
+        let (sources, rule) = self.table.into_parts();
+        let input = BeginInput {
+            header: &self.header,
+            repertoire: &self.repertoire,
+            rule,
+            certificate: &self.certificate,
+        };
+        begin::<T>(alloc, &input, sources)
+    }
+}
+
 /// The service that begins with the files.
 fn begin_files<T: ComposeTable>(
     rt: &(impl Files + Print + Eprint + AllocGlobal),
+    names: &[&str],
     words: &ServeWords<'_>,
 ) -> Result<Service<T>, Ended> {
-    let header = read_header(rt, words.names)?;
-    let table = TableFiles::read(rt, "table", words.table)?;
-    let repertoire = read_file(rt, words.repertoire)?;
-    let certificate = read_file(rt, words.certificate)?;
-    let (sources, rule) = table.into_parts();
-    let input = BeginInput {
-        header: &header,
-        repertoire: &repertoire,
-        rule,
-        certificate: &certificate,
-    };
-    match begin::<T>(rt.alloc(), &input, sources) {
+    match ServiceFiles::read(rt, names, words)?.begin(rt.alloc()) {
         Ok(service) => Ok(service),
-        Err(BeginFault::Invalid(fault)) => Err(report(rt, &Ok(Answer::Invalid(fault)), &[])),
-        Err(BeginFault::Refused(refusal)) => Err(report(rt, &Err(refusal), &[])),
+        Err(fault) => Err(report_fault(rt, fault)),
+    }
+}
+
+/// Prints why no service begins.
+fn report_fault(rt: &(impl Print + Eprint), fault: BeginFault) -> Ended {
+    match fault {
+        BeginFault::Invalid(fault) => report(rt, &Ok(Answer::Invalid(fault)), &[]),
+        BeginFault::Refused(refusal) => report(rt, &Err(refusal), &[]),
     }
 }
 
@@ -69,7 +105,7 @@ fn bind(
     match file.bind(rt, process_id) {
         Ok(listener) => Ok(listener),
         Err(SocketFault::NoMemory) => Err(no_memory(rt)),
-        Err(_) => Err(refused(eprintln!(rt; "refused: socket: {}", words.socket))),
+        Err(_) => Err(refused(eprintln!(rt; "refused: socket: {}", Shown(words.socket)))),
     }
 }
 
@@ -83,7 +119,10 @@ fn serve_connections<T: ComposeTable>(
     for number in 1..=u32::from(words.connections) {
         match listener.accept() {
             Ok((stream, _)) => serve_connection(rt, number, &stream, service)?,
-            Err(_) => return Err(refused(eprintln!(rt; "refused: socket: {}", words.socket))),
+            Err(_) => return Err(refused(eprintln!(rt;
+                "refused: socket: {}",
+                Shown(words.socket)
+            ))),
         }
     }
     Ok(Ended::Yes)

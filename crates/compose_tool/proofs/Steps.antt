@@ -1,16 +1,24 @@
 -- The parts of a command, read one after another.
-use Rattle.std.proofs.Common.{◌≡◌, ℕ, List, sym, ◌∙◌, ap, subst, nat_cmp}
+use Rattle.std.proofs.Common.{◌≡◌, ℕ, List, refl, sym, ◌∙◌, ap, subst, nat_cmp}
+use Rattle.std.specs.declared.string.String.{String}
+use Rattle.std.specs.declared.alloc.Global.{Global}
 use Rattle.std.specs.Prelude.{Result, Ok, Err}
 use Rattle.std.specs.Result.{IsErrAnd}
 use Rattle.compose_model.specs.Table.{Definition}
 use Rattle.compose_model.specs.Nodes.{rising}
-use Rattle.compose_model.specs.Certificate.{Repertoire}
+use Rattle.compose_model.specs.Certificate.{Certificate, Repertoire}
 use Rattle.compose_tree.specs.Given.{first_table}
 use Rattle.compose_cert.specs.Repertoire.{repertoire_of}
-use Rattle.compose_migration.specs.Migration.{GivenMigration, NamedParts, TableSources, Parts, ◌>>=◌, or_because}
-use Rattle.compose_check.specs.Input.{no_repertoire}
-use Rattle.compose_tool.specs.Parts.{NoAnswer, TypedParts, Explainable, Needs, unread, no_only_table, given_words, type_parts, migration_parts, explainable, explain_parts, makeable, make_parts}
+use Rattle.compose_migration.specs.Migration.{GivenMigration, NamedParts, TableSources, Parts, ◌>>=◌, or_because, migration_of}
+use Rattle.compose_cert.specs.Reading.{certificate_of}
+use Rattle.compose_cert.specs.declared.CertFault.{CertFault}
+use Rattle.compose_check.specs.Input as checks
+use Rattle.compose_check.specs.Input.{Unread, no_repertoire, no_certificate, parts_of}
+use Rattle.compose_tool.specs.Parts.{NoAnswer, TypedParts, AllowedParts, allowed_parts, Explainable, Needs, unread, no_only_table, given_words, type_parts, migration_parts, explainable, explain_parts, makeable, make_parts}
 use Rattle.compose_tool.specs.Refused.{IsRefused, Gives}
+use Rattle.compose_tool.specs.Answers.{IsChecked, IsCheckedFor}
+use Rattle.compose_tool.specs.declared.answer.Answer.{Answer}
+use Rattle.compose_tool.specs.declared.answer.Answer.TheVariants.{Yes, No, Invalid, FreshNotAllowed}
 use Rattle.compose_tool.specs.declared.refusal.Refusal.{Refusal}
 use Rattle.compose_tool.specs.declared.refusal.Refusal.TheVariants as refusals
 
@@ -20,6 +28,10 @@ IsRead {A} said x = (a : A) × (said ≡ Ok a) × (a ≡ x)
 
 is_read : {A : Type 0} (said : Result A NoAnswer) (x : A) → IsRead said x → said ≡ Ok x
 is_read said x h = h.1 ∙ ap (λ a. Ok a) h.2
+
+-- what is read is one thing
+pub one_read : {A : Type 0} (said : Result A NoAnswer) (x y : A) → IsRead said x → said ≡ Ok y → y ≡ x
+one_read {A} said x y h e = let first : Ok y ≡ Ok h.0 = sym e ∙ h.1 in let same : y ≡ h.0 = cc in same ∙ h.2
 
 -- a refusal of one step is the refusal of the whole
 step_refused : {A B : Type 0} (refusal : Refusal) (r : Result A NoAnswer) (f : A → Result B NoAnswer) → IsRefused refusal r → IsRefused refusal (r >>= f)
@@ -59,6 +71,50 @@ module _ (header : List ℕ) (words : List (List ℕ)) (given : TableSources) wh
 
     pub typed_read : (table : List Definition) → IsRead (or_because no_only_table (first_table n.names given.sources given.rule)) table → type_parts header words given ≡ Ok (record { names = n.names; keys = n.keys; table = table })
     typed_read table table_read = after_named ∙ ap (λ r. r >>= with_table n) (is_read (or_because no_only_table (first_table n.names given.sources given.rule)) table table_read)
+
+-- ---- check, with the keysyms that may be fresh
+
+-- of a part that can be read nothing but memory is refused
+pub unrefused : {A B : Type 0} (refusal : Refusal) (x : A) (said : Result B NoAnswer) → IsRefused {P = A} refusal (Ok x) → IsRefused refusal said
+unrefused (refusals.Names fault) x said h = cc
+unrefused (refusals.Key index) x said h = cc
+unrefused (refusals.Table fault) x said h = let e = h.1 in cc
+unrefused (refusals.Side side fault) x said h = let e = h.1 in cc
+unrefused (refusals.Repertoire fault) x said h = cc
+unrefused (refusals.Certificate fault) x said h = cc
+unrefused (refusals.Fresh fault) x said h = cc
+unrefused refusals.TooManyFresh x said h = cc
+unrefused refusals.NoMemory x said h = tt
+
+-- the parts of a check have the certificate that its text says
+pub certificate_read : (input : checks.Input) (p : checks.Parts) → or_because unread (parts_of input) ≡ Ok p
+    → or_because (λ why. unread (no_certificate why)) (certificate_of input.certificate) ≡ Ok p.certificate
+certificate_read input p e = go (or_because checks.no_migration (migration_of input.migration)) (or_because no_repertoire (repertoire_of input.repertoire)) (certificate_of input.certificate) e
+  where
+    go : (m : Result Parts Unread) (r : Result Repertoire Unread) (c : Result Certificate CertFault)
+        → or_because unread (m >>= (λ m. r >>= (λ r. or_because no_certificate c >>= (λ c. Ok (record { names = m.names; old = m.old; new = m.new; repertoire = r; certificate = c }))))) ≡ Ok p
+        → or_because (λ why. unread (no_certificate why)) c ≡ Ok p.certificate
+    go (Ok m) (Ok r) (Ok c) e = let same : record { names = m.names; old = m.old; new = m.new; repertoire = r; certificate = c } ≡ p = cc in ap (λ (p : checks.Parts). Ok p.certificate) same
+    go (Ok m) (Ok r) (Err f) e = cc
+    go (Ok m) (Err f) c e = cc
+    go (Err f) r c e = cc
+
+module _ (words : List (List ℕ)) (input : checks.Input) where
+  abbrev with_parts : NamedParts → checks.Parts → Result AllowedParts NoAnswer
+  with_parts n p = Ok (record { checked = p; allowed = n.keys })
+
+  abbrev with_words : NamedParts → Result AllowedParts NoAnswer
+  with_words n = or_because unread (parts_of input) >>= with_parts n
+
+  pub allowed_read : (n : NamedParts) → IsRead (given_words input.migration.header words) n → (p : checks.Parts) → or_because unread (parts_of input) ≡ Ok p → allowed_parts words input ≡ with_parts n p
+  allowed_read n n_read p p_read = ap (λ r. r >>= with_words) (is_read (given_words input.migration.header words) n n_read) ∙ ap (λ r. r >>= with_parts n) p_read
+
+-- an answer of the check that is not yes stays as it is
+pub other_checked : (p : AllowedParts) (answer : Answer) → ((text : String Global) → answer ≡ Yes text → ⊥) → IsChecked p.checked answer → IsCheckedFor p answer
+other_checked p (Yes text) not h = absurd (not text refl)
+other_checked p (No text) not h = h
+other_checked p (Invalid fault) not h = h
+other_checked p (FreshNotAllowed keysym) not h = absurd h
 
 -- ---- explain and make
 

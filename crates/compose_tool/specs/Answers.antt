@@ -1,9 +1,10 @@
 -- What each command answers on its parts.
-use Rattle.std.specs.Prelude.{◌≡◌, ◌≢◌, ◌⊎◌, ℕ, List, [], ◌∷◌, ◌++◌, string_bytes, codes, true}
+use Rattle.std.specs.Prelude.{◌≡◌, ◌≢◌, ◌⊎◌, ℕ, List, [], ◌∷◌, ◌++◌, Option, Some, None, string_bytes, codes, true, not}
+use Rattle.std.specs.List.{find}
 use Rattle.std.specs.Fmt.{digits}
 use Rattle.keysym_core.specs.Names.{KeysymNames}
 use Rattle.keysym_core.specs.Printed.{at_least_four}
-use Rattle.compose_model.specs.Table.{Definition}
+use Rattle.compose_model.specs.Table.{Definition, has_key}
 use Rattle.compose_model.specs.Follows as model
 use Rattle.compose_model.specs.Certificate as certificates
 use Rattle.compose_cert.specs.Spelling.{Spells}
@@ -14,10 +15,10 @@ use Rattle.compose_walk.specs.Evidence.{Evidence, IsLeast, AreDifferences}
 use Rattle.compose_walk.specs.Explained.{explained, all_explained}
 use Rattle.compose_make.specs.Least.{IsUnreachable}
 use Rattle.compose_make.specs.Made.{IsMadeFor}
-use Rattle.compose_tool.specs.Parts.{TypedParts, Explainable, Needs}
+use Rattle.compose_tool.specs.Parts.{TypedParts, AllowedParts, Explainable, Needs}
 use Rattle.compose_tool.specs.Typed.{typed_lines}
 use Rattle.compose_tool.specs.declared.answer.Answer.{Answer}
-use Rattle.compose_tool.specs.declared.answer.Answer.TheVariants.{Yes, No, Invalid}
+use Rattle.compose_tool.specs.declared.answer.Answer.TheVariants.{Yes, No, Invalid, FreshNotAllowed}
 
 -- the text is these words and a newline
 abbrev pub one_line : List ℕ → List ℕ
@@ -30,6 +31,7 @@ abbrev pub IsTyped : TypedParts → Answer → Type 0
 IsTyped p (Yes text) = string_bytes text ≡ typed_lines p.names p.table p.keys
 IsTyped p (No text) = ⊥
 IsTyped p (Invalid fault) = ⊥
+IsTyped p (FreshNotAllowed keysym) = ⊥
 
 -- ---- check
 
@@ -38,6 +40,17 @@ abbrev pub IsChecked : checks.Parts → Answer → Type 0
 IsChecked p (Yes text) = (verdict_on p ≡ verdicts.Yes) × (string_bytes text ≡ one_line (codes "yes"))
 IsChecked p (No text) = ⊥
 IsChecked p (Invalid fault) = verdict_on p ≡ verdicts.No fault
+IsChecked p (FreshNotAllowed keysym) = ⊥
+
+-- the first of the keysyms that is not among the allowed ones
+abbrev pub first_not_among : List ℕ → List ℕ → Option ℕ
+first_not_among allowed keysyms = find (λ k. not (has_key allowed k)) keysyms
+
+-- the verdict; and where it is yes, the first fresh keysym of the certificate that is not allowed, if there is one
+abbrev pub IsCheckedFor : AllowedParts → Answer → Type 0
+IsCheckedFor p (FreshNotAllowed keysym) = (verdict_on p.checked ≡ verdicts.Yes) × (first_not_among p.allowed p.checked.certificate.fresh ≡ Some keysym)
+IsCheckedFor p (Yes text) = IsChecked p.checked (Yes text) × (first_not_among p.allowed p.checked.certificate.fresh ≡ None)
+IsCheckedFor p answer = IsChecked p.checked answer
 
 -- ---- explain
 
@@ -53,6 +66,7 @@ abbrev pub IsExplained : Explainable → Answer → Type 0
 IsExplained e (Yes text) = model.Follows e.move.names e.fresh e.move.old e.move.new × (string_bytes text ≡ one_line (codes "follows"))
 IsExplained e (No text) = TellsLeast e.move.names e.fresh e.move.old e.move.new (string_bytes text)
 IsExplained e (Invalid fault) = ⊥
+IsExplained e (FreshNotAllowed keysym) = ⊥
 
 -- the tables differ, and the bytes tell all their differences and count them
 pub record TellsAll (names : KeysymNames) (fresh : List ℕ) (old new : List Definition) (bytes : List ℕ) : Type 0 where
@@ -66,6 +80,7 @@ abbrev pub IsAllExplained : Explainable → Answer → Type 0
 IsAllExplained e (Yes text) = AreDifferences e.move.names e.fresh e.move.old e.move.new [] × (string_bytes text ≡ one_line (codes "follows"))
 IsAllExplained e (No text) = TellsAll e.move.names e.fresh e.move.old e.move.new (string_bytes text)
 IsAllExplained e (Invalid fault) = ⊥
+IsAllExplained e (FreshNotAllowed keysym) = ⊥
 
 -- ---- make
 
@@ -87,3 +102,4 @@ abbrev pub IsMadeText : Needs → Answer → Type 0
 IsMadeText needs (Yes text) = SpellsMade needs (string_bytes text)
 IsMadeText needs (No text) = TellsLeast needs.move.names needs.fresh needs.move.old needs.move.new (string_bytes text) ⊎ TellsUnreachable needs (string_bytes text)
 IsMadeText needs (Invalid fault) = ⊥
+IsMadeText needs (FreshNotAllowed keysym) = ⊥

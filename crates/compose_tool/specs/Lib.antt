@@ -5,3 +5,4 @@ pub mod Parts
 pub mod Ends
 pub mod Refused
 pub mod Answers
+pub mod Shown

@@ -11,7 +11,8 @@ use Rattle.compose_migration.specs.Migration.{GivenMigration, NoMigration, Named
 use Rattle.compose_cert.specs.Repertoire.{repertoire_of}
 use Rattle.compose_fresh.specs.Fresh.{fresh_demands, max_fresh}
 use Rattle.compose_fresh.specs.Demands.{first_unmet}
-use Rattle.compose_check.specs.Input.{Unread, no_migration, no_repertoire}
+use Rattle.compose_check.specs.Input as checks
+use Rattle.compose_check.specs.Input.{Unread, no_migration, no_repertoire, parts_of}
 use Rattle.compose_walk.specs.declared.fault.MakeFault.{MakeFault}
 use Rattle.compose_walk.specs.declared.fault.MakeFault.TheVariants.{BadFresh, TooManyFresh}
 
@@ -36,6 +37,18 @@ type_parts header words given = do
   n ← given_words header words
   table ← or_because no_only_table (first_table n.names given.sources given.rule)
   Ok (record { names = n.names; keys = n.keys; table = table })
+
+-- ---- a check whose fresh keysyms have to be among those of the words, which are read after the names
+
+pub record AllowedParts : Type 0 where
+  pub checked : checks.Parts
+  pub allowed : List ℕ
+
+abbrev pub allowed_parts : List (List ℕ) → checks.Input → Result AllowedParts NoAnswer
+allowed_parts words input = do
+  n ← given_words input.migration.header words
+  checked ← or_because unread (parts_of input)
+  Ok (record { checked = checked; allowed = n.keys })
 
 -- ---- a migration: the names, the keysyms of the words, the old table, the new one
 

@@ -4,6 +4,7 @@ ghost use Rattle.compose_tool.specs.Ends.{end_of, status_of};
 
 use crate::refusal::Refusal;
 use compose_check::CheckFault;
+use keysym_core::{Keysym, ShownKeysym};
 use std::fmt;
 
 /// What a command answers, on standard output.
@@ -15,6 +16,8 @@ pub enum Answer {
     No(String),
     /// The certificate is not valid: the first demand that it does not meet, which is printed behind `no: `.
     Invalid(CheckFault),
+    /// The certificate is valid, but this fresh keysym of it, the first such one, is not among those that are allowed.
+    FreshNotAllowed(Keysym),
 }
 
 impl fmt::Display for Answer {
@@ -27,6 +30,10 @@ impl fmt::Display for Answer {
             Answer::Yes(text) => f.write_str(text),
             Answer::No(text) => f.write_str(text),
             Answer::Invalid(fault) => writeln!(f, "no: {fault}"),
+            Answer::FreshNotAllowed(keysym) => {
+                let keysym = ShownKeysym(*keysym);
+                writeln!(f, "no: 16 FreshNotAllowed keysym={keysym}")
+            }
         }
     }
 }

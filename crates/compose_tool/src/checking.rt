@@ -1,15 +1,20 @@
 //! `check`: whether a certificate shows that the new table follows the old one.
+ghost use Rattle.std.specs.Prelude.{◌≡◌, map};
+ghost use Rattle.compose_cert.specs.Reading.{certificate_of};
 ghost use Rattle.compose_migration.specs.Migration.{or_because};
-ghost use Rattle.compose_check.specs.Input.{parts_of};
+ghost use Rattle.compose_check.specs.Input.{parts_of, no_certificate};
 ghost use Rattle.compose_check.specs.Gives.{input_of};
-ghost use Rattle.compose_tool.specs.Parts.{unread};
+ghost use Rattle.compose_tool.specs.Parts.{unread, allowed_parts};
 ghost use Rattle.compose_tool.specs.Refused.{Gives};
-ghost use Rattle.compose_tool.specs.Answers.{IsChecked};
+ghost use Rattle.compose_tool.specs.Answers.{IsChecked, IsCheckedFor, first_not_among};
 
 use crate::answer::Answer;
+use crate::parts::read_named;
 use crate::refusal::Refusal;
+use compose_cert::{CertFault, Certificate};
 use compose_check::{CheckInput, Verdict, check_bytes};
 use compose_tree::ComposeTable;
+use keysym_core::Keysym;
 use std::alloc::Global;
 
 /// Checks a certificate: `yes`, or the first demand that it does not meet. The parts are read in the order names, old table, new
@@ -25,4 +30,48 @@ pub fn check_migration<T: ComposeTable>(
         Ok(Verdict::No(fault)) => Ok(Answer::Invalid(fault)),
         Err(fault) => Err(Refusal::from(fault)),
     }
+}
+
+/// Checks a certificate as `check_migration` does, and then that its fresh keysyms are all among those of the words: for the others
+/// nothing is promised, and who made the certificate chose them. The words are read after the names. At the cost of `check_bytes`, of
+/// reading the names and the certificate once more, and O(f w) in the fresh keysyms and the words.
+pub fn check_allowed<T: ComposeTable>(
+    alloc: Global,
+    input: &CheckInput<'_>,
+    words: &[&str],
+) -> Result<Answer, Refusal>
+    ensures { Gives IsCheckedFor result (allowed_parts (map (λ word. word.now) words.now) (input_of input.entry.now)) }
+{
+    let named = read_named(alloc, input.header, words)?;
+    match check_migration::<T>(alloc, input)? {
+        Answer::Yes(text) => {
+            let certificate = read_certificate(alloc, input.certificate)?;
+            match first_not_allowed(certificate.fresh_keys(), &named.keys) {
+                Some(keysym) => Ok(Answer::FreshNotAllowed(keysym)),
+                None => Ok(Answer::Yes(text)),
+            }
+        }
+        answer => Ok(answer),
+    }
+}
+
+/// The certificate of a text.
+fn read_certificate(alloc: Global, bytes: &[u8]) -> Result<Certificate, Refusal>
+    ensures { Gives (λ said read. said ≡ read) result (or_because (λ why. unread (no_certificate why)) (certificate_of bytes.now)) }
+{
+    match Certificate::read(alloc, bytes) {
+        Ok(certificate) => Ok(certificate),
+        Err(CertFault::NoMemory) => Err(Refusal::NoMemory),
+        Err(fault) => Err(Refusal::Certificate(fault)),
+    }
+}
+
+/// The first of the keysyms that is not among the allowed ones.
+fn first_not_allowed(keysyms: &[Keysym], allowed: &[Keysym]) -> Option<Keysym>
+    ensures { result ≡ first_not_among allowed.now keysyms.now }
+{
+    keysyms
+        .iter()
+        .copied()
+        .find(|keysym| !allowed.contains(keysym))
 }

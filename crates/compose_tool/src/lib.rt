@@ -11,12 +11,14 @@ mod making;
 mod manifest;
 mod parts;
 mod refusal;
+mod shown;
 mod typing;
 
 pub use answer::{Answer, Ended};
-pub use checking::check_migration;
+pub use checking::{check_allowed, check_migration};
 pub use explaining::{explain_all_migration, explain_migration};
 pub use making::make_migration;
 pub use manifest::{Entry, Manifest, ManifestFault, read_manifest};
 pub use refusal::Refusal;
+pub use shown::Shown;
 pub use typing::{TypeFault, type_keys, type_lines};

@@ -16,8 +16,6 @@ pub struct LoadWords<'a> {
 /// The words of `session`.
 #[derive(Drop)]
 pub struct SessionWords<'a> {
-    /// The path of a header of names.
-    pub names: Option<&'a str>,
     /// The path of the service's socket.
     pub socket: &'a str,
     /// The number of the session.
@@ -57,7 +55,6 @@ pub fn session_words<'a>(
         None => Vec::new(alloc),
     };
     Ok(Some(SessionWords {
-        names: given.get_str("names"),
         socket,
         session,
         open: given.get_flag("open"),

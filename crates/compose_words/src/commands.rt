@@ -4,13 +4,15 @@ use crate::serve_command::serve_command;
 use clap::{Arg, ArgAction, Command};
 use std::alloc::{AllocError, Global};
 
-/// The option for a header of names.
+/// The option for names, which may come several times.
 pub fn names_option<'a>(alloc: Global) -> Arg<'a> {
     Arg::new(alloc, "names")
         .long("names")
         .value_name("FILE")
-        .help("Keysym names, in the form of keysymdef.h")
-        .action(ArgAction::Set)
+        .help(
+            "Keysym names, in the form of keysymdef.h, or builtin for the names of keysymdef.h itself",
+        )
+        .action(ArgAction::Append)
 }
 
 /// The option for fresh keysyms.
@@ -61,49 +63,57 @@ fn repertoire_file<'a>(alloc: Global) -> Arg<'a> {
     )
 }
 
-/// A command on an old table and a new one. What it is for, and how it ends, with an example.
-fn move_command<'a>(
-    alloc: Global,
-    name: &'a str,
-    about: &'a str,
-    ends: &'a str,
-) -> Result<Command<'a>, AllocError> {
-    Command::new(alloc, name)
-        .about(about)
-        .after_help(ends)
+/// Adds the names, the old table and the new one to a command.
+fn add_tables<'a>(alloc: Global, command: Command<'a>) -> Result<Command<'a>, AllocError> {
+    command
         .arg(names_option(alloc))?
+        .arg(fresh_option(alloc))?
         .arg(file(alloc, "OLD", "The manifest of the old table"))?
         .arg(file(alloc, "NEW", "The manifest of the new table"))
 }
 
 /// The command that checks a certificate.
 fn check_command<'a>(alloc: Global) -> Result<Command<'a>, AllocError> {
-    let about = "Check by a certificate that a new table changes nobody's typing";
-    let ends =
-        "Exit status: 0 yes, 1 no, 2 input refused, 3 out of memory\nExample: composecheck check old.manifest new.manifest repertoire certificate";
-    move_command(alloc, "check", about, ends)?
+    let command = Command::new(alloc, "check")
+        .about("Check by a certificate that a new table changes nobody's typing")
+        .after_help(
+            "With --fresh, a certificate whose fresh keysyms are not all among KEYS is answered no.\nExit status: 0 yes, 1 no, 2 input refused, 3 out of memory\nExample: composecheck check old.manifest new.manifest repertoire certificate",
+        );
+    add_tables(alloc, command)?
         .arg(repertoire_file(alloc))?
         .arg(file(alloc, "CERTIFICATE", "The certificate"))
 }
 
+/// The option for the file of what is made.
+fn output_option<'a>(alloc: Global) -> Arg<'a> {
+    Arg::new(alloc, "output")
+        .short('o')
+        .long("output")
+        .value_name("FILE")
+        .help("Write the certificate to FILE, whole or not at all")
+        .action(ArgAction::Set)
+}
+
 /// The command that makes a certificate.
 fn make_command<'a>(alloc: Global) -> Result<Command<'a>, AllocError> {
-    let about = "Make a certificate, or print why there is none";
-    let ends =
-        "Exit status: 0 made, 1 none, 2 input refused, 3 out of memory\nExample: composecheck make old.manifest new.manifest repertoire > certificate";
-    move_command(alloc, "make", about, ends)?
-        .arg(fresh_option(alloc))?
+    let command = Command::new(alloc, "make")
+        .about("Make a certificate, or print why there is none")
+        .after_help(
+            "Exit status: 0 made, 1 none, 2 input refused, 3 out of memory\nExample: composecheck make -o certificate old.manifest new.manifest repertoire",
+        );
+    add_tables(alloc, command)?
+        .arg(output_option(alloc))?
         .arg(repertoire_file(alloc))
 }
 
 /// The command that explains how two tables differ.
 fn explain_command<'a>(alloc: Global) -> Result<Command<'a>, AllocError> {
-    let about = "Print the shortest keys on which two tables differ";
-    let ends =
-        "Exit status: 0 no difference, 1 a difference, 2 input refused, 3 out of memory\nExample: composecheck explain --all old.manifest new.manifest";
-    move_command(alloc, "explain", about, ends)?
-        .arg(fresh_option(alloc))?
-        .arg(all_option(alloc))
+    let command = Command::new(alloc, "explain")
+        .about("Print the shortest keys on which two tables differ")
+        .after_help(
+            "Exit status: 0 no difference, 1 a difference, 2 input refused, 3 out of memory\nExample: composecheck explain --all old.manifest new.manifest",
+        );
+    add_tables(alloc, command)?.arg(all_option(alloc))
 }
 
 /// Adds the commands on an old table and a new one.
@@ -117,7 +127,7 @@ fn add_move_commands<'a>(alloc: Global, command: Command<'a>) -> Result<Command<
 /// All commands.
 pub fn command_line<'a>(alloc: Global) -> Result<Command<'a>, AllocError> {
     let command = Command::new(alloc, "composecheck")
-        .version("0.2.0")
+        .version("0.3.0")
         .about(
             "Check migrations between X11 Compose tables, type with them, and serve typing sessions",
         )

@@ -11,5 +11,5 @@ mod serve_command;
 mod serve_words;
 
 pub use client_words::{LoadWords, SessionWords};
-pub use request::{Request, TablePaths, read_request};
+pub use request::{CommandLine, Request, TablePaths, read_command_line};
 pub use serve_words::ServeWords;

@@ -14,8 +14,6 @@ use std::alloc::{AllocError, Global};
 pub enum Request<'a> {
     /// Type keys with a table.
     Type {
-        /// The path of a header of names.
-        names: Option<&'a str>,
         /// The path of the table's manifest.
         table: &'a str,
         /// The names of the keysyms, at least one.
@@ -24,6 +22,8 @@ pub enum Request<'a> {
     /// Check a certificate.
     Check {
         tables: TablePaths<'a>,
+        /// The words of `--fresh` between commas, where it is given.
+        fresh: Option<Vec<&'a str>>,
         repertoire: &'a str,
         certificate: &'a str,
     },
@@ -41,6 +41,8 @@ pub enum Request<'a> {
         /// The words of `--fresh` between commas.
         fresh: Vec<&'a str>,
         repertoire: &'a str,
+        /// The path of the file that is written, where it is given.
+        output: Option<&'a str>,
     },
     /// Serve typing sessions on a socket.
     Serve(ServeWords<'a>),
@@ -53,21 +55,40 @@ pub enum Request<'a> {
 /// The paths of what an old and a new table are read from.
 #[derive(Clone, Copy)]
 pub struct TablePaths<'a> {
-    /// The path of a header of names.
-    pub names: Option<&'a str>,
     /// The path of the old table's manifest.
     pub old: &'a str,
     /// The path of the new table's manifest.
     pub new: &'a str,
 }
 
-/// What these words ask for, of which the first is the program's name. Else clap's answer: the help or the version, why the words are
+/// What the words of the command line say.
+#[derive(Drop)]
+pub struct CommandLine<'a> {
+    /// The words of each `--names`: the path of a header of names, or `builtin`.
+    pub names: Vec<&'a str>,
+    /// What is asked for.
+    pub request: Request<'a>,
+}
+
+/// What these words say, of which the first is the program's name. Else clap's answer: the help or the version, why the words are
 /// refused, or that memory was refused. O(bytes of the words).
-pub fn read_request<'a>(alloc: Global, words: &'a [String]) -> Result<Request<'a>, Error> {
+pub fn read_command_line<'a>(alloc: Global, words: &'a [String]) -> Result<CommandLine<'a>, Error> {
     let matches = command_line(alloc)?.try_get_matches_from(words)?;
+    let names = names_of(alloc, &matches)?;
     match request_of(alloc, &matches)? {
-        Some(request) => Ok(request),
+        Some(request) => Ok(CommandLine { names, request }),
         None => Err(no_request(alloc)?),
+    }
+}
+
+/// The words of each `--names` of the command that was found.
+fn names_of<'a>(alloc: Global, matches: &ArgMatches<'a>) -> Result<Vec<&'a str>, AllocError> {
+    let Some((_, given)) = matches.subcommand() else {
+        return Ok(Vec::new(alloc));
+    };
+    match given.get_strs("names") {
+        Some(names) => Ok(Vec::from_slice(alloc, names)?),
+        None => Ok(Vec::new(alloc)),
     }
 }
 
@@ -83,7 +104,7 @@ fn request_of<'a>(
 ) -> Result<Option<Request<'a>>, AllocError> {
     match matches.subcommand() {
         Some(("type", given)) => type_request(alloc, given),
-        Some(("check", given)) => Ok(check_request(given)),
+        Some(("check", given)) => check_request(alloc, given),
         Some(("explain", given)) => explain_request(alloc, given),
         Some(("make", given)) => make_request(alloc, given),
         Some(("serve", given)) => Ok(serve_words(given).map(Request::Serve)),
@@ -102,19 +123,38 @@ fn type_request<'a>(
         return Ok(None);
     };
     Ok(Some(Request::Type {
-        names: given.get_str("names"),
         table,
         keys: Vec::from_slice(alloc, keys)?,
     }))
 }
 
 /// The words of `check`.
-fn check_request<'a>(given: &ArgMatches<'a>) -> Option<Request<'a>> {
-    Some(Request::Check {
-        tables: table_paths(given)?,
-        repertoire: given.get_str("REPERTOIRE")?,
-        certificate: given.get_str("CERTIFICATE")?,
-    })
+fn check_request<'a>(
+    alloc: Global,
+    given: &ArgMatches<'a>,
+) -> Result<Option<Request<'a>>, AllocError> {
+    let Some((tables, repertoire, certificate)) = check_paths(given) else {
+        return Ok(None);
+    };
+    let fresh = match given.get_str("fresh") {
+        Some(text) => Some(words_between(alloc, text)?),
+        None => None,
+    };
+    Ok(Some(Request::Check {
+        tables,
+        fresh,
+        repertoire,
+        certificate,
+    }))
+}
+
+/// The paths of `check`.
+fn check_paths<'a>(given: &ArgMatches<'a>) -> Option<(TablePaths<'a>, &'a str, &'a str)> {
+    Some((
+        table_paths(given)?,
+        given.get_str("REPERTOIRE")?,
+        given.get_str("CERTIFICATE")?,
+    ))
 }
 
 /// The words of `explain`.
@@ -144,13 +184,13 @@ fn make_request<'a>(
         tables,
         fresh: fresh_words(alloc, given)?,
         repertoire,
+        output: given.get_str("output"),
     }))
 }
 
 /// The paths of an old and a new table.
 fn table_paths<'a>(given: &ArgMatches<'a>) -> Option<TablePaths<'a>> {
     Some(TablePaths {
-        names: given.get_str("names"),
         old: given.get_str("OLD")?,
         new: given.get_str("NEW")?,
     })

@@ -4,8 +4,6 @@ use clap::ArgMatches;
 /// The words of `serve`.
 #[derive(Clone, Copy)]
 pub struct ServeWords<'a> {
-    /// The path of a header of names.
-    pub names: Option<&'a str>,
     /// The path of the table's manifest.
     pub table: &'a str,
     /// The path of the repertoire.
@@ -27,7 +25,6 @@ pub struct ServeWords<'a> {
 /// The words of `serve`, if they are all there.
 pub fn serve_words<'a>(given: &ArgMatches<'a>) -> Option<ServeWords<'a>> {
     Some(ServeWords {
-        names: given.get_str("names"),
         table: given.get_str("TABLE")?,
         repertoire: given.get_str("REPERTOIRE")?,
         certificate: given.get_str("CERTIFICATE")?,

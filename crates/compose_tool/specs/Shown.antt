@@ -1,0 +1,17 @@
+-- What users and files wrote, as it is printed to a terminal (this project's profile).
+use Rattle.std.specs.Prelude.{ℕ, Bool, ◌||◌, if◌then◌else◌, List, ◌++◌, flat_map, codes, false}
+use Rattle.std.specs.Fmt.{digits}
+use Rattle.std.specs.Str.{chars}
+use Rattle.std.specs.Char.{encode_utf8}
+use Rattle.compose_text.specs.Numbers.{is_between}
+
+-- a control, or a character that turns the direction of writing
+abbrev pub is_unsafe : ℕ → Bool
+is_unsafe c = is_between 0 0x1f c || is_between 0x7f 0x9f c || is_between 0x202a 0x202e c || is_between 0x2066 0x2069 c
+
+-- such a one by its number, any other one itself
+abbrev pub shown_character : ℕ → List ℕ
+shown_character c = if is_unsafe c then codes "\\u{" ++ digits 16 false c ++ codes "}" else encode_utf8 c
+
+abbrev pub shown_text : List ℕ → List ℕ
+shown_text text = flat_map shown_character (chars text)

@@ -1,0 +1,52 @@
+#!/usr/bin/env python3
+"""Writes the names that are built into `composecheck`, as data: crates/builtin_names/src/lines.rt.
+
+  names.py HEADER.. OUT            writes OUT from the headers, and prints which lines came and which went
+  names.py --check HEADER.. OUT    writes nothing; the status is 1 if OUT is not what would be written
+
+A header is in the form of keysymdef.h. Of a definition its name, its value and the character in its comment are kept."""
+import os
+import re
+import sys
+
+DEFINITION = re.compile(r"#define XK_(\w+)[ \t]+0x([0-9a-fA-F]{1,8})[ \t]*(?:/\*[ \t]*\(?[ \t]*U\+([0-9A-Fa-f]{4,6})(?![0-9A-Fa-f]))?")
+HEAD = """//! The names as data, written by `make names`.
+
+/// The lines of the header.
+#[rattlefmt::skip]
+pub static LINES: &str = \""""
+TAIL = '";\n'
+
+
+def lines_of(path):
+    """Returns the lines of the definitions of a header."""
+    found = []
+    with open(path, encoding="utf-8") as file:
+        for definition in filter(None, map(DEFINITION.match, file)):
+            name, value, character = definition.groups()
+            found.append(f"#define XK_{name} {int(value, 16):#x}" + (f" /*U+{character.upper()}*/" if character else ""))
+    return found
+
+
+def main():
+    *headers, out = [it for it in sys.argv[1:] if it != "--check"]
+    lines = list(dict.fromkeys(line for header in headers for line in lines_of(header)))
+    text = HEAD + "".join(f"{line}\n" for line in lines) + TAIL
+    before = ""
+    if os.path.isfile(out):
+        with open(out, encoding="utf-8") as file:
+            before = file.read()
+    old = before.removeprefix(HEAD).removesuffix(TAIL).splitlines()
+    for line in [it for it in lines if it not in set(old)]:
+        print(f"+ {line}")
+    for line in [it for it in old if it not in set(lines)]:
+        print(f"- {line}")
+    if "--check" in sys.argv[1:]:
+        return int(text != before)
+    with open(out, "w", encoding="utf-8") as file:
+        file.write(text)
+    return 0
+
+
+if __name__ == "__main__":
+    sys.exit(main())
