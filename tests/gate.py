@@ -5,7 +5,7 @@
   - `rt ci`, with the edits tried over the proofs that it has just made (proofs.py),
   - the command-line cases against both built programs, `composecheck` and the same on the plain form of a table, some of them again
     with each allocation refused in turn, the second reading of lines, inputs at their limits and files that are written by `composecheck`,
-  - the service of both programs over real sockets, random streams against a second reading of them, README's script, and both packages,
+  - the service of both programs over real sockets, many connections at once, random streams against a second reading of them, README's script, and both packages,
   - single calls with each growth of their memory refused in turn, and streams over devices that fail.
 
 With --whole it is `rt ci` as the kit has it, which tries each edit in a check of its own.
@@ -107,7 +107,7 @@ def main():
         shutil.copy(built("composecheck"), PROGRAM)
         plain = built("composecheck_plain")
         runs = [("run.py", PROGRAM), ("run.py", plain), ("refusals.py", PROGRAM), ("refusals.py", plain), ("lex_reference.py", PROGRAM), ("limits.py", PROGRAM), ("outputs.py", PROGRAM)]
-        runs += [("service.py", PROGRAM), ("service.py", plain), ("streams.py", PROGRAM), ("readme.py", PROGRAM), ("packages.py", PROGRAM)]
+        runs += [("service.py", PROGRAM), ("service.py", plain), ("at_once.py", PROGRAM), ("streams.py", PROGRAM), ("readme.py", PROGRAM), ("packages.py", PROGRAM)]
         runs += [("calls.py", built("compose_trials")), ("devices.py", built("compose_trials"))]
         for script, program in runs:
             more = test(script, program)[1]

@@ -9,7 +9,7 @@ _composecheck() {
     case $before in
         --names) COMPREPLY=($(compgen -f -- "$word") $(compgen -W builtin -- "$word")); return ;;
         -o | --output) COMPREPLY=($(compgen -f -- "$word")); return ;;
-        --fresh) return ;;
+        --fresh | --at-once | --unsent) return ;;
         --mode) COMPREPLY=($(compgen -W "600 660 666" -- "$word")); return ;;
     esac
     case ${COMP_WORDS[1]} in
@@ -17,7 +17,7 @@ _composecheck() {
         check) options="--names --fresh --help" ;;
         explain) options="--names --fresh --all --help" ;;
         make) options="--names --fresh --output --help" ;;
-        serve) options="--names --mode --replace --unlink --help" ;;
+        serve) options="--names --at-once --unsent --mode --replace --unlink --help" ;;
         load) options="--help" ;;
         session) options="--names --open --reset --ask --close --help" ;;
     esac

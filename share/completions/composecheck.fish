@@ -12,6 +12,8 @@ complete -c composecheck -n "__fish_seen_subcommand_from type check explain make
 complete -c composecheck -n "__fish_seen_subcommand_from check explain make" -l fresh -x -d "Keys for which nothing is promised"
 complete -c composecheck -n "__fish_seen_subcommand_from make" -s o -l output -r -F -d "The file of the certificate"
 complete -c composecheck -n "__fish_seen_subcommand_from explain" -l all -d "All differences"
+complete -c composecheck -n "__fish_seen_subcommand_from serve" -l at-once -x -d "Serve so many connections at once"
+complete -c composecheck -n "__fish_seen_subcommand_from serve" -l unsent -x -d "Bytes of replies that may be unsent on a connection"
 complete -c composecheck -n "__fish_seen_subcommand_from serve" -l mode -x -a "600 660 666" -d "Mode of the socket file"
 complete -c composecheck -n "__fish_seen_subcommand_from serve" -l replace -d "Replace a socket that nobody listens on"
 complete -c composecheck -n "__fish_seen_subcommand_from serve" -l unlink -d "Remove the socket file at the end"

@@ -8,6 +8,7 @@
 //! ```
 #![tactic(auto)]
 
+mod at_once;
 mod client;
 mod commands;
 mod files;

@@ -1,9 +1,10 @@
 //! `serve`: a service on a socket. An error is the end of a run whose refusal was told.
+use crate::at_once::{print_end, serve_many};
 use crate::files::{TableFiles, read_file, read_header};
 use crate::report::{no_memory, refused, report, written};
 use compose_serve::{Device, serve};
 use compose_service::Service;
-use compose_serving::{BeginFault, BeginInput, begin, connection_line};
+use compose_serving::{BeginFault, BeginInput, begin};
 use compose_socket::{SocketFault, SocketFile, listener_of_systemd};
 use compose_tool::{Answer, Ended, Shown};
 use compose_tree::ComposeTable;
@@ -24,7 +25,10 @@ pub fn serve_files<T: ComposeTable>(
     let mut service = begin_files::<T>(rt, names, words)?;
     let listener = bind(rt, process_id, words)?;
     written(rt, println!(rt; "listening"), Ended::Yes);
-    let ended = serve_connections(rt, &listener, &mut service, words)?;
+    let ended = match words.at_once {
+        Some(at_once) => serve_many(rt, listener, &mut service, words, at_once)?,
+        None => serve_connections(rt, &listener, &mut service, words)?,
+    };
     if words.unlink {
         let _ = fs::remove_file(rt, words.socket);
     }
@@ -141,10 +145,7 @@ fn serve_connection<T: ComposeTable>(
         &mut Device::new(stream),
         &mut Device::new(stream),
     );
-    let Ok(line) = connection_line(rt.alloc(), number, ended) else {
-        return Err(no_memory(rt));
-    };
-    match written(rt, print!(rt; "{line}"), Ended::Yes) {
+    match print_end(rt, number, ended) {
         Ended::Yes => Ok(()),
         other => Err(other),
     }

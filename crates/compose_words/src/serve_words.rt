@@ -14,6 +14,10 @@ pub struct ServeWords<'a> {
     pub socket: &'a str,
     /// After how many connections it ends, at least 1.
     pub connections: u16,
+    /// How many connections are served at once, 1 to 1,024; one after another where it is not given.
+    pub at_once: Option<u16>,
+    /// How many bytes of replies may be unsent on a connection that is served beside others, at least 1.
+    pub unsent: u32,
     /// The mode of the socket's file.
     pub mode: u32,
     /// Whether a socket that nobody listens on is replaced.
@@ -30,6 +34,8 @@ pub fn serve_words<'a>(given: &ArgMatches<'a>) -> Option<ServeWords<'a>> {
         certificate: given.get_str("CERTIFICATE")?,
         socket: given.get_str("SOCKET")?,
         connections: given.get_one::<u16>("CONNECTIONS")?,
+        at_once: given.get_one::<u16>("at-once"),
+        unsent: given.get_one::<u32>("unsent")?,
         mode: mode_of(given.get_str("mode")?),
         replace: given.get_flag("replace"),
         unlink: given.get_flag("unlink"),

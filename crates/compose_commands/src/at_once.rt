@@ -1,0 +1,85 @@
+//! `serve --at-once`: many connections to one service.
+use crate::report::{no_memory, refused, written};
+use compose_hub::{Limits, Report, serve_at_once};
+use compose_serve::{Answer, Ended as ConnectionEnded, ServeFault};
+use compose_serving::connection_line;
+use compose_tool::{Ended, Shown};
+use compose_words::ServeWords;
+use mio::net::UnixListener as PolledListener;
+use std::io;
+use std::net::Net;
+use std::os::unix::net::UnixListener;
+
+/// What is printed of connections, and how the run ends where a line can't be.
+#[derive(Drop)]
+struct Lines<'r, R> {
+    rt: &'r R,
+    ended: Ended,
+}
+
+impl<R: Print + Eprint + AllocGlobal> Report for Lines<'_, R> {
+    fn ended(&mut self, number: u32, how: Result<ConnectionEnded, ServeFault>) -> io::Result<()> {
+        self.ended = print_end(self.rt, number, how);
+        match self.ended {
+            Ended::Yes => Ok(()),
+            _ => Err(io::Error::from(io::ErrorKind::BrokenPipe)),
+        }
+    }
+}
+
+/// Prints how a connection ended.
+pub fn print_end(
+    rt: &(impl Print + Eprint + AllocGlobal),
+    number: u32,
+    how: Result<ConnectionEnded, ServeFault>,
+) -> Ended {
+    match connection_line(rt.alloc(), number, how) {
+        Ok(line) => written(rt, print!(rt; "{line}"), Ended::Yes),
+        Err(_) => no_memory(rt),
+    }
+}
+
+/// Serves as many connections as are asked for, up to `at_once` of them at a time, and prints how each ended.
+pub fn serve_many<S: Answer>(
+    rt: &(impl Net + Print + Eprint + AllocGlobal),
+    listener: UnixListener,
+    service: &mut S,
+    words: &ServeWords<'_>,
+    at_once: u16,
+) -> Result<Ended, Ended> {
+    let mut lines = Lines {
+        rt,
+        ended: Ended::Yes,
+    };
+    let limits = Limits {
+        at_once: usize::from(at_once),
+        connections: u32::from(words.connections),
+        unsent: words.unsent as usize,
+    };
+    let served = poll_all(rt, listener, service, limits, &mut lines);
+    match (lines.ended, served) {
+        (Ended::Yes, Err(error)) => Err(tell_unserved(rt, words.socket, error.kind())),
+        (ended, _) => Ok(ended),
+    }
+}
+
+/// Serves the connections to a listener that doesn't wait.
+fn poll_all<S: Answer, E: Report>(
+    rt: &(impl Net + AllocGlobal),
+    listener: UnixListener,
+    service: &mut S,
+    limits: Limits,
+    report: &mut E,
+) -> io::Result<()> {
+    listener.set_nonblocking(true)?;
+    let mut listener = PolledListener::from_std(listener);
+    serve_at_once(rt, rt.alloc(), &mut listener, service, limits, report)
+}
+
+/// Tells why connections can't be served: memory was refused, or anything else.
+fn tell_unserved(rt: &impl Eprint, path: &str, kind: io::ErrorKind) -> Ended {
+    match kind {
+        io::ErrorKind::OutOfMemory => no_memory(rt),
+        _ => refused(eprintln!(rt; "refused: socket: {path}", path = Shown(path))),
+    }
+}

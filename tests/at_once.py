@@ -1,0 +1,222 @@
+#!/usr/bin/env python3
+"""at_once.py PROGRAM: serves many connections at once with PROGRAM over real sockets, and compares what each gets with what is written down
+here, or with a second reading of sessions. The last line is `N passed, M failed`."""
+import os
+import random
+import socket
+import sys
+import threading
+
+import service as one
+from service import ACUTE, DROPPED, E, GRAVE, MALFORMED, NEW, OLD, OPEN_7, OPENED_7, X, Results, Serving, fed, frame, key, load, loaded, refused, state
+
+SEED = 28
+CLIENTS = 64
+# A client that reads nothing sends so many requests; their replies are more than sockets hold.
+UNREAD = 200_000
+TABLE = {(GRAVE, ACUTE, E): b"x", (ACUTE, E): b"x"}
+NOTHING, COMPOSING, COMPOSED, CANCELLED = range(4)
+
+
+class Peer:
+    """A connection whose requests are sent, and whose replies are read, by calls."""
+
+    def __init__(self, service):
+        self.connection = socket.socket(socket.AF_UNIX, socket.SOCK_STREAM)
+        self.connection.settimeout(60)
+        self.connection.connect(service.path)
+
+    def __enter__(self):
+        return self
+
+    def __exit__(self, *_):
+        self.connection.close()
+
+    def send(self, sent):
+        self.connection.sendall(sent)
+
+    def read(self, size):
+        """So many bytes, or fewer at the end."""
+        got = bytearray()
+        while len(got) < size and (piece := self.connection.recv(size - len(got))):
+            got += piece
+        return bytes(got)
+
+    def ask(self, sent, wanted):
+        """Sends a request and reads as many bytes as are wanted."""
+        self.send(sent)
+        return self.read(len(wanted))
+
+    def finish(self):
+        """Ends the writing side, and returns all that still comes."""
+        self.connection.shutdown(socket.SHUT_WR)
+        got = bytearray()
+        one.read_all(self.connection, got)
+        return bytes(got)
+
+
+def at_once(count, *more):
+    return ("--at-once", str(count), *more)
+
+
+def check_worked(program, results):
+    """Each worked stream alone, as a service that takes one connection after another answers it."""
+    for what, (sent, wanted, end) in one.WORKED.items():
+        for options in (at_once(8), at_once(1, "--unsent", "1")):
+            with Serving(program, options=options) as service:
+                results.expect(f"{what}, {' '.join(options)}", service.exchange(sent), wanted)
+                results.expect(f"{what}, {' '.join(options)}: printed", service.ended(), (f"listening\nconnection 1: {end}\n", "", 0))
+
+
+def check_load_beside(program, results):
+    """A load on a second connection while the first stands in the middle of a sequence."""
+    with Serving(program, connections=2, options=at_once(2)) as service:
+        with Peer(service) as typing, Peer(service) as loading:
+            results.expect("a key before the load", typing.ask(OPEN_7 + key(7, GRAVE), OPENED_7 + fed(7, 1)), OPENED_7 + fed(7, 1))
+            results.expect("the load", loading.ask(load(NEW, DROPPED), loaded(1)), loaded(1))
+            results.expect("where the session stands", typing.ask(frame(6, 7), state(7, 0)), state(7, 0))
+            results.expect("the keys of the old sequence", typing.ask(key(7, ACUTE) + key(7, E), fed(7, 1) + fed(7, 2, b"x")), fed(7, 1) + fed(7, 2, b"x"))
+            results.expect("the end of the first", typing.finish(), b"")
+            results.expect("the end of the second", loading.finish(), b"")
+        results.expect("both ended", sorted(service.ended()[0].splitlines()), ["connection 1: ended", "connection 2: ended", "listening"])
+
+
+def check_faults_beside(program, results):
+    """Half a frame holds no other connection up, and a faulty frame ends its connection alone."""
+    with Serving(program, connections=3, options=at_once(3)) as service:
+        with Peer(service) as half, Peer(service) as faulty, Peer(service) as typing:
+            half.send(load(NEW, DROPPED)[:40])
+            results.expect("a key beside half a frame", typing.ask(OPEN_7 + key(7, GRAVE), OPENED_7 + fed(7, 1)), OPENED_7 + fed(7, 1))
+            faulty.send(b"\x09")
+            results.expect("a faulty frame", faulty.read(100), MALFORMED)
+            results.expect("a key beside a faulty frame", typing.ask(key(7, ACUTE), fed(7, 1)), fed(7, 1))
+            half.send(load(NEW, DROPPED)[40:])
+            results.expect("the other half", half.read(len(loaded(1))), loaded(1))
+            results.expect("the end beside them", (half.finish(), typing.finish()), (b"", b""))
+        lines = sorted(service.ended()[0].splitlines())
+        results.expect("their ends", lines, ["connection 1: ended", "connection 2: malformed", "connection 3: ended", "listening"])
+
+
+def check_unread(program, results, unsent):
+    """A client that reads nothing is stopped while others go on, and gets every reply once it reads."""
+    wanted = refused(5, 2) * UNREAD
+    with Serving(program, connections=2, options=at_once(2, "--unsent", str(unsent))) as service:
+        with Peer(service) as silent, Peer(service) as typing:
+            sending = threading.Thread(target=silent.send, args=(frame(6, 5) * UNREAD,))
+            sending.start()
+            keys = [typing.ask(frame(1, 7), OPENED_7)] + [typing.ask(key(7, X), fed(7, 0, b"x")) for _ in range(300)]
+            results.expect(f"keys beside a client that reads nothing, {unsent}", keys, [OPENED_7] + [fed(7, 0, b"x")] * 300)
+            results.expect("it is stopped", sending.is_alive(), True)
+            got = silent.read(len(wanted))
+            sending.join()
+            results.expect(f"every reply once it reads, {unsent}", (len(got), got == wanted), (len(wanted), True))
+            results.expect("no further reply", (silent.finish(), typing.finish()), (b"", b""))
+
+
+def check_waiting(program, results):
+    """A connection past the greatest number waits, and is served once another ends."""
+    with Serving(program, connections=3, options=at_once(2)) as service:
+        with Peer(service) as first, Peer(service) as second, Peer(service) as third:
+            third.send(frame(1, 9))
+            results.expect("the first", first.ask(frame(1, 1), frame(0x81, 1)), frame(0x81, 1))
+            results.expect("the second", second.ask(frame(1, 2), frame(0x81, 2)), frame(0x81, 2))
+            third.connection.settimeout(0.3)
+            try:
+                waited = third.read(1)
+            except TimeoutError:
+                waited = None
+            third.connection.settimeout(60)
+            results.expect("the third waits", waited, None)
+            results.expect("the end of the first", first.finish(), b"")
+            results.expect("the third is served", third.read(9), frame(0x81, 9))
+            results.expect("the other ends", (second.finish(), third.finish()), (b"", b""))
+        results.expect("all ended", (len(service.ended()[0].splitlines()), service.process.returncode), (4, 0))
+
+
+# ---- many clients, each with sessions of its own
+
+class Sessions:
+    """A second reading of sessions over the table, by the rules of a compose state."""
+
+    def __init__(self):
+        self.open = {}
+
+    def key(self, session, keysym):
+        if session not in self.open:
+            return refused(session, 2)
+        status, pending = self.open[session]
+        keys = (*pending, keysym)
+        if any(it[: len(keys)] == keys and it != keys for it in TABLE):
+            self.open[session] = COMPOSING, keys
+            return fed(session, COMPOSING)
+        if keys in TABLE:
+            self.open[session] = COMPOSED, ()
+            return fed(session, COMPOSED, TABLE[keys])
+        self.open[session] = (CANCELLED if pending else NOTHING), ()
+        text = b"" if pending or keysym > 0x7E else bytes([keysym])
+        return fed(session, self.open[session][0], text)
+
+    def answer(self, kind, session, keysym):
+        if kind == 2:
+            return self.key(session, keysym)
+        if kind == 1:
+            if session in self.open:
+                return refused(session, 1)
+            self.open[session] = NOTHING, ()
+            return frame(0x81, session)
+        if session not in self.open:
+            return refused(session, 2)
+        if kind == 6:
+            return state(session, self.open[session][0], *self.open[session][1])
+        if kind == 3:
+            self.open[session] = NOTHING, ()
+        else:
+            del self.open[session]
+        return frame(0x80 + kind, session)
+
+
+def stream_of(chance, first):
+    """A random stream over two sessions of its own, and the replies to it."""
+    sessions, sent, wanted = Sessions(), bytearray(), bytearray()
+    for _ in range(400):
+        kind, session = chance.choice((1, 2, 2, 2, 2, 2, 2, 3, 4, 6)), first + chance.randrange(2)
+        keysym = chance.choice((GRAVE, ACUTE, E, X))
+        sent += key(session, keysym) if kind == 2 else frame(kind, session)
+        wanted += sessions.answer(kind, session, keysym)
+    return bytes(sent), bytes(wanted)
+
+
+def check_many(program, results, unsent):
+    chance = random.Random(SEED)
+    streams = [stream_of(chance, 2 * it) for it in range(CLIENTS)]
+    cuts = [[0, *sorted(chance.sample(range(1, len(sent)), 20)), len(sent)] for sent, _ in streams]
+    got = [None] * CLIENTS
+    with Serving(program, connections=CLIENTS, options=at_once(CLIENTS, "--unsent", str(unsent))) as service:
+        def converse(it):
+            sent = streams[it][0]
+            got[it] = service.exchange(*(sent[a:b] for a, b in zip(cuts[it], cuts[it][1:])))
+        clients = [threading.Thread(target=converse, args=(it,)) for it in range(CLIENTS)]
+        for it in clients:
+            it.start()
+        for it in clients:
+            it.join()
+        for number, (_, wanted) in enumerate(streams):
+            results.expect(f"client {number} of {CLIENTS}, {unsent}", got[number], wanted)
+        printed, complained, status = service.ended()
+        results.expect("their ends", (sorted(printed.splitlines()), complained, status), (sorted(["listening", *(f"connection {it}: ended" for it in range(1, CLIENTS + 1))]), "", 0))
+
+
+def main():
+    program, results = os.path.abspath(sys.argv[1]), Results()
+    assert OLD.count(b"\n") == len(TABLE)
+    for check in (check_worked, check_load_beside, check_faults_beside, check_waiting):
+        check(program, results)
+    for unsent in (65_536, 1):
+        check_unread(program, results, unsent)
+        check_many(program, results, unsent)
+    print(f"{results.passed} passed, {results.failed} failed")
+    return 1 if results.failed else 0
+
+
+if __name__ == "__main__":
+    sys.exit(main())
