@@ -47,9 +47,10 @@ def files_of(program, prefix):
     for section in "15":
         # (compressed, as Debian installs it)
         files[f"share/man/man{section}/composecheck.{section}.gz"] = gzip.compress(named(f"docs/composecheck.{section}"), mtime=0)
-    for name in sorted(os.listdir(f"{TOP}/share/composecheck")):
-        if os.path.isfile(f"{TOP}/share/composecheck/{name}"):
-            files[f"share/composecheck/{name}"] = named(f"share/composecheck/{name}")
+    for folder in ("share/composecheck", "share/composecheck/repertoires"):
+        for name in sorted(os.listdir(f"{TOP}/{folder}")):
+            if os.path.isfile(f"{TOP}/{folder}/{name}"):
+                files[f"{folder}/{name}"] = named(f"{folder}/{name}")
     for name in UNITS:
         files[f"lib/systemd/user/{name}"] = named(f"share/composecheck/{name}")
     for name, place in COMPLETIONS.items():

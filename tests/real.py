@@ -16,6 +16,7 @@ from key_streams import HEADER
 
 TOP = os.path.dirname(os.path.dirname(os.path.abspath(__file__)))
 SHORT_NAMES = os.path.join(TOP, "share", "composecheck", "short-unicode-names.h")
+REPERTOIRES = os.path.join(TOP, "share", "composecheck", "repertoires")
 LOCALES = "/usr/share/X11/locale"
 ENGLISH = os.path.join(LOCALES, "en_US.UTF-8", "Compose")
 XKB_HEADER = "/usr/include/xkbcommon/xkbcommon-compose.h"
@@ -105,6 +106,8 @@ def check_header(program, folder, results):
     ran = run(program, folder, "type", "--names", HEADER, "nothing", *values)
     lines = ran.stdout.splitlines()
     results.expect("all names are keysyms", len(lines) == len(values), ran.stderr)
+    built_in = run(program, folder, "type", "--names", "builtin", "nothing", *values)
+    results.expect("the names that are built in are those of keysymdef.h", built_in.stdout == ran.stdout, built_in.stderr)
     for (name, keysym), line in zip(values.items(), lines):
         text = re.sub(r'(["\\])', r"\\\1", own_text(keysym, given))
         expected = 'ignored ""' if is_modifier(keysym) else f'nothing "{text}"'
@@ -180,6 +183,13 @@ def check_typing(program, folder, results):
         results.expect(f"typing on {name} as libxkbcommon", agreed == KEYS, agreed)
 
 
+def check_repertoires(program, folder, results):
+    """Each character of the repertoires that we ship is typed by the English table."""
+    for name in sorted(os.listdir(REPERTOIRES)):
+        ran = run(program, folder, "make", "--names", "builtin", "en_US.UTF-8.refuse", "en_US.UTF-8.refuse", os.path.join(REPERTOIRES, name))
+        results.expect(f"the repertoire {name}", ran.stdout.startswith("compose-certificate 1\n") and ran.returncode == 0, ran.stdout + ran.stderr)
+
+
 def main():
     program, bench = (os.path.abspath(path) for path in sys.argv[1:3])
     for path, package in PACKAGES.items():
@@ -192,6 +202,7 @@ def main():
         check_header(program, folder, results)
         check_tables(program, folder, results)
         check_counts(bench, folder, results)
+        check_repertoires(program, folder, results)
         check_migrations(program, folder, results)
         check_typing(program, folder, results)
     print(f"{results.passed} passed, {results.failed} failed")
