@@ -3,10 +3,11 @@ use Rattle.std.proofs.Common.{◌≡◌, ◌<◌, ◌+◌, List, [], ◌∷◌, 
 use Rattle.std.specs.Prelude.{Option, Some, Result, Ok, Err}
 use Rattle.std.specs.Option.{option_map_or}
 use Rattle.std.proofs.lemmas.Bool.{lt-leb}
+use Rattle.compose_text.specs.Results.{◌>>=◌}
 use Rattle.keysym_core.specs.Names.{KeysymNames}
 use Rattle.compose_model.specs.Table.{Definition}
 use Rattle.compose_read.specs.Lines.{Source, Visit}
-use Rattle.compose_read.specs.Read.{◌>>=◌, line_gives, put_definition, read_on, max_lines, max_definitions}
+use Rattle.compose_read.specs.Read.{line_gives, put_definition, read_on, max_lines, max_definitions}
 use Rattle.compose_read.specs.Rows.{Drafted}
 use Rattle.compose_read.specs.Progress.{front, read_so_far, reading_on}
 use Rattle.compose_read.specs.declared.ReadFault.{ReadFault}

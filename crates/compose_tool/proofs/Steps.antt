@@ -2,12 +2,13 @@
 use Rattle.std.proofs.Common.{◌≡◌, ℕ, List, sym, ◌∙◌, ap, subst, nat_cmp}
 use Rattle.std.specs.Prelude.{Result, Ok, Err}
 use Rattle.std.specs.Result.{IsErrAnd}
+use Rattle.compose_text.specs.Results.{◌>>=◌}
 use Rattle.compose_model.specs.Table.{Definition}
 use Rattle.compose_model.specs.Nodes.{rising}
 use Rattle.compose_model.specs.Certificate.{Repertoire}
 use Rattle.compose_tree.specs.Given.{first_table}
 use Rattle.compose_cert.specs.Repertoire.{repertoire_of}
-use Rattle.compose_migration.specs.Migration.{GivenMigration, NamedParts, TableSources, Parts, ◌>>=◌, or_because}
+use Rattle.compose_migration.specs.Migration.{GivenMigration, NamedParts, TableSources, Parts, or_because}
 use Rattle.compose_check.specs.Input.{no_repertoire}
 use Rattle.compose_tool.specs.Parts.{NoAnswer, TypedParts, Explainable, Needs, unread, no_only_table, given_words, type_parts, migration_parts, explainable, explain_parts, makeable, make_parts}
 use Rattle.compose_tool.specs.Refused.{IsRefused, Gives}
