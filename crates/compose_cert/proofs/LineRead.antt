@@ -6,10 +6,11 @@ use Rattle.std.specs.Cmp.Lexicographic.{bytes_decides}
 use Rattle.std.specs.Fmt.{decimal}
 use Rattle.std.specs.Str.Parse.{digits_value}
 use Rattle.std.proofs.lemmas.Bool.{and_parts, ltb-true, lt-ltb, le-ltb}
+use Rattle.compose_text.specs.Results.{◌>>=◌}
 use Rattle.compose_text.specs.Lines.{divide, onto_first}
 use Rattle.compose_model.specs.Certificate.{Typing}
 use Rattle.compose_cert.specs.Spelling.{is_number, max_count}
-use Rattle.compose_cert.specs.Reading.{written, number_of, keysyms_of, both, pair_of, pair_of_words, typing_of, typing_of_words, character_of, line_at, typing_at, if_few, end_at, ◌>>=◌}
+use Rattle.compose_cert.specs.Reading.{written, number_of, keysyms_of, both, pair_of, pair_of_words, typing_of, typing_of_words, character_of, line_at, typing_at, if_few, end_at}
 use Rattle.compose_cert.specs.declared.CertFault.{CertFault}
 use Rattle.compose_cert.specs.declared.CertFault.TheVariants.{NotText, TooLarge}
 use Rattle.compose_cert.proofs.Words.{plain, decimal_plain, word_alone}

@@ -5,11 +5,12 @@ use Rattle.std.specs.Option.{option_map}
 use Rattle.std.specs.List.{list_all}
 use Rattle.std.specs.Fmt.{decimal}
 use Rattle.std.proofs.lemmas.Bool.{and_parts, and_from, ltb-true, leb-true}
+use Rattle.compose_text.specs.Results.{◌>>=◌}
 use Rattle.keysym_core.specs.Keysym.{is_keysym}
 use Rattle.compose_text.specs.Lines.{divide}
 use Rattle.compose_model.specs.Certificate.{Typing, Certificate}
 use Rattle.compose_cert.specs.Spelling.{counted, character_text, keysym_text, pair_text, typing_text, version_line, fresh_lines, lines_of_text, text_of, max_count, is_number, is_character, is_typing, is_certificate, Spells}
-use Rattle.compose_cert.specs.Reading.{◌>>=◌, number_of, keysym_of, number_behind, both, pair_of, pair_of_words, keysyms_of, typing_of, typing_of_words, version_of, line_at, if_few, count_at, typing_at, times, fresh_at, certificate_at, certificate_of}
+use Rattle.compose_cert.specs.Reading.{number_of, keysym_of, number_behind, both, pair_of, pair_of_words, keysyms_of, typing_of, typing_of_words, version_of, line_at, if_few, count_at, typing_at, times, fresh_at, certificate_at, certificate_of}
 use Rattle.compose_cert.specs.declared.CertFault.{CertFault}
 use Rattle.compose_cert.proofs.Words.{plain, word_divided, word_alone, is_line, lines_divided, plain_line, decimal_plain, hex_plain, number_again, keysym_again, character_again, character_plain}
 

@@ -1,8 +1,9 @@
 -- So many lines, one behind another, as a loop reads them.
 use Rattle.std.proofs.Common.{◌≡◌, ℕ, suc, ◌+◌, ◌-◌, ◌<◌, List, [], ◌∷◌, ◌++◌, refl, sym, ◌∙◌, ap, arith, append_assoc}
 use Rattle.std.specs.Prelude.{Result, Ok, Err}
+use Rattle.compose_text.specs.Results.{◌>>=◌}
 use Rattle.compose_cert.specs.declared.CertFault.{CertFault}
-use Rattle.compose_cert.specs.Reading.{◌>>=◌, times}
+use Rattle.compose_cert.specs.Reading.{times}
 use Rattle.compose_cert.specs.Said.{behind}
 
 regrouped : {A : Type 0} (xs : List A) (x : A) (r : Result (List A × List (List ℕ)) CertFault) → behind (xs ++ x ∷ []) r ≡ behind xs (r >>= λ more. Ok (x ∷ more.0, more.1))

@@ -4,17 +4,13 @@ use Rattle.std.specs.Option.{option_map_or, option_map}
 use Rattle.std.specs.List.{starts_with}
 use Rattle.std.specs.Fmt.{decimal}
 use Rattle.std.specs.Str.Parse.{digits_value}
+use Rattle.compose_text.specs.Results.{◌>>=◌}
 use Rattle.keysym_core.specs.Keysym.{is_keysym}
 use Rattle.compose_text.specs.Lines.{divide}
 use Rattle.compose_model.specs.Certificate.{Typing, Certificate}
 use Rattle.compose_cert.specs.Spelling.{character_text, keysym_text, is_number, is_character, max_count}
 use Rattle.compose_cert.specs.declared.CertFault.{CertFault}
 use Rattle.compose_cert.specs.declared.CertFault.TheVariants.{NotText, TooLarge}
-
-infixl 10 ◌>>=◌
-abbrev pub ◌>>=◌ : {A B : Type 0} → Result A CertFault → (A → Result B CertFault) → Result B CertFault
-(Ok x) >>= f = f x
-(Err e) >>= f = Err e
 
 -- ---- words: each is what is written of the value that its digits have
 

@@ -1,8 +1,8 @@
 -- What a step of a reader gives, unless memory ran out. Words for private functions.
 use Rattle.std.specs.Prelude.{◌≡◌, ◌≢◌, ℕ, List, ◌++◌, Result, Ok, Err, MatchResult}
+use Rattle.compose_text.specs.Results.{◌>>=◌}
 use Rattle.compose_cert.specs.declared.CertFault.{CertFault}
 use Rattle.compose_cert.specs.declared.CertFault.TheVariants.{NoMemory}
-use Rattle.compose_cert.specs.Reading.{◌>>=◌}
 
 -- the result as it is seen is what is said
 abbrev pub Says : {A B : Type 0} → (A → B) → Result A CertFault → Result B CertFault → Type 0

@@ -2,6 +2,7 @@
 use Rattle.std.proofs.Common.{◌≡◌, ℕ, List, [], sym, ◌∙◌, ap, subst}
 use Rattle.std.specs.Prelude.{Result, Ok, Err}
 use Rattle.std.specs.Result.{IsErrAnd}
+use Rattle.compose_text.specs.Results.{◌>>=◌}
 use Rattle.keysym_core.specs.Names.{KeysymNames}
 use Rattle.keysym_core.specs.Header.{names_of}
 use Rattle.keysym_core.specs.declared.fault.NameFault.{NameFault}
@@ -10,7 +11,7 @@ use Rattle.compose_tree.specs.Given.{NoTable, first_table}
 use Rattle.compose_migration.specs.Keys.{keys_of}
 use Rattle.compose_migration.specs.declared.fault.Side.TheVariants as sides
 use Rattle.compose_migration.specs.Migration as migrations
-use Rattle.compose_migration.specs.Migration.{GivenMigration, NoMigration, no_names, no_key, no_table, or_because, ◌>>=◌, migration_of, table_of_side}
+use Rattle.compose_migration.specs.Migration.{GivenMigration, NoMigration, no_names, no_key, no_table, or_because, migration_of, table_of_side}
 use Rattle.keysym_core.specs.declared.fault.NameFault.TheVariants as name_faults
 use Rattle.compose_model.specs.Certificate.{Certificate, Repertoire}
 use Rattle.compose_cert.specs.Reading.{certificate_of}

@@ -1,9 +1,10 @@
 -- A check on bytes: what reading the parts gives, one after another, and the verdict on them.
 use Rattle.std.specs.Prelude.{ℕ, List, Result, Ok}
+use Rattle.compose_text.specs.Results.{◌>>=◌}
 use Rattle.keysym_core.specs.Names.{KeysymNames}
 use Rattle.compose_model.specs.Table.{Definition}
 use Rattle.compose_model.specs.Certificate.{Certificate, Repertoire}
-use Rattle.compose_migration.specs.Migration.{GivenMigration, NoMigration, ◌>>=◌, or_because, migration_of}
+use Rattle.compose_migration.specs.Migration.{GivenMigration, NoMigration, or_because, migration_of}
 use Rattle.compose_cert.specs.Reading.{certificate_of}
 use Rattle.compose_cert.specs.Repertoire.{repertoire_of}
 use Rattle.compose_cert.specs.declared.CertFault.{CertFault}

@@ -2,7 +2,8 @@
 use Rattle.std.proofs.Common.{◌≡◌, ℕ, suc, zero, ◌+◌, ◌-◌, ◌<◌, ◌≤◌, List, [], ◌∷◌, ◌++◌, refl, sym, ◌∙◌, ap, arith}
 use Rattle.std.specs.Prelude.{Result, Ok, Err}
 use Rattle.std.proofs.lemmas.List.{append_assoc}
-use Rattle.compose_lex.specs.Fault.{◌>>=◌, skip_blanks, colon_or, event_at, events_at}
+use Rattle.compose_text.specs.Results.{◌>>=◌}
+use Rattle.compose_lex.specs.Fault.{skip_blanks, colon_or, event_at, events_at}
 use Rattle.compose_lex.specs.Steps.{with_front}
 use Rattle.compose_lex.specs.declared.LexFault.{LexFault}
 use Rattle.compose_lex.specs.declared.LexFault.TheVariants.{TooManyKeysyms}

@@ -5,9 +5,10 @@ use Rattle.std.specs.List.{list_all}
 use Rattle.std.proofs.lemmas.List.{length_push, append-nil}
 use Rattle.std.proofs.lemmas.Bool.{and_from}
 use Rattle.std.proofs.lemmas.List.Folds.{list_all-append}
+use Rattle.compose_text.specs.Results.{◌>>=◌}
 use Rattle.compose_text.specs.Bytes.{is_name_byte, front, behind, begins}
 use Rattle.compose_lex.specs.Line.{production, is_name, is_comment, event_tokens}
-use Rattle.compose_lex.specs.Fault.{◌>>=◌, skip_blanks, byte_at, name_at, closed_or, end_at, event_at, event_fault, colon_or, events_at}
+use Rattle.compose_lex.specs.Fault.{skip_blanks, byte_at, name_at, closed_or, end_at, event_at, event_fault, colon_or, events_at}
 use Rattle.compose_lex.specs.LineFault.{AreFirst, IsLineFault}
 use Rattle.compose_lex.specs.declared.LexFault.{LexFault}
 use Rattle.compose_lex.specs.declared.LexFault.TheVariants.{BadToken, TooManyKeysyms}

@@ -4,9 +4,10 @@ use Rattle.std.specs.Prelude.{◌==◌, nat_eq, is_some, Result, Ok, Err, codes}
 use Rattle.std.specs.List.{starts_with}
 use Rattle.std.proofs.lemmas.List.{append-nil}
 use Rattle.std.proofs.lemmas.Bool.{and_parts, not-true}
+use Rattle.compose_text.specs.Results.{◌>>=◌}
 use Rattle.compose_text.specs.Bytes.{is_name_byte, begins}
 use Rattle.compose_lex.specs.Line.{Reading, blank, include, production, is_comment, quoted, tokens, is_reading, IsLine}
-use Rattle.compose_lex.specs.Fault.{◌>>=◌, skip_blanks, byte_at, inside_from, string_at, end_at, event_at, event_fault, events_at, result_at, production_at, include_at, is_include, reading_of, reading_at}
+use Rattle.compose_lex.specs.Fault.{skip_blanks, byte_at, inside_from, string_at, end_at, event_at, event_fault, events_at, result_at, production_at, include_at, is_include, reading_of, reading_at}
 use Rattle.compose_lex.specs.LineFault.{AreFirst, is_whole, GoesOn, StopsAt, is_modifier_first, IsBadToken, IsFaultAt, IsLineFault}
 use Rattle.compose_lex.specs.declared.LexFault.{LexFault}
 use Rattle.compose_lex.specs.declared.LexFault.TheVariants.{BadToken, ModifierList, UnclosedString, UnknownEscape, BadCode, NoResult, TooManyKeysyms, EmptyText, TextTooLong, TextNotUtf8, NoMemory}

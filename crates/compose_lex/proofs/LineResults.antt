@@ -3,9 +3,10 @@ use Rattle.std.proofs.Common.{◌≡◌, ℕ, ◌-◌, ◌<◌, ◌≤◌, List,
 use Rattle.std.specs.Prelude.{◌==◌, Option, Some, None, is_some, Result, Ok, Err, flat_map}
 use Rattle.std.specs.List.{list_all}
 use Rattle.std.proofs.lemmas.List.{append-nil}
+use Rattle.compose_text.specs.Results.{◌>>=◌}
 use Rattle.compose_text.specs.Bytes.{is_blank, is_name_byte, front, behind, begins}
 use Rattle.compose_lex.specs.Line.{production, is_name, is_inside, is_comment, quoted, event_tokens}
-use Rattle.compose_lex.specs.Fault.{◌>>=◌, skip_blanks, name_at, inside_from, string_at, end_at, name_if, result_at}
+use Rattle.compose_lex.specs.Fault.{skip_blanks, name_at, inside_from, string_at, end_at, name_if, result_at}
 use Rattle.compose_lex.specs.LineFault.{AreFirst, is_whole, IsLineFault}
 use Rattle.compose_lex.specs.declared.LexFault.{LexFault}
 use Rattle.compose_lex.specs.declared.LexFault.TheVariants.{UnclosedString, NoResult, TooManyKeysyms}

@@ -5,9 +5,10 @@ use Rattle.std.specs.Option.{option_map_or, option_map}
 use Rattle.std.specs.List.{list_all, starts_with}
 use Rattle.std.specs.Cmp.Lexicographic.{bytes_decides}
 use Rattle.std.proofs.lemmas.Bool.{and_parts, and_from}
+use Rattle.compose_text.specs.Results.{◌>>=◌}
 use Rattle.compose_text.specs.Bytes.{is_blank, is_name_byte, front, behind, begins}
 use Rattle.compose_lex.specs.Line.{Reading, blank, include, production, is_name, is_inside, is_inside_from, is_comment, quoted, event_tokens, result_tokens, AreTokens, IsLine}
-use Rattle.compose_lex.specs.Fault.{◌>>=◌, skip_blanks, byte_at, name_at, inside_from, closed_or, string_at, end_at, event_at, event_fault, colon_or, events_at, name_if, result_at, production_at, include_at, is_include, reading_of, reading_at}
+use Rattle.compose_lex.specs.Fault.{skip_blanks, byte_at, name_at, inside_from, closed_or, string_at, end_at, event_at, event_fault, colon_or, events_at, name_if, result_at, production_at, include_at, is_include, reading_of, reading_at}
 use Rattle.compose_lex.specs.declared.LexFault.{LexFault}
 use Rattle.compose_lex.specs.declared.LexFault.TheVariants.{BadToken, TooManyKeysyms, NoResult}
 use Rattle.compose_lex.proofs.Productions.{right_from}

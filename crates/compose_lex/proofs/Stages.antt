@@ -79,10 +79,6 @@ abbrev pub behind_events : ℕ → Stage
 behind_events zero = start
 behind_events (suc k) = between (suc k)
 
-on_on : (o : Option Stage) (f g : Stage → Option Stage) → on (on o f) g ≡ on o (λ s. on (f s) g)
-on_on None f g = refl
-on_on (Some s) f g = refl
-
 pub walk_append : (s : Stage) (ts us : List (List ℕ)) → walk s (ts ++ us) ≡ on (walk s ts) (λ m. walk m us)
 walk_append s [] us = refl
 walk_append s (t ∷ ts) us = go (step s t) (λ m. walk_append m ts us)

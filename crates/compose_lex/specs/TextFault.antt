@@ -23,7 +23,7 @@ pub record StopsAt (raw : List ℕ) (at : ℕ) (behind : List ℕ) : Type 0 wher
 abbrev pub is_code_first : ℕ → Bool
 is_code_first b = b == 120 || b == 88 || is_octal b
 
--- a code that is no byte, or no code at all; else what is wrong with the bytes that the raw text stands for
+-- a code that stands for no byte, a backslash with neither a code nor a known letter, or bytes that are no text
 abbrev pub IsTextFault : List ℕ → LexFault → Type 0
 IsTextFault raw (BadCode at) = (behind : List ℕ) × StopsAt raw at behind × IsTrue (begins is_code_first behind)
 IsTextFault raw (UnknownEscape at) = (behind : List ℕ) × StopsAt raw at behind × IsTrue (not (begins is_code_first behind))

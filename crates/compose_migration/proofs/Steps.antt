@@ -2,12 +2,13 @@
 use Rattle.std.proofs.Common.{◌≡◌, ℕ, List, sym, ◌∙◌, ap, subst}
 use Rattle.std.specs.Prelude.{Result, Ok, Err}
 use Rattle.std.specs.Result.{IsErrAnd}
+use Rattle.compose_text.specs.Results.{◌>>=◌}
 use Rattle.keysym_core.specs.Names.{KeysymNames}
 use Rattle.keysym_core.specs.Header.{names_of}
 use Rattle.keysym_core.specs.declared.fault.NameFault.TheVariants as name_faults
 use Rattle.compose_model.specs.Table.{Definition}
 use Rattle.compose_migration.specs.Keys.{keys_of}
-use Rattle.compose_migration.specs.Migration.{GivenMigration, NamedParts, Parts, NoMigration, no_names, no_key, ◌>>=◌, or_because, named, migration_of, table_of_side}
+use Rattle.compose_migration.specs.Migration.{GivenMigration, NamedParts, Parts, NoMigration, no_names, no_key, or_because, named, migration_of, table_of_side}
 use Rattle.compose_migration.specs.Given.{MigrationRefused, MigrationGives}
 use Rattle.compose_migration.specs.declared.fault.Side.TheVariants as sides
 use Rattle.compose_migration.specs.declared.fault.MigrationFault.{MigrationFault}

@@ -1,5 +1,6 @@
 -- A move from an old table to a new one: what is given, and what it says.
 use Rattle.std.specs.Prelude.{ℕ, List, Result, Ok, Err, codes}
+use Rattle.compose_text.specs.Results.{◌>>=◌}
 use Rattle.keysym_core.specs.Names.{KeysymNames}
 use Rattle.keysym_core.specs.Header.{names_of}
 use Rattle.keysym_core.specs.declared.fault.NameFault.{NameFault}
@@ -42,11 +43,6 @@ pub data NoMigration : Type 0 where
   no_table : Side → NoTable → NoMigration
 
 -- ---- reading in order
-
-infixl 10 ◌>>=◌
-abbrev pub ◌>>=◌ : {A B E : Type 0} → Result A E → (A → Result B E) → Result B E
-Ok a >>= f = f a
-Err e >>= f = Err e
 
 abbrev pub or_because : {A E F : Type 0} → (E → F) → Result A E → Result A F
 or_because why (Ok a) = Ok a

@@ -6,6 +6,7 @@ use Rattle.std.specs.Str.{is_utf8}
 use Rattle.std.proofs.lemmas.Bool.{and_parts, and_from, lt-ltb, ltb-true}
 use Rattle.std.proofs.lemmas.Grind.{flat_map-append}
 use Rattle.std.proofs.lemmas.List.Folds.{list_all-append}
+use Rattle.compose_text.specs.Results.{◌>>=◌}
 use Rattle.keysym_core.specs.Keysym.{is_ignored}
 use Rattle.keysym_core.specs.Names.{KeysymNames, value, text}
 use Rattle.compose_model.specs.Table.{Definition}
@@ -14,7 +15,7 @@ use Rattle.compose_lex.specs.Fault.{reading_of}
 use Rattle.compose_lex.specs.Escape.{text_of}
 use Rattle.compose_lex.specs.declared.LexFault.{LexFault}
 use Rattle.compose_read.specs.Lines.{Source, Visit, included, included_by, source_named, numbered, own_lines, source_lines, visits_below}
-use Rattle.compose_read.specs.Read.{◌>>=◌, at_line, event_keysym, sequence_of, string_text, result_text, definition_of, include_fault, said, line_gives}
+use Rattle.compose_read.specs.Read.{at_line, event_keysym, sequence_of, string_text, result_text, definition_of, include_fault, said, line_gives}
 use Rattle.compose_read.specs.Kept.{definitions_in, given, are_faultless}
 use Rattle.compose_read.proofs.Visits.{below, plain_line, lines_below}
 use Rattle.compose_read.specs.declared.ReadFault.{ReadFault}

@@ -3,9 +3,10 @@ use Rattle.std.proofs.Common.{◌≡◌, ℕ, suc, ◌+◌, ◌<◌, List, [], �
 use Rattle.std.proofs.Math.ListN.{drop_of_length-le}
 use Rattle.std.proofs.lemmas.List.{get_or-map, length-map, append-nil}
 use Rattle.std.specs.Prelude.{Result, Ok, Err}
+use Rattle.compose_text.specs.Results.{◌>>=◌}
 use Rattle.keysym_core.specs.Names.{KeysymNames, value}
 use Rattle.compose_read.specs.Lines.{Visit}
-use Rattle.compose_read.specs.Read.{◌>>=◌, event_keysym, sequence_of}
+use Rattle.compose_read.specs.Read.{event_keysym, sequence_of}
 use Rattle.std.specs.List.{list_all}
 use Rattle.std.proofs.lemmas.Bool.{and_parts, and_from}
 use Rattle.compose_read.specs.Sequence.{is_fed, AreFed}

@@ -3,10 +3,11 @@ use Rattle.std.proofs.Common.{◌≡◌, ◌≤◌, ◌+◌, ℕ, List, [], ◌�
 use Rattle.std.specs.Prelude.{Option, Some, None, option_to_list, Result, Ok, Err, is_ok}
 use Rattle.std.proofs.lemmas.Bool.{lt-leb}
 use Rattle.std.proofs.lemmas.List.{append-nil}
+use Rattle.compose_text.specs.Results.{◌>>=◌}
 use Rattle.keysym_core.specs.Names.{KeysymNames}
 use Rattle.compose_model.specs.Table.{Definition}
 use Rattle.compose_read.specs.Lines.{Source, Visit}
-use Rattle.compose_read.specs.Read.{◌>>=◌, line_gives, with_room, read_on, max_lines, max_definitions}
+use Rattle.compose_read.specs.Read.{line_gives, with_room, read_on, max_lines, max_definitions}
 use Rattle.compose_read.specs.Rows.{Drafted, no_row}
 use Rattle.compose_read.specs.Progress.{front, read_so_far, reading_on}
 use Rattle.compose_read.specs.Kept.{definitions_in, given, are_faultless}

@@ -4,6 +4,7 @@ use Rattle.std.specs.Prelude.{Option, Some, None, Result, Ok, Err}
 use Rattle.std.specs.Str.{IsUtf8, is_utf8}
 use Rattle.std.proofs.lemmas.Bool.{cases_Bool}
 use Rattle.std.proofs.lemmas.Str.{IsUtf8-from_is_utf8, is_utf8-from_IsUtf8}
+use Rattle.compose_text.specs.Results.{◌>>=◌}
 use Rattle.keysym_core.specs.Names.{KeysymNames}
 use Rattle.compose_model.specs.Table.{Definition, is_definition}
 use Rattle.compose_lex.specs.Line.{Reading, blank, include, production}
@@ -11,7 +12,7 @@ use Rattle.compose_lex.specs.Fault.{reading_of}
 use Rattle.compose_lex.specs.declared.LexFault.{LexFault}
 use Rattle.compose_lex.specs.declared.LexFault.TheVariants as lex_faults
 use Rattle.compose_read.specs.Lines.{Source, included, included_by}
-use Rattle.compose_read.specs.Read.{◌>>=◌, at_line, definition_of, include_fault, said, line_gives}
+use Rattle.compose_read.specs.Read.{at_line, definition_of, include_fault, said, line_gives}
 use Rattle.compose_read.specs.Given.{ReadGives}
 use Rattle.compose_read.specs.Progress.{visit, lifted, no_definition, FindsLine}
 use Rattle.compose_read.specs.declared.line.Found.TheVariants as found

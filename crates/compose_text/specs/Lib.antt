@@ -1,3 +1,4 @@
 pub mod Lines
 pub mod Bytes
 pub mod Numbers
+pub mod Results

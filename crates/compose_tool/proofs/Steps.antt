@@ -4,12 +4,13 @@ use Rattle.std.specs.declared.string.String.{String}
 use Rattle.std.specs.declared.alloc.Global.{Global}
 use Rattle.std.specs.Prelude.{Result, Ok, Err}
 use Rattle.std.specs.Result.{IsErrAnd}
+use Rattle.compose_text.specs.Results.{◌>>=◌}
 use Rattle.compose_model.specs.Table.{Definition}
 use Rattle.compose_model.specs.Nodes.{rising}
 use Rattle.compose_model.specs.Certificate.{Certificate, Repertoire}
 use Rattle.compose_tree.specs.Given.{first_table}
 use Rattle.compose_cert.specs.Repertoire.{repertoire_of}
-use Rattle.compose_migration.specs.Migration.{GivenMigration, NamedParts, TableSources, Parts, ◌>>=◌, or_because, migration_of}
+use Rattle.compose_migration.specs.Migration.{GivenMigration, NamedParts, TableSources, Parts, or_because, migration_of}
 use Rattle.compose_cert.specs.Reading.{certificate_of}
 use Rattle.compose_cert.specs.declared.CertFault.{CertFault}
 use Rattle.compose_check.specs.Input as checks

@@ -2,12 +2,13 @@
 use Rattle.std.specs.Prelude.{ℕ, nat_lt, if◌then◌else◌, List, length, Option, Some, None, Result, Ok, Err}
 use Rattle.std.specs.Option.{option_map_or}
 use Rattle.std.specs.Ordering.{nat_cmp}
+use Rattle.compose_text.specs.Results.{◌>>=◌}
 use Rattle.keysym_core.specs.Names.{KeysymNames}
 use Rattle.compose_model.specs.Table.{Definition}
 use Rattle.compose_model.specs.Nodes.{rising}
 use Rattle.compose_model.specs.Certificate.{Repertoire}
 use Rattle.compose_tree.specs.Given.{NoTable, first_table}
-use Rattle.compose_migration.specs.Migration.{GivenMigration, NoMigration, NamedParts, TableSources, Parts, ◌>>=◌, or_because, named, migration_of}
+use Rattle.compose_migration.specs.Migration.{GivenMigration, NoMigration, NamedParts, TableSources, Parts, or_because, named, migration_of}
 use Rattle.compose_cert.specs.Repertoire.{repertoire_of}
 use Rattle.compose_fresh.specs.Fresh.{fresh_demands, max_fresh}
 use Rattle.compose_fresh.specs.Demands.{first_unmet}

@@ -1,0 +1,7 @@
+-- Steps in order: each goes on with what the step before gave, and the first fault ends them.
+use Rattle.std.specs.Prelude.{Result, Ok, Err}
+
+infixl 10 ◌>>=◌
+abbrev pub ◌>>=◌ : {A B E : Type 0} → Result A E → (A → Result B E) → Result B E
+(Ok x) >>= f = f x
+(Err e) >>= f = Err e
