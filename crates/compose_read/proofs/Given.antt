@@ -1,7 +1,6 @@
 -- What lines without a fault give, and how reading goes on behind them.
 use Rattle.std.proofs.Common.{◌≡◌, ◌≤◌, ◌+◌, ℕ, List, [], ◌∷◌, ◌++◌, Bool, true, false, cond, ◌&&◌, length, refl, sym, ◌∙◌, ap, ap₂, append_assoc, arith, length-append, nat_le}
 use Rattle.std.specs.Prelude.{Option, Some, None, option_to_list, Result, Ok, Err, is_ok}
-use Rattle.std.proofs.lemmas.Bool.{lt-leb}
 use Rattle.std.proofs.lemmas.List.{append-nil}
 use Rattle.compose_text.specs.Results.{◌>>=◌}
 use Rattle.keysym_core.specs.Names.{KeysymNames}

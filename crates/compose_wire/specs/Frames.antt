@@ -1,5 +1,5 @@
 -- Frames: a kind, a session, a length and a payload; all numbers are big-endian (this project's protocol).
-use Rattle.std.specs.Prelude.{◌≡◌, ℕ, not, ◌||◌, ◌==◌, nat_lt, if◌then◌else◌, List, [], ◌∷◌, ◌++◌, length, map, take, drop, flat_map, Option, Some, None}
+use Rattle.std.specs.Prelude.{◌≡◌, ℕ, not, ◌||◌, ◌==◌, nat_lt, if◌then◌else◌, List, [], ◌∷◌, ◌++◌, length, take, drop, flat_map, Option, Some, None}
 use Rattle.std.specs.Int.{to_be_bytes, from_be_bytes, w16, w32, w64}
 use Rattle.compose_text.specs.Numbers.{is_between}
 use Rattle.compose_model.specs.declared.Status.{Status}
