@@ -65,16 +65,11 @@ pub struct Start {
     sources: Sources,
 }
 
-/// The names, the repertoire and the old table.
+/// The repertoire, the old table and the names.
 pub fn read_start(rt: &HostRuntime) -> Result<Start, Failure> {
-    let names = read_names(rt)?;
-    read_start_with(rt, names)
-}
-
-/// The same with these names.
-fn read_start_with(rt: &HostRuntime, names: Names) -> Result<Start, Failure> {
     let repertoire = read_repertoire(rt)?;
     let sources = read_sources(rt, "old")?;
+    let names = read_names(rt)?;
     Ok(Start {
         names,
         repertoire,
