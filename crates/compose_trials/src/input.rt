@@ -65,16 +65,11 @@ pub struct Start {
     sources: Sources,
 }
 
-/// The names, the repertoire and the old table.
+/// The repertoire, the old table and the names.
 pub fn read_start(rt: &HostRuntime) -> Result<Start, Failure> {
-    let names = read_names(rt)?;
-    read_start_with(rt, names)
-}
-
-/// The same with these names.
-fn read_start_with(rt: &HostRuntime, names: Names) -> Result<Start, Failure> {
     let repertoire = read_repertoire(rt)?;
     let sources = read_sources(rt, "old")?;
+    let names = read_names(rt)?;
     Ok(Start {
         names,
         repertoire,
@@ -98,13 +93,21 @@ pub fn start_with(
     )
 }
 
-/// A service over the old table.
-pub fn start_service(rt: &HostRuntime) -> Result<Service<PackedTable>, Failure> {
+/// A service over the old table, in a box: it has many parts, and a function that owns all of them is slow to verify.
+pub fn start_service(rt: &HostRuntime) -> Result<Box<Service<PackedTable>>, Failure> {
     let certificate = read_file(rt, "certificate")?;
     let parts = read_start(rt)?;
     match start_with(rt, parts, &certificate) {
-        Ok(service) => Ok(service),
+        Ok(service) => boxed(rt, service),
         Err(_) => Err(Failure::Input),
+    }
+}
+
+/// The value in a box.
+fn boxed<T: Drop>(rt: &HostRuntime, value: T) -> Result<Box<T>, Failure> {
+    match Box::new(rt.alloc(), value) {
+        Ok(boxed) => Ok(boxed),
+        Err(_) => Err(Failure::NoMemory),
     }
 }
 

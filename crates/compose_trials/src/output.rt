@@ -12,7 +12,7 @@ pub fn say<D: Display + Drop>(rt: &HostRuntime, line: D) -> Result<(), Failure> 
 }
 
 /// The bytes in hexadecimal.
-pub fn hexadecimal(rt: &HostRuntime, bytes: &[u8]) -> Result<String, Failure> {
+fn hexadecimal(rt: &HostRuntime, bytes: &[u8]) -> Result<String, Failure> {
     match hex::encode(rt.alloc(), bytes) {
         Ok(text) => Ok(text),
         Err(_) => Err(Failure::NoMemory),
