@@ -150,6 +150,16 @@ fn print_counts<T: ComposeTable>(alloc: Global, table: &T) -> Result<String, All
     format!(in alloc; "{nodes} {leaves}")
 }
 
+/// The table of the root.
+fn read<T: ComposeTable>(
+    alloc: Global,
+    names: &Names,
+    sources: &Sources,
+    rule: Rule,
+) -> Result<T, TableFault> {
+    read_table(alloc, names, sources, "r", rule)
+}
+
 /// What is read from the root, printed whole or by its counts, or its fault.
 fn print_read<T: ComposeTable>(
     alloc: Global,
@@ -158,7 +168,7 @@ fn print_read<T: ComposeTable>(
     whole: bool,
 ) -> Result<String, Fail> {
     let names = Names::core(alloc)?;
-    match read_table::<T>(alloc, &names, sources, "r", rule) {
+    match read::<T>(alloc, &names, sources, rule) {
         Err(fault) => Ok(fault.to_string(alloc)?),
         Ok(table) => {
             if whole {
@@ -194,6 +204,18 @@ fn repeated(alloc: Global, line: &str, times: usize) -> Result<Vec<u8>, AllocErr
     Ok(bytes)
 }
 
+/// Adds a source that has this line so many times.
+fn add_lines(
+    sources: &mut Sources,
+    alloc: Global,
+    name: &str,
+    line: &str,
+    times: usize,
+) -> Result<(), Fail> {
+    sources.add(name, repeated(alloc, line, times)?)?;
+    Ok(())
+}
+
 /// So many lines of 32 keysyms, each with its own first keysym.
 fn long_sequences(alloc: Global, lines: u32) -> Result<Vec<u8>, AllocError> {
     let mut bytes = Vec::new(alloc);
@@ -213,8 +235,8 @@ fn check_tables(
 ) -> Result<(), Fail> {
     for (root, included, longest, expected) in tables {
         let mut sources = Sources::new(alloc);
-        sources.add("r", repeated(alloc, root, 1)?)?;
-        sources.add("%L", repeated(alloc, included, 1)?)?;
+        add_lines(&mut sources, alloc, "r", root, 1)?;
+        add_lines(&mut sources, alloc, "%L", included, 1)?;
         let rule = if *longest {
             Rule::Longest
         } else {
@@ -228,28 +250,30 @@ fn check_tables(
 fn check_lines(rt: &impl Abort, alloc: Global, tables: &[(&str, usize, &str)]) -> Result<(), Fail> {
     for (line, times, expected) in tables {
         let mut sources = Sources::new(alloc);
-        sources.add("r", repeated(alloc, line, *times)?)?;
+        add_lines(&mut sources, alloc, "r", line, *times)?;
         both_say(rt, alloc, &sources, Rule::Refuse, expected)?;
     }
     Ok(())
 }
 
+/// Adds the source behind which so many stand, which includes the next one.
+fn add_link(sources: &mut Sources, alloc: Global, place: usize) -> Result<(), Fail> {
+    let before = place.saturating_sub(1);
+    let name = format!(in alloc; "s{before}")?;
+    let line = format!(in alloc; "include \"s{place}\"\n")?;
+    add_lines(sources, alloc, &name, &line, 1)
+}
+
 /// A root that includes a source, which includes the next one, so many times; the last one is empty.
 fn chain(alloc: Global, includes: usize) -> Result<Sources, Fail> {
     let mut sources = Sources::new(alloc);
-    for place in 0..includes {
-        let next = format!(in alloc; "include \"s{place}\"\n")?;
-        if place == 0 {
-            sources.add("r", repeated(alloc, next.as_str(), 1)?)?;
-        } else {
-            let before = place - 1;
-            let name = format!(in alloc; "s{before}")?;
-            sources.add(name.as_str(), repeated(alloc, next.as_str(), 1)?)?;
-        }
+    add_lines(&mut sources, alloc, "r", "include \"s0\"\n", 1)?;
+    for place in 1..includes {
+        add_link(&mut sources, alloc, place)?;
     }
     let last = includes.saturating_sub(1);
     let name = format!(in alloc; "s{last}")?;
-    sources.add(name.as_str(), Vec::new(alloc))?;
+    add_lines(&mut sources, alloc, &name, "", 0)?;
     Ok(sources)
 }
 

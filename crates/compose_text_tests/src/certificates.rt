@@ -1,7 +1,7 @@
 //! Certificates and repertoires as texts, worked out.
 use compose_cert::{CertFault, Certificate, Repertoire, RepertoireFault, Typing};
 use keysym_core::Keysym;
-use std::alloc::Global;
+use std::alloc::{AllocError, Global};
 use std::process::Abort;
 use std::test::Fail;
 
@@ -29,17 +29,25 @@ fn assert_fault(rt: &impl Abort, alloc: Global, bytes: &[u8], fault: CertFault) 
     }
 }
 
-fn assert_refused(rt: &impl Abort, alloc: Global, bytes: &[u8], fault: RepertoireFault) {
+fn assert_refused(rt: &impl Abort, alloc: Global, bytes: &[u8], fault: &RepertoireFault) {
     match Repertoire::read(alloc, bytes) {
         Ok(_) => assert!(rt; false, "read, not {fault}"),
-        Err(found) => assert_eq!(rt; found, fault),
+        Err(found) => assert_eq!(rt; &found, fault),
     }
 }
 
-#[test]
-fn texts_are_read_and_written_back(rt: HostRuntime) -> Result<(), Fail> {
-    let alloc = rt.alloc();
-    let typed = Certificate::read(alloc, TYPED)?;
+fn assert_text(
+    rt: &impl Abort,
+    alloc: Global,
+    certificate: &Certificate,
+    text: &[u8],
+) -> Result<(), CertFault> {
+    assert_eq!(rt; certificate.write_text(alloc)?.as_bytes(), text);
+    Ok(())
+}
+
+/// Asserts what `TYPED` says.
+fn assert_typed(rt: &impl Abort, typed: &Certificate) {
     assert_eq!(rt; typed.bound(), 2);
     assert_eq!(rt; typed.pair_count(), 4);
     assert_eq!(rt; typed.typing_count(), 2);
@@ -47,114 +55,107 @@ fn texts_are_read_and_written_back(rt: HostRuntime) -> Result<(), Fail> {
     assert_eq!(rt; typed.pair(3), (3, 3));
     assert_eq!(rt; typed.typing(0).character(), 'á');
     assert_eq!(rt; typed.typing(0).keys().len(), 3);
-    assert_eq!(rt; typed.write_text(alloc)?.as_bytes(), TYPED.as_slice());
-    let fresh = Certificate::read(alloc, FRESH)?;
+}
+
+/// Asserts the fresh keysyms of `FRESH`.
+fn assert_fresh(rt: &impl Abort, fresh: &Certificate) {
     assert_eq!(rt; fresh.fresh_count(), 1);
     assert_eq!(rt; fresh.fresh(0).value(), 0xfe5a);
-    assert_eq!(rt; fresh.write_text(alloc)?.as_bytes(), FRESH);
+}
+
+#[test]
+fn a_text_is_read_and_written_back(rt: HostRuntime) -> Result<(), Fail> {
+    let typed = Certificate::read(rt.alloc(), TYPED)?;
+    assert_typed(&rt, &typed);
+    assert_text(&rt, rt.alloc(), &typed, TYPED)?;
     Ok(())
 }
 
 #[test]
-fn parts_make_a_certificate(rt: HostRuntime) -> Result<(), Fail> {
-    let alloc = rt.alloc();
+fn a_text_with_fresh_keysyms_is_read_and_written_back(rt: HostRuntime) -> Result<(), Fail> {
+    let fresh = Certificate::read(rt.alloc(), FRESH)?;
+    assert_fresh(&rt, &fresh);
+    assert_text(&rt, rt.alloc(), &fresh, FRESH)?;
+    Ok(())
+}
+
+/// A certificate of one pair and one typing, with one fresh keysym.
+fn made(alloc: Global) -> Result<Certificate, Fail> {
     let key = Keysym::new(0x61).ok_or("a keysym")?;
     let typing = Typing::new('a', vec![in alloc; key]?);
     let made = Certificate::new(1, vec![in alloc; (0, 0)]?, vec![in alloc; typing]?);
     let made = made.ok_or("a certificate")?;
-    let made = made.with_fresh(vec![in alloc; key]?).ok_or("fresh")?;
-    let text = made.write_text(alloc)?;
+    Ok(made.with_fresh(vec![in alloc; key]?).ok_or("fresh")?)
+}
+
+/// A certificate with a typing of no key, if there could be one.
+fn made_of_no_key(alloc: Global) -> Result<Option<Certificate>, AllocError> {
+    let empty = Typing::new('a', Vec::new(alloc));
+    Ok(Certificate::new(1, Vec::new(alloc), vec![in alloc; empty]?))
+}
+
+#[test]
+fn parts_make_a_certificate(rt: HostRuntime) -> Result<(), Fail> {
+    let made = made(rt.alloc())?;
     let wanted =
         "compose-certificate 2\nbound 1\npairs 1\n0 0\ntypings 1\nU+0061 61\nfresh 1\n61\n";
-    assert_eq!(rt; text.as_str(), wanted);
-    let empty = Typing::new('a', Vec::new(alloc));
-    let none = Certificate::new(1, Vec::new(alloc), vec![in alloc; empty]?);
-    assert!(rt; none.is_none());
+    assert_text(&rt, rt.alloc(), &made, wanted.as_bytes())?;
+    assert!(rt; made_of_no_key(rt.alloc())?.is_none());
     Ok(())
 }
+
+/// Texts, and the line that is told of each.
+static NO_TEXTS: [(&[u8], usize); 13] = [
+    (b"compose-certificate 1\nbound 02\n", 2),
+    (b"compose-certificate 1\nbound 4294967296\n", 2),
+    (b"compose-certificate 1\nbound 1\npairs 1048577", 3),
+    (b"compose-certificate 1\nbound 1\npairs 0\ntypings 0\n\n", 5),
+    (
+        b"compose-certificate 1\nbound 1\npairs 0\ntypings 0\ntypings 0\n",
+        5,
+    ),
+    (
+        b"compose-certificate 1\nbound 1\npairs 0\ntypings 0\nfresh 1\nfe5a\n",
+        5,
+    ),
+    (
+        b"compose-certificate 2\nbound 1\npairs 0\ntypings 0\nfresh 0\n",
+        5,
+    ),
+    (b"compose-certificate 2\nbound 1\npairs 0\ntypings 0\n", 5),
+    (
+        b"compose-certificate 1\nbound 1\npairs 0\ntypings 1\nU+00061 61\n",
+        5,
+    ),
+    (
+        b"compose-certificate 1\nbound 1\npairs 0\ntypings 1\nU+00e1 61\n",
+        5,
+    ),
+    (
+        b"compose-certificate 1\nbound 1\npairs 0\ntypings 1\nU+D800 61\n",
+        5,
+    ),
+    (
+        b"compose-certificate 1\nbound 1\npairs 0\ntypings 1\nU+0061\n",
+        5,
+    ),
+    (
+        b"compose-certificate 1\nbound 1\npairs 0\ntypings 1\nU+0061 20000000\n",
+        5,
+    ),
+];
 
 #[test]
 fn faults_have_their_lines(rt: HostRuntime) {
     let alloc = rt.alloc();
-    let line = |line: usize| CertFault::NotText { line };
-    assert_fault(&rt, alloc, b"compose-certificate 1\nbound 02\n", line(2));
-    assert_fault(
-        &rt,
-        alloc,
-        b"compose-certificate 1\nbound 4294967296\n",
-        line(2),
-    );
+    for (bytes, line) in &NO_TEXTS {
+        assert_fault(&rt, alloc, bytes, CertFault::NotText { line: *line });
+    }
     assert_fault(
         &rt,
         alloc,
         b"compose-certificate 1\nbound 1\npairs 1048577\n",
         CertFault::TooLarge,
-    );
-    assert_fault(
-        &rt,
-        alloc,
-        b"compose-certificate 1\nbound 1\npairs 1048577",
-        line(3),
-    );
-    assert_fault(
-        &rt,
-        alloc,
-        b"compose-certificate 1\nbound 1\npairs 0\ntypings 0\n\n",
-        line(5),
-    );
-    assert_fault(
-        &rt,
-        alloc,
-        b"compose-certificate 1\nbound 1\npairs 0\ntypings 0\ntypings 0\n",
-        line(5),
-    );
-    assert_fault(
-        &rt,
-        alloc,
-        b"compose-certificate 1\nbound 1\npairs 0\ntypings 0\nfresh 1\nfe5a\n",
-        line(5),
-    );
-    assert_fault(
-        &rt,
-        alloc,
-        b"compose-certificate 2\nbound 1\npairs 0\ntypings 0\nfresh 0\n",
-        line(5),
-    );
-    assert_fault(
-        &rt,
-        alloc,
-        b"compose-certificate 2\nbound 1\npairs 0\ntypings 0\n",
-        line(5),
-    );
-    assert_fault(
-        &rt,
-        alloc,
-        b"compose-certificate 1\nbound 1\npairs 0\ntypings 1\nU+00061 61\n",
-        line(5),
-    );
-    assert_fault(
-        &rt,
-        alloc,
-        b"compose-certificate 1\nbound 1\npairs 0\ntypings 1\nU+00e1 61\n",
-        line(5),
-    );
-    assert_fault(
-        &rt,
-        alloc,
-        b"compose-certificate 1\nbound 1\npairs 0\ntypings 1\nU+D800 61\n",
-        line(5),
-    );
-    assert_fault(
-        &rt,
-        alloc,
-        b"compose-certificate 1\nbound 1\npairs 0\ntypings 1\nU+0061\n",
-        line(5),
-    );
-    assert_fault(
-        &rt,
-        alloc,
-        b"compose-certificate 1\nbound 1\npairs 0\ntypings 1\nU+0061 20000000\n",
-        line(5),
     );
     assert!(rt;
         is_refused_or_spells(
@@ -186,50 +187,76 @@ fn a_cut_text_is_refused_at_its_line(rt: HostRuntime) {
     }
 }
 
-#[test]
-fn repertoires_are_read(rt: HostRuntime) -> Result<(), Fail> {
-    let alloc = rt.alloc();
-    let text = " keys\t0x20 0x7E # ASCII\n#\n\nkeys 0xfe51 0xfe51\r\nU+00e1\n  U+00E9";
-    let repertoire = Repertoire::read(alloc, text.as_bytes())?;
-    assert_eq!(rt; repertoire.count(), 2);
-    assert_eq!(rt; repertoire.char_at(0), 'á');
-    assert_eq!(rt; repertoire.char_at(1), 'é');
-    let is_key = |number: u32| Keysym::new(number).is_some_and(|key| repertoire.is_key(key));
-    assert!(rt; is_key(0x20) && is_key(0x61) && is_key(0x7e) && is_key(0xfe51));
-    assert!(rt; !is_key(0x1f) && !is_key(0x7f) && !is_key(0xfe50) && !is_key(0xfe52));
-    assert_eq!(rt; Repertoire::read(alloc, b"")?.count(), 0);
-    assert_refused(
-        &rt,
-        alloc,
-        b"U+00E9\nU+00E1\n",
-        RepertoireFault::NotRising { line: 2 },
-    );
-    assert_refused(&rt, alloc, b"U+D800", RepertoireFault::BadLine { line: 1 });
-    assert_refused(
-        &rt,
-        alloc,
+/// Repertoires, and what is told of each.
+static NO_REPERTOIRES: [(&[u8], RepertoireFault); 6] = [
+    (b"U+00E9\nU+00E1\n", RepertoireFault::NotRising { line: 2 }),
+    (b"U+D800", RepertoireFault::BadLine { line: 1 }),
+    (
         b"U+00E1\nkeys 0x61 0x7a\n",
         RepertoireFault::BadLine { line: 2 },
-    );
-    assert_refused(
-        &rt,
-        alloc,
-        b"keys 0x7a 0x61",
-        RepertoireFault::BadLine { line: 1 },
-    );
-    assert_refused(
-        &rt,
-        alloc,
+    ),
+    (b"keys 0x7a 0x61", RepertoireFault::BadLine { line: 1 }),
+    (
         b"keys 0x61 0x7a\nkeys 0x7a 0x7b\n",
         RepertoireFault::NotRising { line: 2 },
-    );
-    assert_refused(
-        &rt,
-        alloc,
-        b"# \xff\n",
-        RepertoireFault::BadLine { line: 1 },
-    );
+    ),
+    (b"# \xff\n", RepertoireFault::BadLine { line: 1 }),
+];
+
+/// Numbers, and whether the worked repertoire has a key of each.
+static KEYS: [(u32, bool); 8] = [
+    (0x20, true),
+    (0x61, true),
+    (0x7e, true),
+    (0xfe51, true),
+    (0x1f, false),
+    (0x7f, false),
+    (0xfe50, false),
+    (0xfe52, false),
+];
+
+fn assert_keys(rt: &impl Abort, repertoire: &Repertoire) {
+    for (number, is_key) in &KEYS {
+        let key = Keysym::new(*number).unwrap_or_default();
+        assert_eq!(rt; repertoire.is_key(key), *is_key, "{number}");
+    }
+}
+
+fn assert_characters(rt: &impl Abort, repertoire: &Repertoire) {
+    assert_eq!(rt; repertoire.count(), 2);
+    assert_eq!(rt; char_at(repertoire, 0), Some('á'));
+    assert_eq!(rt; char_at(repertoire, 1), Some('é'));
+}
+
+/// The character at this place, if there is one.
+fn char_at(repertoire: &Repertoire, place: usize) -> Option<char> {
+    if place < repertoire.count() {
+        Some(repertoire.char_at(place))
+    } else {
+        None
+    }
+}
+
+#[test]
+fn repertoires_are_read(rt: HostRuntime) -> Result<(), Fail> {
+    let text = " keys\t0x20 0x7E # ASCII\n#\n\nkeys 0xfe51 0xfe51\r\nU+00e1\n  U+00E9";
+    let repertoire = Repertoire::read(rt.alloc(), text.as_bytes())?;
+    assert_characters(&rt, &repertoire);
+    assert_keys(&rt, &repertoire);
     Ok(())
+}
+
+#[test]
+fn an_empty_repertoire_is_read(rt: HostRuntime) -> Result<(), Fail> {
+    assert_eq!(rt; Repertoire::read(rt.alloc(), b"")?.count(), 0);
+    Ok(())
+}
+
+#[test]
+fn repertoires_are_refused(rt: HostRuntime) {
+    for (bytes, fault) in &NO_REPERTOIRES {
+        assert_refused(&rt, rt.alloc(), bytes, fault);
+    }
 }
 
 #[test]

@@ -30,68 +30,113 @@ fn expect_printed(
     Ok(())
 }
 
-/// Expects the printed fault of a header, or `accepted`.
+fn core(alloc: Global) -> Result<Names, NameFault> {
+    Names::core(alloc)
+}
+
+fn read(alloc: Global, header: &[u8]) -> Result<Names, NameFault> {
+    Names::read(alloc, header)
+}
+
+/// The fault of a header, if it has one.
+fn fault_of(alloc: Global, header: &[u8]) -> Option<NameFault> {
+    read(alloc, header).err()
+}
+
+/// The printed fault of a header, or `accepted`.
+fn printed(alloc: Global, header: &[u8]) -> Result<String, AllocError> {
+    match fault_of(alloc, header) {
+        None => String::from_str(alloc, "accepted"),
+        Some(fault) => format!(in alloc; "{fault}"),
+    }
+}
+
 fn expect_read(
     rt: &impl Abort,
     alloc: Global,
     header: &[u8],
     text: &str,
 ) -> Result<(), AllocError> {
-    let answer = match Names::read(alloc, header) {
-        Ok(_) => String::from_str(alloc, "accepted")?,
-        Err(fault) => format!(in alloc; "{fault}")?,
-    };
-    assert_eq!(rt; answer.as_str(), text);
+    assert_eq!(rt; printed(alloc, header)?.as_str(), text);
     Ok(())
+}
+
+/// Characters, the keysyms behind which the next one with the character is sought, and its number.
+static NEXT: [(char, u32, Option<u32>); 4] = [
+    ('α', u32::MAX, Some(0x7e1)),
+    ('α', 0x7e1, Some(0x0100_03b1)),
+    ('α', 0x0100_03b1, None),
+    ('5', 0x35, Some(0xffb5)),
+];
+
+/// Headers, and the printed fault of each.
+static HEADERS: [(&[u8], &str); 7] = [
+    (b"x\n\xe9\n", "1 NotUtf8 line=2"),
+    (b"#define XK_odd 12", "2 BadLine line=1"),
+    (b"\n\n#define XK_ 0x5\n", "2 BadLine line=3"),
+    (b"#define XK_big 0x20000000", "3 ValueTooLarge line=1"),
+    (b"#define XK_space 0x0021", "4 NameConflict line=1"),
+    (b"#define XK_U0101 0x5", "4 NameConflict line=1"),
+    (b"#define XK_space 0x0020", "accepted"),
+];
+
+/// Names and forms, and the number of the keysym that each means.
+static LOOKED_UP: [(&str, Option<u32>); 10] = [
+    ("U00E9", Some(0xe9)),
+    ("U0101", Some(0x0100_0101)),
+    ("U1F600", Some(0x0101_f600)),
+    ("0x1fffffff", Some(0x1fff_ffff)),
+    ("quoteright", Some(0x27)),
+    ("U007F", None),
+    ("UD800", None),
+    ("U110000", None),
+    ("U41", None),
+    ("0x20000000", None),
+];
+
+/// Keysyms, and how each is printed.
+static PRINTED: [(u32, &str); 6] = [
+    (0x20, "space"),
+    (0x27, "apostrophe"),
+    (0x0100_0101, "U0101"),
+    (0x0100_d800, "0x100d800"),
+    (0xfe03, "0xfe03"),
+    (0, "NoSymbol"),
+];
+
+/// Expects what a header adds that names the Greek alpha.
+fn expect_alpha(rt: &impl Abort, names: &Names) {
+    expect_value(rt, names, "Greek_alpha", Some(0x7e1));
+    assert_eq!(rt; names.text_of(keysym(0x7e1)), Some('α'));
+    for (character, after, number) in &NEXT {
+        expect_next(rt, names, *character, *after, *number);
+    }
 }
 
 #[test]
 fn a_header_adds_names_and_characters(rt: HostRuntime) -> Result<(), Fail> {
     let header = b"#define XK_Greek_alpha 0x07e1  /* U+03B1 GREEK SMALL LETTER ALPHA */";
-    let names = Names::read(rt.alloc(), header)?;
-    expect_value(&rt, &names, "Greek_alpha", Some(0x7e1));
-    assert_eq!(rt; names.text_of(keysym(0x7e1)), Some('α'));
-    expect_next(&rt, &names, 'α', u32::MAX, Some(0x7e1));
-    expect_next(&rt, &names, 'α', 0x7e1, Some(0x0100_03b1));
-    expect_next(&rt, &names, 'α', 0x0100_03b1, None);
-    expect_next(&rt, &names, '5', 0x35, Some(0xffb5));
+    expect_alpha(&rt, &read(rt.alloc(), header)?);
     Ok(())
 }
 
 #[test]
 fn a_faulty_line_is_named(rt: HostRuntime) -> Result<(), Fail> {
-    let alloc = rt.alloc();
-    expect_read(&rt, alloc, b"x\n\xe9\n", "1 NotUtf8 line=2")?;
-    expect_read(&rt, alloc, b"#define XK_odd 12", "2 BadLine line=1")?;
-    expect_read(&rt, alloc, b"\n\n#define XK_ 0x5\n", "2 BadLine line=3")?;
-    expect_read(
-        &rt,
-        alloc,
-        b"#define XK_big 0x20000000",
-        "3 ValueTooLarge line=1",
-    )?;
-    expect_read(
-        &rt,
-        alloc,
-        b"#define XK_space 0x0021",
-        "4 NameConflict line=1",
-    )?;
-    expect_read(&rt, alloc, b"#define XK_U0101 0x5", "4 NameConflict line=1")?;
-    expect_read(&rt, alloc, b"#define XK_space 0x0020", "accepted")?;
+    for (header, text) in &HEADERS {
+        expect_read(&rt, rt.alloc(), header, text)?;
+    }
     Ok(())
+}
+
+fn expect_values(rt: &impl Abort, names: &Names, values: &[(&str, Option<u32>)]) {
+    for (name, number) in values {
+        expect_value(rt, names, name, *number);
+    }
 }
 
 #[test]
 fn names_and_forms_are_looked_up(rt: HostRuntime) -> Result<(), Fail> {
-    let names = Names::core(rt.alloc())?;
-    expect_value(&rt, &names, "U00E9", Some(0xe9));
-    expect_value(&rt, &names, "U0101", Some(0x0100_0101));
-    expect_value(&rt, &names, "U1F600", Some(0x0101_f600));
-    expect_value(&rt, &names, "0x1fffffff", Some(0x1fff_ffff));
-    expect_value(&rt, &names, "quoteright", Some(0x27));
-    for word in ["U007F", "UD800", "U110000", "U41", "0x20000000"] {
-        expect_value(&rt, &names, word, None);
-    }
+    expect_values(&rt, &core(rt.alloc())?, &LOOKED_UP);
     Ok(())
 }
 
@@ -105,6 +150,12 @@ fn header_of(alloc: Global, names: &[&str], first: u32) -> Result<String, AllocE
     Ok(header)
 }
 
+/// The names of a header that gives these names the keysyms from 0x900 on.
+fn names_given(alloc: Global, given: &[&str]) -> Result<Names, NameFault> {
+    let header = header_of(alloc, given, 0x900)?;
+    read(alloc, header.as_bytes())
+}
+
 /// Expects the names that a header gives to have the keysyms from 0x900 on, and the others to be unknown.
 fn expect_given_alone(
     rt: &impl Abort,
@@ -112,16 +163,23 @@ fn expect_given_alone(
     given: &[&str],
     others: &[&str],
 ) -> Result<(), NameFault> {
-    let header = header_of(alloc, given, 0x900)?;
-    let names = Names::read(alloc, header.as_bytes())?;
-    for (name, value) in given.iter().zip(0x900..u32::MAX) {
-        expect_value(rt, &names, name, Some(value));
-    }
-    for name in others {
-        expect_value(rt, &names, name, None);
-    }
+    let names = names_given(alloc, given)?;
+    expect_given(rt, &names, given);
+    expect_unknown(rt, &names, others);
     expect_value(rt, &names, "space", Some(0x20));
     Ok(())
+}
+
+fn expect_given(rt: &impl Abort, names: &Names, given: &[&str]) {
+    for (name, value) in given.iter().zip(0x900..u32::MAX) {
+        expect_value(rt, names, name, Some(value));
+    }
+}
+
+fn expect_unknown(rt: &impl Abort, names: &Names, others: &[&str]) {
+    for name in others {
+        expect_value(rt, names, name, None);
+    }
 }
 
 #[test]
@@ -161,16 +219,16 @@ fn names_with_the_same_ends_are_told_apart(rt: HostRuntime) -> Result<(), Fail> 
     Ok(())
 }
 
+fn expect_each_printed(rt: &impl Abort, alloc: Global, names: &Names) -> Result<(), NameFault> {
+    for (number, text) in &PRINTED {
+        expect_printed(rt, alloc, names, *number, text)?;
+    }
+    Ok(())
+}
+
 #[test]
 fn keysyms_are_printed(rt: HostRuntime) -> Result<(), Fail> {
-    let alloc = rt.alloc();
-    let names = Names::core(alloc)?;
-    expect_printed(&rt, alloc, &names, 0x20, "space")?;
-    expect_printed(&rt, alloc, &names, 0x27, "apostrophe")?;
-    expect_printed(&rt, alloc, &names, 0x0100_0101, "U0101")?;
-    expect_printed(&rt, alloc, &names, 0x0100_d800, "0x100d800")?;
-    expect_printed(&rt, alloc, &names, 0xfe03, "0xfe03")?;
-    expect_printed(&rt, alloc, &names, 0, "NoSymbol")?;
+    expect_each_printed(&rt, rt.alloc(), &core(rt.alloc())?)?;
     Ok(())
 }
 
@@ -225,8 +283,8 @@ fn random_bytes(alloc: Global) -> Result<Vec<u8>, AllocError> {
 fn any_bytes_are_read_or_refused(rt: HostRuntime) -> Result<(), Fail> {
     let bytes = random_bytes(rt.alloc())?;
     for front in bytes.chunks(97) {
-        let _ = Names::read(rt.alloc(), front);
+        let _ = fault_of(rt.alloc(), front);
     }
-    let _ = Names::read(rt.alloc(), bytes.as_slice());
+    let _ = fault_of(rt.alloc(), bytes.as_slice());
     Ok(())
 }

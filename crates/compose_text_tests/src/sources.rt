@@ -1,6 +1,8 @@
 //! Worked tables: what they settle to, or their first fault.
 use compose_model::Rule;
-use compose_read::{Sequences, SourceFault, Sources, read_definitions, settle};
+use compose_read::{
+    Definitions, ReadFault, Sequences, SourceFault, Sources, read_definitions, settle,
+};
 use keysym_core::{Keysym, Names};
 use std::alloc::{AllocError, Global};
 use std::fmt::Write;
@@ -245,15 +247,41 @@ static INCLUDED_OFTEN: [(&[(&str, usize)], &str); 7] = [
     ),
 ];
 
+/// What is read from the root, or the first fault.
+fn read(
+    alloc: Global,
+    names: &Names,
+    sources: &Sources,
+    root: &str,
+) -> Result<Definitions, ReadFault> {
+    read_definitions(alloc, names, sources, root)
+}
+
+/// The settled sequences, or why there are none.
+fn printed_settled(alloc: Global, definitions: Definitions, rule: Rule) -> Result<String, Fail> {
+    match settle(alloc, definitions, rule) {
+        Err(fault) => Ok(fault.to_string(alloc)?),
+        Ok(sequences) => Ok(printed_rows(alloc, &sequences)?),
+    }
+}
+
 /// The settled sequences, or the first fault.
 fn printed(alloc: Global, sources: &Sources, root: &str, rule: Rule) -> Result<String, Fail> {
     let names = Names::core(alloc)?;
-    match read_definitions(alloc, &names, sources, root) {
+    printed_by(alloc, &names, sources, root, rule)
+}
+
+/// The settled sequences by these names, or the first fault.
+fn printed_by(
+    alloc: Global,
+    names: &Names,
+    sources: &Sources,
+    root: &str,
+    rule: Rule,
+) -> Result<String, Fail> {
+    match read(alloc, names, sources, root) {
         Err(fault) => Ok(fault.to_string(alloc)?),
-        Ok(definitions) => match settle(alloc, definitions, rule) {
-            Err(fault) => Ok(fault.to_string(alloc)?),
-            Ok(sequences) => Ok(printed_rows(alloc, &sequences)?),
-        },
+        Ok(definitions) => printed_settled(alloc, definitions, rule),
     }
 }
 
@@ -376,18 +404,23 @@ fn add_link(sources: &mut Sources, alloc: Global, number: usize, times: usize) -
     add_lines(sources, alloc, number, line.as_str(), times)
 }
 
+/// So many sources, each of which includes the next one so many times, and behind them one with an empty line.
+fn chain(alloc: Global, includers: usize, times: usize) -> Result<Sources, Fail> {
+    let mut sources = Sources::new(alloc);
+    for number in 0..includers {
+        add_link(&mut sources, alloc, number, times)?;
+    }
+    add_lines(&mut sources, alloc, includers, "\n", 1)?;
+    Ok(sources)
+}
+
 fn check_chains(
     rt: &impl Abort,
     alloc: Global,
     chains: &[(usize, usize, &str)],
 ) -> Result<(), Fail> {
     for (includers, times, expected) in chains {
-        let mut sources = Sources::new(alloc);
-        for number in 0..*includers {
-            add_link(&mut sources, alloc, number, *times)?;
-        }
-        let last = format!(in alloc; "s{includers}")?;
-        sources.add(last.as_str(), repeated(alloc, "\n", 1)?)?;
+        let sources = chain(alloc, *includers, *times)?;
         let text = printed(alloc, &sources, "s0", Rule::Refuse)?;
         assert_eq!(rt; text.as_str(), *expected);
     }
