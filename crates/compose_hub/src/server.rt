@@ -1,4 +1,5 @@
 //! The connections of a service, and their turns.
+ghost use Rattle.std.specs.Prelude.{◌≡◌, max, vec_len, IfOk};
 ghost use Rattle.compose_hub.specs.Turns.{GoesOnBy};
 
 use crate::client::{Client, Limits, WaitsFor};
@@ -81,9 +82,11 @@ pub fn serve_at_once<S: Answer, E: Report>(
 
 impl Server {
     /// A server without connections.
-    fn new(alloc: Global, limits: Limits) -> io::Result<Server> {
+    fn new(alloc: Global, limits: Limits) -> io::Result<Server>
+        ensures { IfOk result (λ server. vec_len server.slots ≡ max limits.at_once 1) }
+    {
         let mut slots = Vec::new(alloc);
-        for _ in 0..limits.at_once.max(1) {
+        'slots: for _ in 0..limits.at_once.max(1) {
             slots.push(None)?;
         }
         Ok(Server {
@@ -124,7 +127,9 @@ impl Server {
     }
 
     /// Accepts the connections that wait in the listener's queue, while there is a slot for them.
-    fn accept_all(&mut self, alloc: Global, registry: &Registry, listener: &UnixListener) {
+    fn accept_all(&mut self, alloc: Global, registry: &Registry, listener: &UnixListener)
+        ensures { vec_len self.new.slots ≡ vec_len self.old.slots }
+    {
         if self.queue == Queue::Failed {
             self.queue = Queue::Waits;
         }

@@ -1,0 +1,8 @@
+use Rattle.std.proofs.Common.{◌≡◌, max, vec_len}
+use Rattle.compose_hub.proofs.server.Server.new.Given as goal
+
+abbrev pub invariant-slots : goal.invariant-slots
+invariant-slots l = record {
+  filled : vec_len l.slots ≡ l.counter;
+  all : l.end ≡ max l.limits.at_once 1;
+}
