@@ -2,14 +2,14 @@
 use crate::failure::Failure;
 use crate::figures::print;
 use crate::input::read_names;
-use crate::serving::{ask, close_sessions, open_sessions, read_count, start};
+use crate::serving::{close_sessions, open_sessions, read_count, start};
 use crate::stopwatch::{Stopwatch, now};
 use crate::typing::{Counts, read_keys};
 use arrayvec::ArrayString;
 use compose_service::Service;
 use compose_state::ComposeState;
 use compose_tree::ComposeTable;
-use compose_wire::{Answer, Body};
+use compose_wire::{Answer, Body, Request};
 use keysym_core::{Keysym, Names};
 
 /// How often the same keys are typed, and the same sessions are opened and closed.
@@ -199,8 +199,11 @@ fn answer_all<T: ComposeTable>(
 ) -> Result<Counts, Failure> {
     let mut counts = Counts::new();
     for press in presses {
-        let body = Body::Key(press.keysym.value());
-        let reply = ask(rt, service, press.session, body);
+        let request = Request {
+            session: press.session,
+            body: Body::Key(press.keysym.value()),
+        };
+        let reply = service.answer(rt.alloc(), &request);
         let Answer::Fed(status, _, text) = &reply.answer else {
             return Err(Failure::Input);
         };

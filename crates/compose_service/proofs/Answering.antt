@@ -4,9 +4,9 @@ use Rattle.std.proofs.Common.{leb-true, leb-false, inl, inr}
 use Rattle.std.proofs.lemmas.Bool.{cases_Bool}
 use Rattle.std.proofs.Common.{true, rules}
 use Rattle.std.specs.Result.{IsErrAnd}
-use Rattle.std.specs.Prelude.{Result, Ok, Err, Option, Some, None, IsSome, IsNone, IsTrue, IsFalse}
+use Rattle.std.specs.Prelude.{Result, Ok, Err, Option, Some, None, IsSome, IsNone, IsTrue, IsFalse, is_some, option_map}
 use Rattle.keysym_core.specs.Keysym.{is_keysym, is_ignored}
-use Rattle.compose_model.specs.Session.{Session, rest, fed as session_fed}
+use Rattle.compose_model.specs.Session.{Session, rest, fed as session_fed, loaded as session_loaded}
 use Rattle.compose_model.specs.Step.{step}
 use Rattle.compose_wire.specs.Messages as words
 use Rattle.compose_wire.specs.Messages.{Body, code}
@@ -30,10 +30,11 @@ use Rattle.compose_cert.specs.Given.{CertificateGives}
 use Rattle.compose_cert.specs.declared.CertFault.{CertFault}
 use Rattle.compose_cert.specs.declared.CertFault.TheVariants as cert_faults
 use Rattle.compose_migration.specs.Given.{TableFails}
-use Rattle.compose_bundle.specs.Bundle.{Bundle, IsBundle, AreBytes}
+use Rattle.compose_bundle.specs.Bundle.{Bundle, AreBytes}
 use Rattle.compose_bundle.specs.Decoded.{bundle_of}
 use Rattle.compose_bundle.specs.Written.{NotRead}
 use Rattle.compose_bundle.proofs.OneBundle.{none}
+use Rattle.compose_service.proofs.Kept.{own_changed, set_after, nobody_changed}
 use Rattle.compose_service.specs.Reading.{reading, bundle_parts, parts_by}
 use Rattle.compose_service.specs.Refusals.{refusal_of, of_bundle, of_table, of_certificate}
 use Rattle.compose_service.specs.Answered.{Answered, Checked}
@@ -137,6 +138,20 @@ module _ (old : ServiceState) (n : ℕ) where
     pub ask_told : (answer : Answer) (s : Session) → session_of rows n ≡ Some s → SaysAnswer answer (words.state s.status s.pending) → Answered old n words.ask answer (with_sessions old rows)
     unfolding Answered
     ask_told answer s h says = (words.state s.status s.pending, (subst (λ (rs : List Row). session_of rs n ≡ Some s) refed_rows h, ap (with_sessions old) refed_rows), says)
+
+  -- a key, where its session is refed and fed at once
+
+  pub key_nobody : (k number : ℕ) (rows : List Row) → number ≡ code words.no_session → session_of old.sessions n ≡ None → rows ≡ old.sessions → Answered old n (words.key k) (Refused number) (with_sessions old rows)
+  key_nobody k number rows e none r =
+      key_no_session rows (r ∙ sym (nobody_changed n (session_loaded old.table) old.sessions none)) k number e (ap (λ rs. is_some (session_of rs n)) r ∙ ap is_some none)
+
+  pub key_refed : (k x : ℕ) (answer : Answer) (rows : List Row) (s : Session) → (x ≡ k) × IsTrue (is_keysym k) → session_of old.sessions n ≡ Some s → rows ≡ with_session old.sessions n (session_fed old.table (session_loaded old.table s) x)
+      → SaysAnswer answer (words.fed (session_fed old.table (session_loaded old.table s) x).status (not (is_ignored x)) (step old.names old.table (session_loaded old.table s).pending x).text)
+      → Answered old n (words.key k) answer (with_sessions old rows)
+  key_refed k x answer rows s t there r says =
+      key_fed (map (refed_row old.table n) old.sessions) refl k x answer rows (session_loaded old.table s) t
+      (own_changed n (session_loaded old.table) old.sessions ∙ ap (option_map (session_loaded old.table)) there)
+      (r ∙ sym (set_after n (session_loaded old.table) (session_fed old.table (session_loaded old.table s) x) old.sessions)) says
 
 -- ---- Load
 

@@ -1,5 +1,5 @@
 -- How a service starts.
-use Rattle.std.proofs.Common.{◌≡◌, ℕ, List, [], refl, sym, ◌∙◌, ap, ap₂, subst, rules}
+use Rattle.std.proofs.Common.{◌≡◌, List, refl, sym, ◌∙◌, ap, ap₂, subst, rules}
 use Rattle.std.specs.Result.{IsErrAnd}
 use Rattle.std.specs.Prelude.{Option, Some, None, Result, Ok, Err}
 use Rattle.keysym_core.specs.Names.{KeysymNames}
@@ -17,9 +17,8 @@ use Rattle.compose_migration.specs.Given.{TableFails}
 use Rattle.compose_fresh.specs.declared.fault.CheckFault.{CheckFault}
 use Rattle.compose_check.specs.declared.verdict.Verdict.TheVariants.{Yes, No}
 use Rattle.compose_machine.specs.Machine.{ServiceState}
-use Rattle.compose_service.specs.Start.{Begun, NoStart, begun_by, started, not_valid, without_table, table_raised, StartGives}
+use Rattle.compose_service.specs.Start.{begun_by, started, not_valid, without_table, table_raised, StartGives}
 use Rattle.compose_service.specs.declared.service.StartFault.{StartFault}
-use Rattle.compose_service.specs.declared.service.StartFault.TheVariants as start_faults
 
 verdict_yes : (o : Option CheckFault) → Yes ≡ verdict_of o → o ≡ None
 verdict_yes None e = refl

@@ -1,6 +1,7 @@
 //! The service: sessions over one current table.
 use crate::refusal::Refusal;
 use crate::sessions::Sessions;
+use arrayvec::ArrayString;
 use compose_bundle::read_bundle;
 use compose_cert::{CertFault, Certificate, Repertoire};
 use compose_check::{CheckFault, Verdict, check};
@@ -96,7 +97,8 @@ impl<T: ComposeTable> Model for Service<T> {
 }
 
 impl<T: ComposeTable> Service<T> {
-    ghost use Rattle.std.specs.Prelude.{◌≡◌, ◌≢◌, ◌<◌, ◌≤◌, List, [], ℕ, length, map, IsTrue, IfOk, OnErr, MatchResult, Err};
+    ghost use Rattle.std.specs.Prelude.{◌≡◌, ◌≢◌, ◌<◌, ◌≤◌, List, [], ℕ, length, map, IsTrue, IsFalse, IfOk, OnErr, MatchResult, Err};
+    ghost use Rattle.keysym_core.specs.Keysym.{is_keysym};
     ghost use Rattle.compose_model.specs.Table.{is_prefix_free};
     ghost use Rattle.compose_model.specs.Certificate.{IsValid};
     ghost use Rattle.compose_wire.specs.Messages as words;
@@ -163,21 +165,28 @@ impl<T: ComposeTable> Service<T> {
     /// Answers one request, which is one step of the machine. A Key, a Reset, a Close and an Ask take no memory and always give their
     /// answer; a request that is refused changes nothing.
     ///
-    /// Open: O(1), its growth spread over the Opens. Key: one look-up of the session and what `feed` costs, beside refeeding what is
-    /// pending, O(pending keysyms × log edges of a node). Reset, Ask: O(1) beside that. Close: that, and O(sessions opened later),
+    /// Open: O(1), its growth spread over the Opens. Key: one look-up of the session and what `ComposeState::refeed_and_feed` costs,
+    /// which is what `feed` costs where no load came since the session was last used; only then, and where the key breaks off a
+    /// sequence, what is pending is walked once more. Reset, Ask: O(1) beside refeeding. Close: that, and O(sessions opened later),
     /// since the order of opening is kept. Load: what reading, settling, building and checking cost; an accepted one touches no
     /// session, unless its certificate has fresh keysyms, and then refeeds each.
+    #[inline(always)]
     pub fn answer(&mut self, alloc: Global, request: &Request) -> Reply
         ensures stored { (said : words.Answer) × LateAnswers reading self.old (request_of request.now).session (request_of request.now).body said self.new × SaysReply result (record { session = (request_of request.now).session; answer = said }) }
         ensures step { (said : words.Reply) × Step reading (seen self.old) (request_of request.now) said (seen self.new) × SaysReply result said }
     {
         // what is stored is sound, which its invariant tells
         let _sessions = &self.sessions;
-        let answer = self.answer_body(alloc, request.session, &request.body);
-        Reply {
-            session: request.session,
-            answer,
+        let session = request.session;
+        // a reply is large and most requests are keys, so the reply to a key is made at once and not moved
+        if let Body::Key(keysym) = &request.body {
+            return Reply {
+                session,
+                answer: self.key(session, *keysym),
+            };
         }
+        let answer = self.answer_body(alloc, session, &request.body);
+        Reply { session, answer }
     }
 
     /// Answers requests in order, each by `answer`. Room for all replies is taken first; refused then, nothing has changed. The sum of
@@ -212,6 +221,7 @@ impl<T: ComposeTable> Service<T> {
     }
 
     /// Answers what is asked of the session.
+    #[inline(never)]
     fn answer_body(&mut self, alloc: Global, number: u32, body: &Body) -> Answer
         ensures { Answered self.old number (body_of body.now) result self.new }
     {
@@ -247,19 +257,32 @@ impl<T: ComposeTable> Service<T> {
     }
 
     /// Types a key in the session.
+    #[inline(always)]
     fn key(&mut self, number: u32, keysym: u32) -> Answer
+        ensures { Answered self.old number (words.key keysym) result self.new }
+    {
+        let Some(keysym) = Keysym::new(keysym) else {
+            return self.refuse_key(number, keysym);
+        };
+        let mut text = ArrayString::new();
+        let Some((status, accepted)) = self
+            .sessions
+            .feed(number, &self.table, &self.names, keysym, &mut text)
+        else {
+            return Answer::Refused(Refusal::NoSession.code());
+        };
+        Answer::Fed(status, accepted, text)
+    }
+
+    /// Refuses a key whose number is no keysym's.
+    fn refuse_key(&mut self, number: u32, keysym: u32) -> Answer
+        requires { IsFalse (is_keysym keysym) }
         ensures { Answered self.old number (words.key keysym) result self.new }
     {
         if !self.sessions.refeed(number, &self.table, &self.names) {
             return Answer::Refused(Refusal::NoSession.code());
         }
-        let Some(keysym) = Keysym::new(keysym) else {
-            return Answer::Refused(Refusal::BadKeysym.code());
-        };
-        let Some(answer) = self.sessions.feed(number, &self.table, &self.names, keysym) else {
-            return Answer::Refused(Refusal::NoSession.code());
-        };
-        answer
+        Answer::Refused(Refusal::BadKeysym.code())
     }
 
     /// Puts the session to rest.

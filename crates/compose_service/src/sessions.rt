@@ -10,6 +10,7 @@ ghost use Rattle.compose_machine.specs.Late.{refed_row, rows_at_swap};
 
 use arrayvec::{ArrayString, ArrayVec};
 use compose_cert::Certificate;
+use compose_model::Status;
 use compose_state::ComposeState;
 use compose_tree::ComposeTable;
 use compose_wire::Answer;
@@ -80,23 +81,26 @@ impl Sessions {
         true
     }
 
-    /// Feeds a key to the session, if there is one. Takes no memory. O(pending keysyms + log edges of a node).
+    /// Refeeds the session by the table and feeds a key to it, if there is one, and tells its status then and whether the key was
+    /// accepted. The text of the key replaces what the string holds. Takes no memory, and costs what `ComposeState::refeed_and_feed`
+    /// does.
+    #[inline(always)]
     pub fn feed<T: ComposeTable>(
         &mut self,
         number: u32,
         table: &T,
         names: &Names,
         keysym: Keysym,
-    ) -> Option<Answer>
-        ensures { MatchOption result ((session_of self.old number ≡ None) × (self.new ≡ self.old)) (λ answer. (s : Session) × (session_of self.old number ≡ Some s) × (self.new ≡ with_session self.old number (session_fed (T.definitions table.now) s keysym)) × SaysAnswer answer (words.fed (session_fed (T.definitions table.now) s keysym).status (not (is_ignored keysym)) (step names.now (T.definitions table.now) s.pending keysym).text)) }
+        text: &mut ArrayString<255>,
+    ) -> Option<(Status, bool)>
+        ensures { MatchOption result ((session_of self.old number ≡ None) × (self.new ≡ self.old)) (λ told. (s : Session) × (session_of self.old number ≡ Some s) × (self.new ≡ with_session self.old number (session_fed (T.definitions table.now) (loaded (T.definitions table.now) s) keysym)) × (told.0 ≡ (session_fed (T.definitions table.now) (loaded (T.definitions table.now) s) keysym).status) × (told.1 ≡ not (is_ignored keysym)) × (text.new.bytes ≡ (step names.now (T.definitions table.now) (loaded (T.definitions table.now) s).pending keysym).text)) }
     {
         let Some(session) = self.rows.get_mut(&number) else {
             return None;
         };
-        let fed = session.feed(table, names, keysym);
-        let mut text = ArrayString::new();
-        fed.text_into(&mut text);
-        Some(Answer::Fed(fed.status, fed.accepted, text))
+        let fed = session.refeed_and_feed(table, names, keysym);
+        fed.text_into(text);
+        Some((fed.status, fed.accepted))
     }
 
     /// Puts the session at rest, if there is one, and tells whether there is. O(1).

@@ -1,11 +1,11 @@
 -- What a key does to a session, by the target behind what is pending.
-use Rattle.std.proofs.Common.{◌≡◌, subst, ℕ, ◌<◌, ◌≤◌, List, [], ◌∷◌, ◌++◌, Bool, true, false, length, not, refl, sym, ◌∙◌, ap, ap₂, ◌+◌, Option, Some, None, arith, unwrap_or}
+use Rattle.std.proofs.Common.{◌≡◌, subst, ℕ, ◌<◌, List, [], ◌∷◌, ◌++◌, Bool, true, false, length, not, refl, sym, ◌∙◌, ap, ap₂, ◌+◌, Option, Some, None, arith, unwrap_or}
 use Rattle.std.proofs.lemmas.List.{length-append}
 use Rattle.keysym_core.specs.Keysym.{is_ignored}
 use Rattle.keysym_core.specs.Names.{KeysymNames, text}
 use Rattle.compose_model.specs.Table.{Definition, is_table, text_at}
-use Rattle.compose_model.specs.Step.{Effect, ignores, extends, completes, passes, cancels, effect, is_empty, pending_by, status_by, text_by, step}
-use Rattle.compose_model.specs.Session.{Session, fed}
+use Rattle.compose_model.specs.Step.{Effect, passes, cancels, effect, is_empty, pending, pending_by, status_by, text_by, step}
+use Rattle.compose_model.specs.Session.{Session, fed, loaded}
 use Rattle.compose_model.specs.declared.Status.{Status}
 use Rattle.compose_model.specs.declared.Status.TheVariants.{Nothing, Cancelled}
 use Rattle.std.specs.Prelude.{if◌then◌else◌}
@@ -14,7 +14,7 @@ use Rattle.compose_tree.specs.declared.table.LeafId.{LeafId}
 use Rattle.compose_tree.specs.declared.table.Target.{Target}
 use Rattle.compose_tree.specs.declared.table.Target.TheVariants.{Node, Leaf}
 use Rattle.compose_tree.specs.Targets.{target_of, leaf_text}
-use Rattle.compose_tree.proofs.Steps.{effect_at, effect_by_target, ToNode, ToLeaf}
+use Rattle.compose_tree.proofs.Steps.{effect_at, effect_by_target}
 use Rattle.compose_state.specs.declared.fed.Fed.{Fed}
 use Rattle.compose_state.specs.Texts.{text_bytes}
 use Rattle.compose_state.specs.Answers.{IsFed, ComesFrom}
@@ -86,3 +86,27 @@ module _ (table : List Definition) (s : Session) (k : ℕ) (accepted : is_ignore
       same_text : (b : Bool) → (if b then text names k else []) ≡ text_by (effect_at b None) names table s.pending k
       same_text true = refl
       same_text false = refl
+
+-- a key that leads somewhere, where typing again what is pending leaves it pending: refeeding first makes no difference
+module _ (table : List Definition) (s : Session) (k : ℕ) (t : Target) (accepted : is_ignored k ≡ false) (leads : target_of table s.pending k ≡ Some t) (again : pending table s.pending ≡ s.pending) where
+  refed_effect : effect table (loaded table s).pending k ≡ effect_at (is_empty s.pending) (Some t)
+  refed_effect = ap (λ p. effect table p k) again ∙ effect_is_by table s.pending k (Some t) accepted leads
+
+  same_after : (u : List ℕ) (x y : Status) (t : Target) → u ≡ s.pending
+      → (let after : Session = record { pending = pending_by (effect_at (is_empty s.pending) (Some t)) s.pending k; status = status_by (effect_at (is_empty s.pending) (Some t)) x } in after)
+      ≡ (let after : Session = record { pending = pending_by (effect_at (is_empty s.pending) (Some t)) u k; status = status_by (effect_at (is_empty s.pending) (Some t)) y } in after)
+  same_after u x y (Node n) e = ap (λ v. let after : Session = record { pending = pending_by (effect_at (is_empty s.pending) (Some (Node n))) v k; status = status_by (effect_at (is_empty s.pending) (Some (Node n))) x } in after) (sym e)
+  same_after u x y (Leaf l) e = refl
+
+  pub refed_fed : fed table s k ≡ fed table (loaded table s) k
+  refed_fed =
+      fed_by table s k (effect_at (is_empty s.pending) (Some t)) (effect_is_by table s.pending k (Some t) accepted leads)
+      ∙ same_after (loaded table s).pending s.status (loaded table s).status t again ∙ sym (fed_by table (loaded table s) k (effect_at (is_empty s.pending) (Some t)) refed_effect)
+
+  pub refed_answered : (names : KeysymNames) (answer : Fed) → IsFed names table s k answer → IsFed names table (loaded table s) k answer
+  refed_answered names answer h = record {
+    accepted = h.accepted;
+    status = h.status ∙ ap (λ z. z.status) refed_fed;
+    text = h.text ∙ ap (λ p. (step names table p k).text) (sym again);
+    source = subst (λ p. ComesFrom (effect table p k) answer.text) (sym again) h.source;
+  }

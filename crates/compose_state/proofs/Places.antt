@@ -1,13 +1,15 @@
 -- Nodes on the way along a list of keysyms.
-use Rattle.std.proofs.Common.{◌≡◌, ℕ, ◌+◌, ◌<◌, ◌≤◌, suc, List, [], ◌∷◌, ◌++◌, Bool, true, false, cond, ◌||◌, length, take, drop, get_or, ◌≢◌, refl, sym, ◌∙◌, ap, subst, inl, inr, Option, Some, None, arith, eqb-true, leb-true}
+use Rattle.std.proofs.Common.{◌≡◌, ℕ, ◌+◌, ◌<◌, ◌≤◌, List, [], ◌∷◌, ◌++◌, Bool, true, false, cond, length, take, drop, get_or, ◌≢◌, refl, sym, ◌∙◌, ap, subst, Option, Some, None, arith, leb-true}
 use Rattle.std.specs.Prelude.{◌==◌, ◌&&◌, not, nat_lt, nat_le}
-use Rattle.std.specs.List.{list_any, list_all}
-use Rattle.std.proofs.lemmas.Bool.{and_parts, and_from, or_cases, cases_Bool}
+use Rattle.std.specs.List.{list_all}
+use Rattle.std.proofs.lemmas.Bool.{and_parts, and_from}
 use Rattle.keysym_core.specs.Keysym.{is_keysym, is_ignored}
-use Rattle.compose_model.specs.Table.{Definition, same, is_proper_prefix, is_sequence, is_extended, is_table, is_definition}
+use Rattle.compose_model.specs.Table.{Definition, same, is_proper_prefix, is_extended, is_table, is_definition}
 use Rattle.std.proofs.lemmas.List.{take_more, take-append-drop}
 use Rattle.std.proofs.Math.Seq.{take-length}
 use Rattle.compose_model.specs.Nodes.{is_node, node, number_of, nodes}
+use Rattle.compose_model.specs.Step.{pending}
+use Rattle.compose_model.proofs.Reached.{node_reached}
 use Rattle.compose_model.proofs.Tests.{list_any-weaker, both_at}
 use Rattle.compose_model.proofs.NodeLemmas.{node_means, extended_is_node, root_is_node, root_number, number_below, node_at_number}
 use Rattle.compose_tree.specs.declared.table.NodeId.{NodeId}
@@ -17,7 +19,7 @@ use Rattle.compose_tree.specs.declared.table.Target.TheVariants.{Node, Leaf}
 use Rattle.compose_tree.specs.Targets.{target_of}
 use Rattle.compose_state.specs.Places.{node_id}
 use Rattle.std.specs.Option.{option_map_or}
-use Rattle.compose_tree.proofs.Steps.{goes_on, Leads, leads, ToNode, ToLeaf}
+use Rattle.compose_tree.proofs.Steps.{Leads, leads, ToNode, ToLeaf}
 
 -- ---- prefixes
 
@@ -139,6 +141,12 @@ at_end table keys count number at all n is =
     let found : is_node table keys ≡ true = ap (is_node table) (sym whole) ∙ at.is_node in
     let numbered : number_of table keys ≡ n.0 = ap (number_of table) (sym whole) ∙ at.numbered ∙ sym is in
     rw found (ap (λ i. Some (let m : NodeId = record { 0 = i } in m)) numbered)
+
+-- typing a node leaves it pending
+pub typed_again : (table : List Definition) (keys : List ℕ) (count number : ℕ) → is_table table ≡ true → IsAt table keys count number → count ≡ length keys → pending table keys ≡ keys
+typed_again table keys count number sound at all =
+    let whole : take count keys ≡ keys = ap (λ i. take i keys) all ∙ take-length keys in
+    (node_reached table keys sound (ap (is_node table) (sym whole) ∙ at.is_node)).again
 
 -- ---- the node behind a keysym
 

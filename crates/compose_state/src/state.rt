@@ -1,7 +1,8 @@
 //! A compose state: what is pending, and the status.
-ghost use Rattle.std.specs.Prelude.{◌≡◌, ◌≤◌, ◌<◌, length, [], ◌∷◌, ◌++◌, Some, option_map, true, if◌then◌else◌};
+ghost use Rattle.std.specs.Prelude.{◌≡◌, ◌≤◌, ◌<◌, length, [], ◌∷◌, ◌++◌, Some, option_map, true, IsFalse, IsSome, if◌then◌else◌};
 ghost use Rattle.compose_model.specs.Step.{is_empty, pending, passes, cancels};
 ghost use Rattle.compose_model.specs.declared.Status.TheVariants.{Nothing, Cancelled};
+ghost use Rattle.compose_model.specs.Step as steps;
 ghost use Rattle.compose_model.specs.Nodes as words;
 ghost use Rattle.compose_model.specs.Nodes.{nodes, leaves};
 ghost use Rattle.compose_model.specs.Session.{Session, rest, fed, loaded};
@@ -9,7 +10,8 @@ ghost use Rattle.compose_state.specs.Answers.{IsFed, ComesFrom};
 ghost use Rattle.compose_state.specs.Places.{node_id};
 ghost use Rattle.compose_state.specs.Texts.{text_bytes};
 ghost use Rattle.compose_tree.specs.Targets.{target_of};
-ghost use Rattle.keysym_core.specs.Names.{text as names_text};
+ghost use Rattle.keysym_core.specs.Keysym.{is_ignored};
+ghost use Rattle.keysym_core.specs.Names.{KeysymNames, text as names_text};
 
 use crate::fed::{Fed, FedText};
 use arrayvec::ArrayVec;
@@ -89,36 +91,51 @@ impl ComposeState {
             };
         }
         match target(table, self.pending.as_slice(), &self.places, keysym) {
-            Some((place, Target::Node(_))) => {
-                self.places[self.pending.len()] = place;
-                self.pending.push(keysym);
-                self.status = Status::Composing;
-                return Fed {
-                    accepted: true,
-                    status: Status::Composing,
-                    text: FedText::Empty,
-                };
-            }
-            Some((_, Target::Leaf(leaf))) => {
-                self.pending.clear();
-                self.status = Status::Composed;
-                return Fed {
-                    accepted: true,
-                    status: Status::Composed,
-                    text: FedText::Slice(table.text(leaf)),
-                };
-            }
+            Some((place, target)) => return self.follow(table, keysym, place, target),
             None => return self.feed_apart(names, keysym),
         }
     }
 
+    /// Goes over to the table, and feeds one key to it: `refeed` and then `feed`. Takes no memory. Where a sequence of the table goes on
+    /// behind the pending keysyms with the key, or nothing is pending, it costs what `feed` alone does, and else what both cost.
+    pub fn refeed_and_feed<'t, T: ComposeTable>(
+        &mut self,
+        table: &'t T,
+        names: &Names,
+        keysym: Keysym,
+    ) -> Fed<'t>
+        ensures state { self.new ≡ fed (T.definitions table.now) (loaded (T.definitions table.now) self.old) keysym }
+        ensures told { IsFed names.now (T.definitions table.now) (loaded (T.definitions table.now) self.old) keysym result }
+    {
+        if !self.pending.is_empty() && !keysym.is_ignored() {
+            if let Some((place, target)) = target(
+                table,
+                self.pending.as_slice(),
+                &self.places,
+                keysym,
+            ) {
+                return self.follow(table, keysym, place, target);
+            }
+        }
+        self.refeed(table, names);
+        self.feed(table, names, keysym)
+    }
+
     /// Goes over to the table: the pending keysyms are fed to it from rest. The status becomes composing where something is
     /// pending then, and nothing where it was composing and nothing is pending; no text is committed.
-    /// Takes no memory; O(1) where nothing is pending, else O(pending keysyms × (pending keysyms + log edges of a node)).
+    /// Takes no memory; O(1) where nothing is pending. Where the pending keysyms are a node of the table, nothing but the status may
+    /// change, and that costs O(pending keysyms) where they were fed with this table and O(pending keysyms × log edges of a node)
+    /// where not. Else O(pending keysyms × (pending keysyms + log edges of a node)).
     pub fn refeed<T: ComposeTable>(&mut self, table: &T, names: &Names)
         ensures { self.new ≡ loaded (T.definitions table.now) self.old }
     {
         if self.pending.is_empty() && self.status != Status::Composing {
+            return;
+        }
+        if !self.pending.is_empty()
+            && node_of(table, self.pending.as_slice(), &self.places).is_some()
+        {
+            self.status = Status::Composing;
             return;
         }
         let refed = state_after(table, names, self.pending());
@@ -129,6 +146,44 @@ impl ComposeState {
         }
         self.pending = refed.pending;
         self.places = refed.places;
+    }
+
+    /// Feeds a key that leads to this target behind what is pending, by the edge at this place.
+    fn follow<'t, T: ComposeTable>(
+        &mut self,
+        table: &'t T,
+        keysym: Keysym,
+        place: u32,
+        target: Target,
+    ) -> Fed<'t>
+        requires accepted { IsFalse (is_ignored keysym) }
+        requires leads { target_of (T.definitions table.now) self.old.pending keysym ≡ Some target }
+        requires room { (node : _) → target ≡ Target.Node node → length self.old.pending < 31 }
+        requires leaf { (leaf : _) → target ≡ Target.Leaf leaf → leaf.0 < length (leaves (T.definitions table.now)) }
+        ensures state { self.new ≡ fed (T.definitions table.now) self.old keysym }
+        ensures told { (names : KeysymNames) → IsFed names (T.definitions table.now) self.old keysym result }
+    {
+        match target {
+            Target::Node(_) => {
+                self.places[self.pending.len()] = place;
+                self.pending.push(keysym);
+                self.status = Status::Composing;
+                return Fed {
+                    accepted: true,
+                    status: Status::Composing,
+                    text: FedText::Empty,
+                };
+            }
+            Target::Leaf(leaf) => {
+                self.pending.clear();
+                self.status = Status::Composed;
+                return Fed {
+                    accepted: true,
+                    status: Status::Composed,
+                    text: FedText::Slice(table.text(leaf)),
+                };
+            }
+        }
     }
 
     /// Feeds a key that no sequence has behind what is pending: it passes where nothing is pending, and else cancels.
@@ -211,8 +266,11 @@ fn child_at<T: ComposeTable>(table: &T, node: NodeId, keysym: Keysym, place: u32
 /// The node of these keysyms, if they are a node of the table. The places are hints.
 fn node_of<T: ComposeTable>(table: &T, keysyms: &[Keysym], places: &[u32; 31]) -> Option<NodeId>
     requires { length keysyms.now ≤ 31 }
-    ensures { result ≡ node_id (T.definitions table.now) keysyms.now }
+    ensures value { result ≡ node_id (T.definitions table.now) keysyms.now }
+    ensures again { IsSome result → pending (T.definitions table.now) keysyms.now ≡ keysyms.now }
 {
+    // every table is settled, which its count of nodes tells
+    let _nodes = table.node_count();
     let mut node = NodeId::ROOT;
     for (index, keysym) in keysyms.iter().enumerate() {
         node = child_at(table, node, *keysym, places[index])?;
@@ -231,6 +289,7 @@ fn target<T: ComposeTable>(
     ensures value { option_map (λ found. found.1) result ≡ target_of (T.definitions table.now) pending.now keysym }
     ensures room { (place : _) → (node : _) → result ≡ Some (place, Target.Node node) → length pending.now < 31 }
     ensures leaf { (place : _) → (leaf : _) → result ≡ Some (place, Target.Leaf leaf) → leaf.0 < length (leaves (T.definitions table.now)) }
+    ensures again { IsSome result → steps.pending (T.definitions table.now) pending.now ≡ pending.now }
 {
     // every table is settled, which its count of nodes tells
     let _nodes = table.node_count();

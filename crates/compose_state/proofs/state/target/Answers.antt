@@ -11,24 +11,24 @@ one_keysym keysyms i j k e f = let same : Some j ≡ Some k = sym e ∙ f in cc
 pub returns-in_err-node-clause-value : goal.returns-in_err-node-clause-value
 returns-in_err-node-clause-value g c =
     let table = g.T.ComposeTable.definitions c.args.table.now in
-    ap (option_map (λ found. found.1)) c.from_residual.ensures ∙ sym (no_node_no_target table c.args.pending.now c.args.keysym (no_node table c.args.pending.now (sym c.node_of.ensures ∙ c.in_err-node.was)))
+    ap (option_map (λ found. found.1)) c.from_residual.ensures ∙ sym (no_node_no_target table c.args.pending.now c.args.keysym (no_node table c.args.pending.now (sym c.node_of.ensures.value ∙ c.in_err-node.was)))
 
 pub find-requires : goal.find-requires
-find-requires g c = (node_found (g.T.ComposeTable.definitions c.args.table.now) c.args.pending.now c.in_ok-node.node (sym c.node_of.ensures ∙ c.in_ok-node.was)).in_range
+find-requires g c = (node_found (g.T.ComposeTable.definitions c.args.table.now) c.args.pending.now c.in_ok-node.node (sym c.node_of.ensures.value ∙ c.in_ok-node.was)).in_range
 
 pub returns-in_err-place-clause-value : goal.returns-in_err-place-clause-value
 returns-in_err-place-clause-value g c =
     let table = g.T.ComposeTable.definitions c.args.table.now in
-    let is = (node_found table c.args.pending.now c.in_ok-node.node (sym c.node_of.ensures ∙ c.in_ok-node.was)).is in
+    let is = (node_found table c.args.pending.now c.in_ok-node.node (sym c.node_of.ensures.value ∙ c.in_ok-node.was)).is in
     ap (option_map (λ found. found.1)) c.from_residual-in_err-place.ensures ∙ sym (ap (λ p. target_of table p c.args.keysym) (sym is) ∙ c.in_err-place.ensures)
 
 pub edge-target-requires-clause-node_in_range : goal.edge-target-requires-clause-node_in_range
-edge-target-requires-clause-node_in_range g c = (node_found (g.T.ComposeTable.definitions c.args.table.now) c.args.pending.now c.in_ok-node.node (sym c.node_of.ensures ∙ c.in_ok-node.was)).in_range
+edge-target-requires-clause-node_in_range g c = (node_found (g.T.ComposeTable.definitions c.args.table.now) c.args.pending.now c.in_ok-node.node (sym c.node_of.ensures.value ∙ c.in_ok-node.was)).in_range
 
 pub returns-clause-value : goal.returns-clause-value
 returns-clause-value g c =
     let table = g.T.ComposeTable.definitions c.args.table.now in
-    let is = (node_found table c.args.pending.now c.in_ok-node.node (sym c.node_of.ensures ∙ c.in_ok-node.was)).is in
+    let is = (node_found table c.args.pending.now c.in_ok-node.node (sym c.node_of.ensures.value ∙ c.in_ok-node.was)).is in
     let same = one_keysym _ c.in_ok-place.place c.edge-target.result.0 c.args.keysym c.edge-target.ensures.keysym c.in_ok-place.ensures.1 in
     sym c.edge-target.ensures.target ∙ ap (target_of table _) same ∙ ap (λ p. target_of table p c.args.keysym) is
 

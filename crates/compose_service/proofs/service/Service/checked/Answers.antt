@@ -1,6 +1,5 @@
-use Rattle.std.proofs.Common.{◌≡◌, ◌∙◌, sym, ap, subst, List, ℕ, Ok, Err}
+use Rattle.std.proofs.Common.{subst, Ok, Err}
 use Rattle.compose_service.specs.declared.refusal.Refusal.TheVariants.{VerdictNo}
-use Rattle.compose_model.specs.Table.{Definition}
 use Rattle.compose_machine.specs.Machine.{ServiceState}
 use Rattle.compose_bundle.specs.Bundle.{Bundle}
 use Rattle.compose_bundle.proofs.OneBundle.{found, are_bytes}

@@ -1,4 +1,4 @@
-use Rattle.std.proofs.Common.{◌≡◌, List, [], ◌∷◌, ◌++◌, map, take, subst, arith, rules}
+use Rattle.std.proofs.Common.{◌≡◌, List, [], ◌∷◌, ◌++◌, map, subst, arith, rules}
 use Rattle.std.proofs.lemmas.List.{take_all}
 use Rattle.compose_wire.specs.Requests.{request_of}
 use Rattle.compose_wire.specs.declared.request.Request.{Request}

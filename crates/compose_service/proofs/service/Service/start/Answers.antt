@@ -1,4 +1,4 @@
-use Rattle.std.proofs.Common.{◌≡◌, ◌∙◌, sym, ap, List}
+use Rattle.std.proofs.Common.{◌∙◌, sym, ap, List}
 use Rattle.compose_machine.specs.Machine.{Row, with_sessions}
 use Rattle.compose_service.specs.Start.{at_start}
 use Rattle.compose_tree.specs.Given.{first_table}
