@@ -78,3 +78,7 @@ folder_of (b ∷ rest) = if list_any (λ b. b == 47) (b ∷ rest) then b ∷ fol
 -- a relative path, taken from the folder of the file that includes it; an absolute one stays
 abbrev pub beside : List ℕ → List ℕ → List ℕ
 beside from path = if begins (λ b. b == 47) path then path else folder_of from ++ path
+
+-- a relative path, taken from a folder; an absolute one stays
+abbrev pub in_folder : List ℕ → List ℕ → List ℕ
+in_folder folder path = if begins (λ b. b == 47) path then path else folder ++ 47 ∷ path

@@ -15,7 +15,7 @@ mod search;
 pub use fault::IncludeFault;
 pub use files::Files;
 pub use includes::{Include, includes_of};
-pub use locales::{compose_dir_entry, locale_alias};
+pub use locales::locale_file;
 pub use met::{FindFault, Met};
 pub use percent::{Meanings, expand};
 pub use search::find_sources;
