@@ -3,18 +3,20 @@ _composecheck() {
     local word=${COMP_WORDS[COMP_CWORD]} before=${COMP_WORDS[COMP_CWORD-1]} options=
     COMPREPLY=()
     if [ "$COMP_CWORD" -eq 1 ]; then
-        COMPREPLY=($(compgen -W "type check explain make serve load session --help --version" -- "$word"))
+        COMPREPLY=($(compgen -W "type check explain make manifest serve load session --help --version" -- "$word"))
         return
     fi
     case $before in
         --names) COMPREPLY=($(compgen -f -- "$word")); return ;;
-        --fresh) return ;;
+        --fresh | --locale) return ;;
+        --system) COMPREPLY=($(compgen -d -- "$word")); return ;;
         --mode) COMPREPLY=($(compgen -W "600 660 666" -- "$word")); return ;;
     esac
     case ${COMP_WORDS[1]} in
         type | check) options="--names --help" ;;
         explain) options="--names --fresh --all --help" ;;
         make) options="--names --fresh --help" ;;
+        manifest) options="--system --locale --help" ;;
         serve) options="--names --mode --replace --unlink --help" ;;
         load) options="--help" ;;
         session) options="--names --open --reset --ask --close --help" ;;

@@ -2,6 +2,7 @@
 //! refusal was told.
 use crate::client::{load_files, session_files};
 use crate::files::{MoveFiles, TableFiles, read_file, read_header};
+use crate::manifest::manifest_files;
 use crate::report::report;
 use crate::serving::serve_files;
 use compose_check::CheckInput;
@@ -32,6 +33,7 @@ pub fn answer<T: ComposeTable>(
             fresh,
             repertoire,
         } => make_files::<T>(rt, tables, fresh, *repertoire),
+        Request::Manifest(words) => manifest_files(rt, words),
         Request::Serve(words) => serve_files::<T>(rt, process_id, words),
         Request::Load(words) => load_files(rt, words),
         Request::Session(words) => session_files(rt, words),

@@ -11,6 +11,7 @@
 mod client;
 mod commands;
 mod files;
+mod manifest;
 mod program;
 mod report;
 mod serving;

@@ -114,12 +114,7 @@ pub(crate) fn missing_root(alloc: Global, path: &str) -> FindFault
 }
 
 /// That the file isn't there to which an include of this source leads.
-pub(crate) fn missing_file(
-    alloc: Global,
-    from: &Met,
-    include: &Include,
-    path: String,
-) -> FindFault
+pub(crate) fn missing_file(alloc: Global, from: &Met, include: &Include, path: String) -> FindFault
     ensures { IsStop (found.missing_file from.now.path include.now.line (string_bytes path)) result }
 {
     match String::from_str(alloc, &from.path) {
