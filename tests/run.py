@@ -16,7 +16,8 @@ EXPECTED = ["stdout", "stderr", "status"]
 
 
 class Case:
-    """The arguments, the files by their paths (`files.py` is a script that writes some), and what is expected of a run."""
+    """The arguments, the environment beside that of the test, the files by their paths (`files.py` is a script that writes some), and
+    what is expected of a run."""
 
     def __init__(self, name):
         with open(os.path.join(CASES, name + ".case"), "rb") as file:
@@ -32,11 +33,14 @@ class Case:
             "stderr": sections.pop("stderr", b""),
             "status": int(sections.pop("status", b"0")),
         }
+        lines = os.fsdecode(sections.pop("env", b"")).splitlines()
+        self.environment = dict(line.split("=", 1) for line in lines)
         self.files = sections
 
     def prepare(self, folder):
         """Puts the files of the case into the folder."""
         for path, text in self.files.items():
+            os.makedirs(os.path.join(folder, os.path.dirname(path)), exist_ok=True)
             with open(os.path.join(folder, path), "wb") as file:
                 file.write(text)
         if "files.py" in self.files:
@@ -55,7 +59,13 @@ def run(program, name):
     with tempfile.TemporaryDirectory() as folder:
         case.prepare(folder)
         ran = subprocess.run(
-            [b"composecheck"] + case.args, executable=program, cwd=folder, stdin=subprocess.DEVNULL, capture_output=True, timeout=300
+            [b"composecheck"] + case.args,
+            executable=program,
+            cwd=folder,
+            env=os.environ | case.environment,
+            stdin=subprocess.DEVNULL,
+            capture_output=True,
+            timeout=300,
         )
     got = {"stdout": ran.stdout, "stderr": ran.stderr, "status": ran.returncode}
     wanted = case.expected

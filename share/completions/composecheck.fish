@@ -1,10 +1,11 @@
 # Completion of composecheck for fish.
-set -l commands type check explain make serve load session
+set -l commands type check explain make manifest serve load session
 complete -c composecheck -n "not __fish_seen_subcommand_from $commands" -f
 complete -c composecheck -n "not __fish_seen_subcommand_from $commands" -a type -d "Type keys with a table"
 complete -c composecheck -n "not __fish_seen_subcommand_from $commands" -a check -d "Check a certificate that a new table follows an old one"
 complete -c composecheck -n "not __fish_seen_subcommand_from $commands" -a explain -d "Show the shortest keys on which two tables differ"
 complete -c composecheck -n "not __fish_seen_subcommand_from $commands" -a make -d "Make a certificate that a new table follows an old one"
+complete -c composecheck -n "not __fish_seen_subcommand_from $commands" -a manifest -d "Print the manifest of a Compose file"
 complete -c composecheck -n "not __fish_seen_subcommand_from $commands" -a serve -d "Serve typing sessions on a Unix socket"
 complete -c composecheck -n "not __fish_seen_subcommand_from $commands" -a load -d "Load a new table into a running service"
 complete -c composecheck -n "not __fish_seen_subcommand_from $commands" -a session -d "Type keys in a session of a running service"
@@ -14,6 +15,8 @@ complete -c composecheck -n "__fish_seen_subcommand_from make" -s o -l output -r
 complete -c composecheck -n "__fish_seen_subcommand_from explain" -l all -d "All differences"
 complete -c composecheck -n "__fish_seen_subcommand_from serve" -l at-once -x -d "Serve so many connections at once"
 complete -c composecheck -n "__fish_seen_subcommand_from serve" -l unsent -x -d "Bytes of replies that may be unsent on a connection"
+complete -c composecheck -n "__fish_seen_subcommand_from manifest" -l system -x -a "(__fish_complete_directories)" -d "Folder of the tables of the system"
+complete -c composecheck -n "__fish_seen_subcommand_from manifest" -l locale -x -d "Name of the locale"
 complete -c composecheck -n "__fish_seen_subcommand_from serve" -l mode -x -a "600 660 666" -d "Mode of the socket file"
 complete -c composecheck -n "__fish_seen_subcommand_from serve" -l replace -d "Replace a socket that nobody listens on"
 complete -c composecheck -n "__fish_seen_subcommand_from serve" -l unlink -d "Remove the socket file at the end"

@@ -2,6 +2,7 @@
 //! refusal was told.
 use crate::client::{load_files, session_files};
 use crate::files::{MoveFiles, TableFiles, read_file, read_header};
+use crate::manifest::manifest_files;
 use crate::report::{report, report_into};
 use crate::serving::serve_files;
 use compose_check::CheckInput;
@@ -47,6 +48,7 @@ pub fn answer<T: ComposeTable>(
             let files = MoveFiles::read(rt, names, tables, fresh)?;
             make_files::<T>(rt, &files, *repertoire, *output)
         }
+        Request::Manifest(words) => manifest_files(rt, words),
         Request::Serve(words) => serve_files::<T>(rt, process_id, names, words),
         Request::Load(words) => load_files(rt, words),
         Request::Session(words) => session_files(rt, names, words),

@@ -12,6 +12,7 @@ mod at_once;
 mod client;
 mod commands;
 mod files;
+mod manifest;
 mod program;
 mod report;
 mod serving;

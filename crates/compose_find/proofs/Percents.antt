@@ -4,9 +4,10 @@ use Rattle.std.specs.Prelude.{◌==◌, Result, Ok, Err, slice_get}
 use Rattle.std.specs.List.{prefix_len}
 use Rattle.std.specs.Str.{IsUtf8, IsCharBoundary}
 use Rattle.compose_text.specs.Bytes.{front, behind}
-use Rattle.compose_find.specs.Expand.{◌>>=◌, Words, is_plain, path_from, path_of, meaning_at, meaning}
+use Rattle.compose_text.specs.Results.{◌>>=◌}
+use Rattle.compose_find.specs.Expand.{Words, is_plain, path_from, path_of, meaning_at, meaning}
 use Rattle.compose_find.specs.declared.fault.IncludeFault.{IncludeFault}
-use Rattle.compose_find.specs.declared.fault.IncludeFault.TheVariants.{Text, UnknownPercent, NoLocale, NoHome, MissingFile, TwoFiles, TooManySources, IncludeDepth, NoMemory}
+use Rattle.compose_find.specs.declared.fault.IncludeFault.TheVariants.{Text, UnknownPercent, NoLocale, NoHome, TwoFiles, TooManySources, IncludeDepth, NoMemory}
 use Rattle.compose_find.specs.Given.{onto, Gives, IsPiece}
 
 -- the text ends there, or a percent sign stands there
@@ -98,7 +99,6 @@ percent_first words rest (Err (Text fault)) e = meaning_faults words rest (Text 
 percent_first words rest (Err UnknownPercent) e = meaning_faults words rest UnknownPercent e
 percent_first words rest (Err NoLocale) e = meaning_faults words rest NoLocale e
 percent_first words rest (Err NoHome) e = meaning_faults words rest NoHome e
-percent_first words rest (Err MissingFile) e = meaning_faults words rest MissingFile e
 percent_first words rest (Err TwoFiles) e = meaning_faults words rest TwoFiles e
 percent_first words rest (Err TooManySources) e = meaning_faults words rest TooManySources e
 percent_first words rest (Err IncludeDepth) e = meaning_faults words rest IncludeDepth e

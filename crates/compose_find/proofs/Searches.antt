@@ -3,10 +3,10 @@ use Rattle.std.proofs.Common.{◌≡◌, ℕ, suc, zero, ◌+◌, ◌≤◌, Lis
 use Rattle.std.specs.Prelude.{Result, Ok, Err, slice_get}
 use Rattle.std.proofs.lemmas.Option.{slice_get_past}
 use Rattle.compose_find.specs.Expand.{Words}
-use Rattle.compose_find.specs.Found.{Looked, Met, Stop, wanted, missing, refused, meet_source, found_on}
+use Rattle.compose_find.specs.Found.{Looked, Met, Stop, wanted, missing_root, missing_file, refused, meet_source, found_on}
 use Rattle.compose_find.specs.Given.{FindGives}
 use Rattle.compose_find.specs.declared.met.FindFault.{FindFault}
-use Rattle.compose_find.specs.declared.met.FindFault.TheVariants.{Wanted, Missing, Refused, NoMemory}
+use Rattle.compose_find.specs.declared.met.FindFault.TheVariants.{Wanted, MissingRoot, MissingFile, Include, NoMemory}
 
 -- no source is left
 pub search_ends : (files : List Looked) (words : Words) (left place : ℕ) (met : List Met) → length met ≤ place → found_on files words left place met ≡ Ok met
@@ -29,8 +29,9 @@ search_stops files words left place met from stop at is = rw (at, is) refl
 moved : {X Y Z W : Type 0} (view : X → Z) (other : Y → W) (fault : FindFault) (said : Result Z Stop) (whole : Result W Stop) → ((stop : Stop) → said ≡ Err stop → whole ≡ Err stop) → FindGives view (Err fault) said → FindGives other (Err fault) whole
 moved view other NoMemory said whole f h = tt
 moved view other (Wanted path) said whole f h = f (wanted (string_bytes path)) h
-moved view other (Missing path) said whole f h = f (missing (string_bytes path)) h
-moved view other (Refused from line fault) said whole f h = f (refused (string_bytes from) line fault) h
+moved view other (MissingRoot path) said whole f h = f (missing_root (string_bytes path)) h
+moved view other (MissingFile from line path) said whole f h = f (missing_file (string_bytes from) line (string_bytes path)) h
+moved view other (Include from line fault) said whole f h = f (refused (string_bytes from) line fault) h
 
 pub passed : {X Y Z W : Type 0} (view : X → Z) (other : Y → W) (fault : FindFault) (result : Result Y FindFault) (said : Result Z Stop) (whole : Result W Stop) → result ≡ Err fault → ((stop : Stop) → said ≡ Err stop → whole ≡ Err stop)
     → FindGives view (Err fault) said → FindGives other result whole

@@ -2,15 +2,11 @@
 use Rattle.std.specs.Prelude.{ℕ, Bool, true, false, not, ◌==◌, if◌then◌else◌, List, [], ◌∷◌, ◌++◌, Option, Some, None, Result, Ok, Err}
 use Rattle.std.specs.List.{list_any}
 use Rattle.compose_text.specs.Bytes.{begins}
+use Rattle.compose_text.specs.Results.{◌>>=◌}
 use Rattle.compose_lex.specs.Escape.{text_of}
 use Rattle.compose_lex.specs.declared.LexFault.{LexFault}
 use Rattle.compose_find.specs.declared.fault.IncludeFault.{IncludeFault}
 use Rattle.compose_find.specs.declared.fault.IncludeFault.TheVariants.{Text, UnknownPercent, NoLocale, NoHome}
-
-infixl 10 ◌>>=◌
-abbrev pub ◌>>=◌ : {A B E : Type 0} → Result A E → (A → Result B E) → Result B E
-(Ok x) >>= f = f x
-(Err e) >>= f = Err e
 
 -- what `%S`, `%L` and `%H` stand for; a table of the locale and a home folder needn't be known
 pub record Words : Type 0 where
@@ -78,3 +74,7 @@ folder_of (b ∷ rest) = if list_any (λ b. b == 47) (b ∷ rest) then b ∷ fol
 -- a relative path, taken from the folder of the file that includes it; an absolute one stays
 abbrev pub beside : List ℕ → List ℕ → List ℕ
 beside from path = if begins (λ b. b == 47) path then path else folder_of from ++ path
+
+-- a relative path, taken from a folder; an absolute one stays
+abbrev pub in_folder : List ℕ → List ℕ → List ℕ
+in_folder folder path = if begins (λ b. b == 47) path then path else folder ++ 47 ∷ path

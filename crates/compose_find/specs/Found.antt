@@ -4,10 +4,11 @@ use Rattle.std.specs.List.{find}
 use Rattle.std.specs.Option.{option_map_or}
 use Rattle.compose_read.specs.Lines.{max_depth}
 use Rattle.compose_read.specs.Sources.{max_sources}
-use Rattle.compose_find.specs.Expand.{◌>>=◌, Words, include_path, beside}
+use Rattle.compose_text.specs.Results.{◌>>=◌}
+use Rattle.compose_find.specs.Expand.{Words, include_path, beside}
 use Rattle.compose_find.specs.Includes.{Include}
 use Rattle.compose_find.specs.declared.fault.IncludeFault.{IncludeFault}
-use Rattle.compose_find.specs.declared.fault.IncludeFault.TheVariants.{MissingFile, TwoFiles, TooManySources, IncludeDepth}
+use Rattle.compose_find.specs.declared.fault.IncludeFault.TheVariants.{TwoFiles, TooManySources, IncludeDepth}
 
 -- a path that was looked for: the includes of the file, or none where it isn't there
 pub record Looked : Type 0 where
@@ -20,10 +21,12 @@ pub record Met : Type 0 where
   pub path : List ℕ
   pub depth : ℕ
 
--- why the search ends: a path is to be looked for first, a file isn't there, or an include on this line of the file at this path leads nowhere
+-- why the search ends: a path is to be looked for first, the root isn't there, or of an include on this line of the file at this path
+-- the file isn't there, or it leads nowhere
 pub data Stop : Type 0 where
   wanted : List ℕ → Stop
-  missing : List ℕ → Stop
+  missing_root : List ℕ → Stop
+  missing_file : List ℕ → ℕ → List ℕ → Stop
   refused : List ℕ → ℕ → IncludeFault → Stop
 
 -- ---- files
@@ -37,7 +40,7 @@ abbrev pub looked_at : List Looked → List ℕ → Result (Option (List Include
 looked_at files path = looked_or path (find (λ f. bytes_eq path f.path) files)
 
 abbrev pub there_or_missing : List ℕ → Option (List Include) → Result (List Include) Stop
-there_or_missing path None = Err (missing path)
+there_or_missing path None = Err (missing_root path)
 there_or_missing path (Some includes) = Ok includes
 
 -- the includes of the file at a path
@@ -61,7 +64,7 @@ located files from include path = do
   here ← looked_at files path
   if is_some here then Ok path else (do
     there ← looked_at files (beside from.path path)
-    if is_some there then Ok (beside from.path path) else Err (refusal from include MissingFile))
+    if is_some there then Ok (beside from.path path) else Err (missing_file from.path include.line path))
 
 -- the path of the file to which an include leads
 abbrev pub leads_to : List Looked → Words → Met → Include → Result (List ℕ) Stop

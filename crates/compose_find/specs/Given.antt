@@ -2,9 +2,9 @@
 use Rattle.std.specs.Prelude.{◌≡◌, ◌<◌, ℕ, List, ◌++◌, length, Result, Ok, Err, option_copied, string_bytes}
 use Rattle.std.proofs.Common.{Bor}
 use Rattle.compose_find.specs.Expand.{Words, path_of}
-use Rattle.compose_find.specs.Found.{Stop, wanted, missing, refused}
+use Rattle.compose_find.specs.Found.{Stop, wanted, missing_root, missing_file, refused}
 use Rattle.compose_find.specs.declared.met.FindFault.{FindFault}
-use Rattle.compose_find.specs.declared.met.FindFault.TheVariants.{Wanted, Missing, Refused, NoMemory as FindNoMemory}
+use Rattle.compose_find.specs.declared.met.FindFault.TheVariants.{Wanted, MissingRoot, MissingFile, Include, NoMemory as FindNoMemory}
 use Rattle.compose_find.specs.declared.percent.Meanings.{Meanings}
 use Rattle.compose_find.specs.declared.fault.IncludeFault.{IncludeFault}
 use Rattle.compose_find.specs.declared.fault.IncludeFault.TheVariants.{NoMemory}
@@ -33,13 +33,15 @@ IsPiece words text (Err e) = path_of words text ≡ Err e
 abbrev pub IsStop : Stop → FindFault → Type 0
 IsStop stop FindNoMemory = Unit {0}
 IsStop stop (Wanted path) = stop ≡ wanted (string_bytes path)
-IsStop stop (Missing path) = stop ≡ missing (string_bytes path)
-IsStop stop (Refused from line fault) = stop ≡ refused (string_bytes from) line fault
+IsStop stop (MissingRoot path) = stop ≡ missing_root (string_bytes path)
+IsStop stop (MissingFile from line path) = stop ≡ missing_file (string_bytes from) line (string_bytes path)
+IsStop stop (Include from line fault) = stop ≡ refused (string_bytes from) line fault
 
 -- the value that is said, or why there is none
 abbrev pub FindGives : {X Y : Type 0} → (X → Y) → Result X FindFault → Result Y Stop → Type 0
 FindGives view (Ok x) said = said ≡ Ok (view x)
 FindGives view (Err FindNoMemory) said = Unit {0}
 FindGives view (Err (Wanted path)) said = said ≡ Err (wanted (string_bytes path))
-FindGives view (Err (Missing path)) said = said ≡ Err (missing (string_bytes path))
-FindGives view (Err (Refused from line fault)) said = said ≡ Err (refused (string_bytes from) line fault)
+FindGives view (Err (MissingRoot path)) said = said ≡ Err (missing_root (string_bytes path))
+FindGives view (Err (MissingFile from line path)) said = said ≡ Err (missing_file (string_bytes from) line (string_bytes path))
+FindGives view (Err (Include from line fault)) said = said ≡ Err (refused (string_bytes from) line fault)

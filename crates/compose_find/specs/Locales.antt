@@ -1,9 +1,11 @@
 -- The files `compose.dir` and `locale.alias` of a system's folder of locales. Each line puts a word beside another one.
-use Rattle.std.specs.Prelude.{ℕ, Bool, not, ◌&&◌, ◌||◌, ◌==◌, if◌then◌else◌, List, [], ◌∷◌, length, Option, Some, None, bytes_eq}
+use Rattle.std.specs.Prelude.{ℕ, Bool, not, ◌&&◌, ◌||◌, ◌==◌, if◌then◌else◌, List, [], ◌∷◌, length, Option, Some, None, unwrap_or, bytes_eq}
 use Rattle.std.specs.List.{filter_map, find}
-use Rattle.std.specs.Option.{option_map}
+use Rattle.std.specs.Option.{option_map, option_map_or}
+use Rattle.std.specs.Str.{is_utf8}
 use Rattle.compose_text.specs.Bytes.{is_blank, begins, front, behind}
 use Rattle.compose_text.specs.Lines.{lines_of}
+use Rattle.compose_find.specs.Expand.{in_folder}
 
 -- any byte but a blank
 abbrev pub is_word_byte : ℕ → Bool
@@ -42,3 +44,16 @@ compose_dir_entry bytes locale = option_map (λ pair. pair.0) (find (λ pair. by
 -- the right word of the first line whose left word is the alias
 abbrev pub locale_alias : List ℕ → List ℕ → Option (List ℕ)
 locale_alias bytes alias = option_map (λ pair. pair.1) (find (λ pair. bytes_eq pair.0 alias) (pairs bytes))
+
+-- the locale for which another one stands, if it is an alias
+abbrev pub aliased : List ℕ → List ℕ → List ℕ
+aliased aliases locale = unwrap_or (locale_alias aliases locale) locale
+
+-- the path of an entry, in the folder of these files; one that is not UTF-8 is none
+abbrev pub entry_path : List ℕ → List ℕ → Option (List ℕ)
+entry_path folder entry = if is_utf8 entry then Some (in_folder folder entry) else None
+
+-- the path of the table of a locale
+abbrev pub locale_file : List ℕ → List ℕ → List ℕ → List ℕ → Option (List ℕ)
+locale_file folder compose_dir aliases locale =
+    option_map_or (entry_path folder) (compose_dir_entry compose_dir (aliased aliases locale)) None

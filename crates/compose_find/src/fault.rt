@@ -21,20 +21,17 @@ pub enum IncludeFault {
     /// `%H`, where no home folder is known.
     #[error("4 NoHome")]
     NoHome,
-    /// There is no file at the path, nor, where it is a relative one, beside the including file.
-    #[error("5 MissingFile")]
-    MissingFile,
     /// The same raw text led to another file before.
-    #[error("6 TwoFiles")]
+    #[error("5 TwoFiles")]
     TwoFiles,
     /// A 65th source.
-    #[error("7 TooManySources")]
+    #[error("6 TooManySources")]
     TooManySources,
     /// An include in a file to which eight includes lead at least.
-    #[error("8 IncludeDepth")]
+    #[error("7 IncludeDepth")]
     IncludeDepth,
     /// Memory was refused in this call.
-    #[error("9 NoMemory")]
+    #[error("8 NoMemory")]
     NoMemory,
 }
 

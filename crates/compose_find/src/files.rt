@@ -7,7 +7,7 @@ ghost use Rattle.compose_find.specs.Found as found;
 ghost use Rattle.compose_find.specs.Given.{FindGives};
 
 use crate::includes::{Include, includes_of};
-use crate::met::{FindFault, missing, wanted};
+use crate::met::{FindFault, missing_root, wanted};
 use std::alloc::{AllocError, Global};
 use std::marker::Model;
 
@@ -93,7 +93,7 @@ impl Files {
     {
         match self.looked_at(alloc, path)? {
             Some(includes) => Ok(includes),
-            None => Err(missing(alloc, path)),
+            None => Err(missing_root(alloc, path)),
         }
     }
 

@@ -1,6 +1,13 @@
 //! Where the files of a Compose file lie on a system.
 //!
-//! [`expand`] gives the path that the text of an include stands for: `%S`, `%L`, `%H` and `%%` give way to what they mean.
+//! [`find_sources`] follows includes over the files that were looked for: it gives every source by the raw text that names it, with its path, or
+//! the path that is to be looked for next. What was found there is added to [`Files`], of which only the includes are kept ([`includes_of`]). An
+//! include's text leads to a path by [`expand`], where `%S`, `%L` and `%H` stand for [`Meanings`], `%L` for what [`locale_file`] gives.
+//!
+//! ```text
+//! root:  include "%L"      # %L  /usr/share/X11/locale/en_US.UTF-8/Compose
+//!        include "more"    # more, or beside the root
+//! ```
 #![tactic(auto)]
 
 mod fault;
@@ -15,7 +22,7 @@ mod search;
 pub use fault::IncludeFault;
 pub use files::Files;
 pub use includes::{Include, includes_of};
-pub use locales::{compose_dir_entry, locale_alias};
+pub use locales::locale_file;
 pub use met::{FindFault, Met};
 pub use percent::{Meanings, expand};
 pub use search::find_sources;

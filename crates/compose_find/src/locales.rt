@@ -1,9 +1,12 @@
 //! The files `compose.dir` and `locale.alias`, whose lines put a file or a locale beside another locale.
-ghost use Rattle.std.specs.Prelude.{◌≡◌, Some, None, option_copied, MatchOption};
+ghost use Rattle.std.specs.Prelude.{◌≡◌, Some, None, option_copied, string_bytes, MatchOption, IfOk};
+ghost use Rattle.std.specs.Option.{option_map};
 ghost use Rattle.compose_text.specs.Bytes.{front, behind};
 ghost use Rattle.compose_find.specs.Locales as locales;
 
+use crate::paths::in_folder;
 use compose_text::{ByteClass, blank_len, first_line, leading_len};
+use std::alloc::{AllocError, Global};
 use std::simd::prelude::*;
 
 /// All bytes but blanks.
@@ -47,15 +50,50 @@ impl ByteClass for LeftByte {
     }
 }
 
+/// The path of the table of a locale, for `%L`: the file that `compose.dir` lists for it, in this folder. A locale that `locale.alias`
+/// lists as an alias stands for another one. O(bytes).
+pub fn locale_file(
+    alloc: Global,
+    folder: &str,
+    compose_dir: &[u8],
+    aliases: &[u8],
+    locale: &str,
+) -> Result<Option<String>, AllocError>
+    ensures { IfOk result (λ file. option_map string_bytes file ≡ locales.locale_file folder.now compose_dir.now aliases.now locale.now) }
+{
+    let name = aliased(aliases, locale.as_bytes());
+    let Some(entry) = compose_dir_entry(compose_dir, name) else {
+        return Ok(None);
+    };
+    entry_path(alloc, folder, entry)
+}
+
+/// The locale for which another one stands, if it is an alias.
+fn aliased<'a>(aliases: &'a [u8], locale: &'a [u8]) -> &'a [u8]
+    ensures { result.now ≡ locales.aliased aliases.now locale.now }
+{
+    locale_alias(aliases, locale).unwrap_or(locale)
+}
+
+/// The path of an entry of `compose.dir`, if it is UTF-8.
+fn entry_path(alloc: Global, folder: &str, entry: &[u8]) -> Result<Option<String>, AllocError>
+    ensures { IfOk result (λ path. option_map string_bytes path ≡ locales.entry_path folder.now entry.now) }
+{
+    match str::from_utf8(entry) {
+        Ok(entry) => Ok(Some(in_folder(alloc, folder, entry)?)),
+        Err(_) => Ok(None),
+    }
+}
+
 /// The file that `compose.dir` lists for the locale: the left word of the first line whose right word is the locale. A line is
 /// `FILE: LOCALE` or `FILE LOCALE`; comments and lines without two words list nothing. O(bytes).
-pub fn compose_dir_entry<'a>(compose_dir: &'a [u8], locale: &str) -> Option<&'a [u8]>
+fn compose_dir_entry<'a>(compose_dir: &'a [u8], locale: &[u8]) -> Option<&'a [u8]>
     ensures { option_copied result ≡ locales.compose_dir_entry compose_dir.now locale.now }
 {
     let mut rest = compose_dir;
     while let Some((line, behind)) = first_line(rest) {
         if let Some((left, right)) = pair_of(line) {
-            if right == locale.as_bytes() {
+            if right == locale {
                 return Some(left);
             }
         }
@@ -66,13 +104,13 @@ pub fn compose_dir_entry<'a>(compose_dir: &'a [u8], locale: &str) -> Option<&'a 
 
 /// The locale that `locale.alias` puts in the place of the alias: the right word of the first line whose left word is the alias. A
 /// line is `ALIAS: LOCALE` or `ALIAS LOCALE`; comments and lines without two words list nothing. O(bytes).
-pub fn locale_alias<'a>(locale_alias: &'a [u8], alias: &str) -> Option<&'a [u8]>
+fn locale_alias<'a>(locale_alias: &'a [u8], alias: &[u8]) -> Option<&'a [u8]>
     ensures { option_copied result ≡ locales.locale_alias locale_alias.now alias.now }
 {
     let mut rest = locale_alias;
     while let Some((line, behind)) = first_line(rest) {
         if let Some((left, right)) = pair_of(line) {
-            if left == alias.as_bytes() {
+            if left == alias {
                 return Some(right);
             }
         }

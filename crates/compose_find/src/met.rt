@@ -1,5 +1,5 @@
 //! The sources that the search met, and why it ends.
-ghost use Rattle.std.specs.Prelude.{◌≡◌, IfOk, option_copied, bytes_eq};
+ghost use Rattle.std.specs.Prelude.{◌≡◌, IfOk, option_copied, bytes_eq, string_bytes};
 ghost use Rattle.std.specs.List.{find};
 ghost use Rattle.compose_find.specs.Found as found;
 ghost use Rattle.compose_find.specs.Given.{IsStop};
@@ -53,19 +53,27 @@ pub enum FindFault {
         path: String,
     },
     /// The root isn't there.
-    #[error("2 Missing path={path}")]
-    Missing {
+    #[error("2 MissingRoot path={path}")]
+    MissingRoot {
         path: String,
     },
-    /// An include leads nowhere, which stands on this line, from 1, of the file at this path.
-    #[error("3 Refused from={from} line={line}: {fault}")]
-    Refused {
+    /// The file isn't there to which an include leads, nor, by a relative path, beside the including file. The include stands on this line,
+    /// from 1, of the file at the path `from`.
+    #[error("3 MissingFile from={from} line={line} path={path}")]
+    MissingFile {
+        from: String,
+        line: usize,
+        path: String,
+    },
+    /// The include on this line of the file at the path `from` leads nowhere.
+    #[error("4 Include from={from} line={line}: {fault}")]
+    Include {
         from: String,
         line: usize,
         fault: IncludeFault,
     },
     /// Memory was refused in this call.
-    #[error("4 NoMemory")]
+    #[error("5 NoMemory")]
     NoMemory,
 }
 
@@ -95,12 +103,26 @@ pub(crate) fn wanted(alloc: Global, path: &str) -> FindFault
     }
 }
 
-/// That there is no file at a path.
-pub(crate) fn missing(alloc: Global, path: &str) -> FindFault
-    ensures { IsStop (found.missing path.now) result }
+/// That there is no file at the root's path.
+pub(crate) fn missing_root(alloc: Global, path: &str) -> FindFault
+    ensures { IsStop (found.missing_root path.now) result }
 {
     match String::from_str(alloc, path) {
-        Ok(path) => FindFault::Missing { path },
+        Ok(path) => FindFault::MissingRoot { path },
+        Err(_) => FindFault::NoMemory,
+    }
+}
+
+/// That the file isn't there to which an include of this source leads.
+pub(crate) fn missing_file(alloc: Global, from: &Met, include: &Include, path: String) -> FindFault
+    ensures { IsStop (found.missing_file from.now.path include.now.line (string_bytes path)) result }
+{
+    match String::from_str(alloc, &from.path) {
+        Ok(from) => FindFault::MissingFile {
+            from,
+            line: include.line,
+            path,
+        },
         Err(_) => FindFault::NoMemory,
     }
 }
@@ -115,7 +137,7 @@ pub(crate) fn refused(
     ensures { IsStop (found.refusal from.now include.now fault) result }
 {
     match String::from_str(alloc, &from.path) {
-        Ok(from) => FindFault::Refused {
+        Ok(from) => FindFault::Include {
             from,
             line: include.line,
             fault,

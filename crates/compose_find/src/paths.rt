@@ -35,6 +35,19 @@ pub(crate) fn beside(alloc: Global, from: &str, path: &str) -> Result<String, Al
     Ok(beside)
 }
 
+/// The path, taken from this folder where it is a relative one.
+pub(crate) fn in_folder(alloc: Global, folder: &str, path: &str) -> Result<String, AllocError>
+    ensures { IfOk result (λ whole. string_bytes whole ≡ paths.in_folder folder.now path.now) }
+{
+    let mut whole = String::new(alloc);
+    if path.as_bytes().first() != Some(&b'/') {
+        whole.push_str(folder)?;
+        whole.push('/')?;
+    }
+    whole.push_str(path)?;
+    Ok(whole)
+}
+
 /// What stands up to the last slash of a path, and with it.
 fn folder_of(path: &str) -> &str
     ensures { result.now ≡ paths.folder_of path.now }

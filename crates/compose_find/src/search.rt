@@ -6,7 +6,7 @@ ghost use Rattle.compose_find.specs.Given.{words, FindGives};
 
 use crate::files::Files;
 use crate::includes::Include;
-use crate::met::{FindFault, Met, known, refused};
+use crate::met::{FindFault, Met, known, missing_file, refused};
 use crate::paths::{beside, include_path};
 use crate::{IncludeFault, Meanings};
 use compose_read::Sources;
@@ -170,5 +170,5 @@ fn located(
     if files.looked_at(alloc, &beside)?.is_some() {
         return Ok(beside);
     }
-    Err(refused(alloc, from, include, IncludeFault::MissingFile))
+    Err(missing_file(alloc, from, include, path))
 }

@@ -2,6 +2,7 @@
 //!
 //! [`manifest_text`] writes a line for each source, and reads the text back: what it gives lists these sources.
 #![tactic(auto)]
+
 ghost use Rattle.std.specs.Prelude.{◌≡◌, ◌++◌, ◌∷◌, [], IfOk, OnOk, string_bytes};
 ghost use Rattle.compose_manifest.specs.Text as text;
 ghost use Rattle.compose_manifest.specs.declared.WriteFault.TheVariants.{NoMemory};

@@ -1,5 +1,6 @@
 //! The commands as clap reads them.
 use crate::client_commands::add_client_commands;
+use crate::manifest_words::manifest_command;
 use crate::serve_command::serve_command;
 use clap::{Arg, ArgAction, Command};
 use std::alloc::{AllocError, Global};
@@ -133,6 +134,8 @@ pub fn command_line<'a>(alloc: Global) -> Result<Command<'a>, AllocError> {
         )
         .subcommand_required(true)
         .subcommand(type_command(alloc)?)?;
-    let command = add_move_commands(alloc, command)?.subcommand(serve_command(alloc)?)?;
+    let command = add_move_commands(alloc, command)?
+        .subcommand(manifest_command(alloc)?)?
+        .subcommand(serve_command(alloc)?)?;
     add_client_commands(alloc, command)
 }

@@ -6,10 +6,12 @@
 mod client_commands;
 mod client_words;
 mod commands;
+mod manifest_words;
 mod request;
 mod serve_command;
 mod serve_words;
 
 pub use client_words::{LoadWords, SessionWords};
+pub use manifest_words::ManifestWords;
 pub use request::{CommandLine, Request, TablePaths, read_command_line};
 pub use serve_words::ServeWords;

@@ -4,6 +4,7 @@ ghost use Rattle.std.specs.List.{slice_split};
 
 use crate::client_words::{LoadWords, SessionWords, load_words, session_words};
 use crate::commands::command_line;
+use crate::manifest_words::{ManifestWords, manifest_words};
 use crate::serve_words::{ServeWords, serve_words};
 use clap::error::ErrorKind;
 use clap::{ArgMatches, Error};
@@ -44,6 +45,8 @@ pub enum Request<'a> {
         /// The path of the file that is written, where it is given.
         output: Option<&'a str>,
     },
+    /// Print the manifest of a Compose file.
+    Manifest(ManifestWords<'a>),
     /// Serve typing sessions on a socket.
     Serve(ServeWords<'a>),
     /// Load a table into a running service.
@@ -107,6 +110,7 @@ fn request_of<'a>(
         Some(("check", given)) => check_request(alloc, given),
         Some(("explain", given)) => explain_request(alloc, given),
         Some(("make", given)) => make_request(alloc, given),
+        Some(("manifest", given)) => Ok(manifest_words(given).map(Request::Manifest)),
         Some(("serve", given)) => Ok(serve_words(given).map(Request::Serve)),
         Some(("load", given)) => Ok(load_words(given).map(Request::Load)),
         Some(("session", given)) => Ok(session_words(alloc, given)?.map(Request::Session)),

@@ -1,0 +1,143 @@
+//! `manifest`: finds the sources of a Compose file on the system. An error is the end of a run whose refusal was told.
+use crate::report::{no_memory, refused, written};
+use compose_find::{FindFault, Meanings, Met, find_sources, locale_file};
+use compose_manifest::{WriteFault, manifest_text};
+use compose_tool::Ended;
+use compose_words::ManifestWords;
+use std::env::VarError;
+use std::rt::{Env, Files};
+use std::{env, fs, io};
+
+/// Where the system's tables lie, if neither the words nor the environment say it.
+const SYSTEM_FOLDER: &str = "/usr/share/X11/locale";
+
+/// Prints the manifest of a Compose file.
+pub fn manifest_files(
+    rt: &(impl Env + Files + Print + Eprint + AllocGlobal),
+    words: &ManifestWords<'_>,
+) -> Result<Ended, Ended> {
+    let folder = system_folder(rt)?;
+    let system = words.system.unwrap_or(&folder);
+    let locale = locale_table(rt, system, words.locale)?;
+    let home = variable(rt, "HOME")?;
+    let meanings = Meanings {
+        system,
+        locale: locale.as_deref(),
+        home: home.as_deref(),
+    };
+    let sources = find_files(rt, meanings, words.table)?;
+    match manifest_text(rt.alloc(), &sources) {
+        Ok(text) => Ok(written(rt, print!(rt; "{text}"), Ended::Yes)),
+        Err(WriteFault::NoMemory) => Err(no_memory(rt)),
+        Err(fault) => Err(refused(eprintln!(rt; "refused: manifest: {fault}"))),
+    }
+}
+
+/// A variable of the environment, if it is set to something.
+fn variable(rt: &(impl Env + Eprint + AllocGlobal), name: &str) -> Result<Option<String>, Ended> {
+    match env::var(rt, name) {
+        Ok(value) if value.is_empty() => Ok(None),
+        Ok(value) => Ok(Some(value)),
+        Err(VarError::NotPresent) => Ok(None),
+        Err(VarError::NotUnicode) => Err(refused(eprintln!(rt; "refused: word: not UTF-8"))),
+        Err(VarError::OutOfMemory) => Err(no_memory(rt)),
+    }
+}
+
+/// The folder of the system's tables by the environment.
+fn system_folder(rt: &(impl Env + Eprint + AllocGlobal)) -> Result<String, Ended> {
+    match variable(rt, "XLOCALEDIR")? {
+        Some(folder) => Ok(folder),
+        None => String::from_str(rt.alloc(), SYSTEM_FOLDER).map_err(|_| no_memory(rt)),
+    }
+}
+
+/// The name of the locale by the environment, if it says one.
+fn locale_name(rt: &(impl Env + Eprint + AllocGlobal)) -> Result<Option<String>, Ended> {
+    for name in ["LC_ALL", "LC_CTYPE", "LANG"] {
+        if let Some(locale) = variable(rt, name)? {
+            return Ok(Some(locale));
+        }
+    }
+    Ok(None)
+}
+
+/// The path of the table of the locale, if there is one.
+fn locale_table(
+    rt: &(impl Env + Files + Eprint + AllocGlobal),
+    system: &str,
+    word: Option<&str>,
+) -> Result<Option<String>, Ended> {
+    let named = locale_name(rt)?;
+    let Some(locale) = word.or(named.as_deref()) else {
+        return Ok(None);
+    };
+    let compose_dir = listing(rt, system, "compose.dir")?;
+    let aliases = listing(rt, system, "locale.alias")?;
+    locale_file(rt.alloc(), system, &compose_dir, &aliases, locale).map_err(|_| no_memory(rt))
+}
+
+/// The bytes of a file in the folder of the system's tables; none where it isn't there.
+fn listing(
+    rt: &(impl Files + Eprint + AllocGlobal),
+    system: &str,
+    name: &str,
+) -> Result<Vec<u8>, Ended> {
+    let Ok(path) = format!(in rt.alloc(); "{system}/{name}") else {
+        return Err(no_memory(rt));
+    };
+    match found_file(rt, &path)? {
+        Some(bytes) => Ok(bytes),
+        None => Ok(Vec::new(rt.alloc())),
+    }
+}
+
+/// The bytes of a file, if it can be read.
+fn found_file(
+    rt: &(impl Files + Eprint + AllocGlobal),
+    path: &str,
+) -> Result<Option<Vec<u8>>, Ended> {
+    match fs::read(rt, path) {
+        Ok(bytes) => Ok(Some(bytes)),
+        Err(error) if error.kind() == io::ErrorKind::OutOfMemory => Err(no_memory(rt)),
+        Err(_) => Ok(None),
+    }
+}
+
+/// The sources of the table whose root lies at this path. Each search asks for one more path, until it has all.
+fn find_files(
+    rt: &(impl Files + Eprint + AllocGlobal),
+    meanings: Meanings<'_>,
+    root: &str,
+) -> Result<Vec<Met>, Ended> {
+    let mut files = compose_find::Files::new(rt.alloc());
+    for _ in 0..u64::MAX {
+        match find_sources(rt.alloc(), &files, meanings, root) {
+            Ok(sources) => return Ok(sources),
+            Err(FindFault::Wanted { path }) => look_for(rt, &mut files, &path)?,
+            Err(fault) => return Err(tell_fault(rt, &fault)),
+        }
+    }
+    Err(no_memory(rt))
+}
+
+/// Looks for a path on the system.
+fn look_for(
+    rt: &(impl Files + Eprint + AllocGlobal),
+    files: &mut compose_find::Files,
+    path: &str,
+) -> Result<(), Ended> {
+    let bytes = found_file(rt, path)?;
+    files
+        .add(rt.alloc(), path, bytes.as_deref())
+        .map_err(|_| no_memory(rt))
+}
+
+/// Tells why not all sources are found.
+fn tell_fault(rt: &impl Eprint, fault: &FindFault) -> Ended {
+    match fault {
+        FindFault::NoMemory => no_memory(rt),
+        FindFault::MissingRoot { path } => refused(eprintln!(rt; "refused: file: {path}")),
+        fault => refused(eprintln!(rt; "refused: find: {fault}")),
+    }
+}
