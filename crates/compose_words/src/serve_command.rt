@@ -35,7 +35,9 @@ fn unsent_option<'a>(alloc: Global) -> Arg<'a> {
     Arg::new(alloc, "unsent")
         .long("unsent")
         .value_name("BYTES")
-        .help("With --at-once: answer no more of a connection's requests while so many bytes of replies are unsent")
+        .help(
+            "With --at-once: answer no more of a connection's requests while so many bytes of replies are unsent",
+        )
         .value_parser(value_parser!(u32).range(1..))
         .default_value("65536")
 }
@@ -51,7 +53,9 @@ fn connections<'a>(alloc: Global) -> Arg<'a> {
 /// The command that serves.
 pub fn serve_command<'a>(alloc: Global) -> Result<Command<'a>, AllocError> {
     let command = Command::new(alloc, "serve")
-        .about("Serve typing sessions on a Unix socket, one connection after another or many at once")
+        .about(
+            "Serve typing sessions on a Unix socket, one connection after another or many at once",
+        )
         .after_help(
             "Exit status: 0 served, 1 the certificate is not valid, 2 input refused, 3 out of memory\nExample: composecheck serve table.manifest repertoire certificate compose.socket 100",
         )
