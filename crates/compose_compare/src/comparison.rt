@@ -130,7 +130,15 @@ fn all_old<T: ComposeTable, U: ComposeTable>(
     let _ = new.node_count();
     let mut changes = Vec::new(alloc);
     changes.resize(old.leaf_count() as usize, Change::Removed)?;
-    visit_old(old, new, names, NodeId::ROOT, Some(NodeId::ROOT), Some(NodeId::ROOT), &mut changes);
+    visit_old(
+        old,
+        new,
+        names,
+        NodeId::ROOT,
+        Some(NodeId::ROOT),
+        Some(NodeId::ROOT),
+        &mut changes,
+    );
     Ok(changes)
 }
 
