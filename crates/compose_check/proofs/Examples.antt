@@ -7,7 +7,7 @@ use Rattle.compose_model.specs.Table.{Definition}
 use Rattle.compose_model.specs.Certificate.{Certificate, Repertoire, Typing}
 use Rattle.compose_fresh.specs.declared.fault.CheckFault.{CheckFault}
 use Rattle.compose_fresh.specs.declared.fault.CheckFault.TheVariants.{PairsNotRising, NodeOutOfRange, RootPairMissing, RestBroken, NewStart, Cancels, TextDiffers, PairMissing, BoundExceeded, TypingMissing, TypingWrong, TypingUnasked, FreshNotRising, FreshIgnored, FreshUsed}
-use Rattle.compose_check.specs.Demands.{fault_of}
+use Rattle.compose_check.specs.Conditions.{fault_of}
 
 abbrev core : KeysymNames
 core = record { names = []; characters = [] }

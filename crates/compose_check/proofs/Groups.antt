@@ -1,4 +1,4 @@
--- The groups of demands one after another: where those so far are met, the first fault is that of the next.
+-- The groups of conditions one after another: where those so far are met, the first fault is that of the next.
 use Rattle.std.proofs.Common.{◌≡◌, List, ◌++◌, true, ◌&&◌, sym, ◌∙◌}
 use Rattle.std.specs.Prelude.{Some, None}
 use Rattle.std.proofs.lemmas.Bool.{and_parts}
@@ -6,29 +6,29 @@ use Rattle.keysym_core.specs.Names.{KeysymNames}
 use Rattle.compose_model.specs.Table.{Definition}
 use Rattle.compose_model.specs.Certificate.{Certificate, Repertoire, pairs_rise, pairs_in_range, has_pair, rest_is_kept}
 use Rattle.compose_fresh.specs.declared.fault.CheckFault.{CheckFault}
-use Rattle.compose_fresh.specs.Demands.{Demand, first_unmet}
-use Rattle.compose_fresh.specs.Fresh.{fresh_demands}
-use Rattle.compose_check.specs.Demands.{pair_demands, start_demands, edge_demands, bound_demands, typing_demands, fault_of}
+use Rattle.compose_fresh.specs.Conditions.{Condition, first_unmet}
+use Rattle.compose_fresh.specs.Fresh.{fresh_conditions}
+use Rattle.compose_check.specs.Conditions.{pair_conditions, start_conditions, edge_conditions, bound_conditions, typing_conditions, fault_of}
 use Rattle.compose_fresh.proofs.Unmet.{unmet_before, met_before, met_from_none}
 
 module _ (names : KeysymNames) (old new : List Definition) (repertoire : Repertoire) (c : Certificate) where
-  abbrev pairs : List Demand
-  pairs = pair_demands old new c.pairs
+  abbrev pairs : List Condition
+  pairs = pair_conditions old new c.pairs
 
-  abbrev fresh : List Demand
-  fresh = fresh_demands old c.fresh
+  abbrev fresh : List Condition
+  fresh = fresh_conditions old c.fresh
 
-  abbrev starts : List Demand
-  starts = start_demands names c.fresh old new
+  abbrev starts : List Condition
+  starts = start_conditions names c.fresh old new
 
-  abbrev edges : List Demand
-  edges = edge_demands names old new c.pairs
+  abbrev edges : List Condition
+  edges = edge_conditions names old new c.pairs
 
-  abbrev bound : List Demand
-  bound = bound_demands new c.bound
+  abbrev bound : List Condition
+  bound = bound_conditions new c.bound
 
-  abbrev typings : List Demand
-  typings = typing_demands names new repertoire repertoire.characters c.typings
+  abbrev typings : List Condition
+  typings = typing_conditions names new repertoire repertoire.characters c.typings
 
   module _ (no_pair : first_unmet pairs ≡ None) where
     behind_pairs : fault_of names old new repertoire c ≡ first_unmet (fresh ++ (starts ++ (edges ++ (bound ++ typings))))

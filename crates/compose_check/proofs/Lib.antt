@@ -3,9 +3,9 @@ pub mod Lists
 pub mod PairOrder
 pub mod PairSearch
 pub mod Landed
-pub mod EdgeDemands
-pub mod StartDemands
-pub mod TypingDemands
+pub mod EdgeConditions
+pub mod StartConditions
+pub mod TypingConditions
 pub mod Groups
 pub mod Valid
 pub mod PartsRead

@@ -9,7 +9,7 @@ use Rattle.compose_cert.specs.Reading.{certificate_of}
 use Rattle.compose_cert.specs.Repertoire.{repertoire_of}
 use Rattle.compose_cert.specs.declared.CertFault.{CertFault}
 use Rattle.compose_cert.specs.declared.RepertoireFault.{RepertoireFault}
-use Rattle.compose_check.specs.Demands.{fault_of}
+use Rattle.compose_check.specs.Conditions.{fault_of}
 use Rattle.compose_check.specs.Verdict.{verdict_of}
 use Rattle.compose_check.specs.declared.verdict.Verdict.{Verdict}
 

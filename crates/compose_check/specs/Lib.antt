@@ -1,4 +1,4 @@
-pub mod Demands
+pub mod Conditions
 pub mod Landing
 pub mod Typings
 pub mod Verdict

@@ -5,7 +5,7 @@ use Rattle.compose_model.specs.Table.{Definition}
 use Rattle.compose_model.specs.Certificate.{Repertoire, Typing}
 use Rattle.compose_fresh.specs.declared.fault.CheckFault.{CheckFault}
 use Rattle.compose_fresh.specs.declared.fault.CheckFault.TheVariants.{TypingMissing, TypingWrong, TypingUnasked}
-use Rattle.compose_check.specs.Demands.{is_right}
+use Rattle.compose_check.specs.Conditions.{is_right}
 
 -- the fault of the typing t where the character c is asked for
 abbrev pub typing_fault : KeysymNames → List Definition → Repertoire → ℕ → Typing → Option CheckFault

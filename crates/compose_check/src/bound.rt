@@ -1,14 +1,14 @@
-//! The demand that no node of the new table is longer than the bound.
+//! The condition that no node of the new table is longer than the bound.
 ghost use Rattle.std.specs.Prelude.{◌≡◌};
-ghost use Rattle.compose_fresh.specs.Demands.{first_unmet};
-ghost use Rattle.compose_check.specs.Demands.{bound_demands};
+ghost use Rattle.compose_fresh.specs.Conditions.{first_unmet};
+ghost use Rattle.compose_check.specs.Conditions.{bound_conditions};
 
 use compose_fresh::CheckFault;
 use compose_tree::{ComposeTable, NodeId};
 
 /// The first node that is longer than the bound. O(nodes).
 pub(crate) fn check_bound<U: ComposeTable>(new: &U, bound: u32) -> Option<CheckFault>
-    ensures { result ≡ first_unmet (bound_demands (U.definitions new.now) bound) }
+    ensures { result ≡ first_unmet (bound_conditions (U.definitions new.now) bound) }
 {
     for number in 0..new.node_count() {
         if new.depth(NodeId(number)) > bound {

@@ -1,11 +1,11 @@
-//! The demands at the edges of each pair's old node.
+//! The conditions at the edges of each pair's old node.
 ghost use Rattle.std.specs.Prelude.{◌≡◌, ◌<◌, length, flat_map, Some, IsTrue};
 ghost use Rattle.compose_model.specs.Table.{is_table};
 ghost use Rattle.compose_model.specs.Nodes.{nodes, node as node_at, edges};
 ghost use Rattle.compose_model.specs.Certificate.{pairs_rise, pairs_in_range};
 ghost use Rattle.compose_tree.specs.Targets.{target_of};
-ghost use Rattle.compose_fresh.specs.Demands.{first_unmet};
-ghost use Rattle.compose_check.specs.Demands.{edge_demands, one_edge_demands};
+ghost use Rattle.compose_fresh.specs.Conditions.{first_unmet};
+ghost use Rattle.compose_check.specs.Conditions.{edge_conditions, one_edge_conditions};
 
 use crate::landing::{cancels, commits, number_at, text_to};
 use crate::pairs::has_pair;
@@ -33,7 +33,7 @@ pub(crate) fn check_edges<T: ComposeTable, U: ComposeTable>(
     requires rise { IsTrue (pairs_rise certificate.now.pairs) }
     requires in_range { IsTrue (pairs_in_range (T.definitions old.now) (U.definitions new.now) certificate.now.pairs) }
     requires sound { IsTrue (is_table (T.definitions old.now)) }
-    ensures { result ≡ first_unmet (edge_demands names.now (T.definitions old.now) (U.definitions new.now) certificate.now.pairs) }
+    ensures { result ≡ first_unmet (edge_conditions names.now (T.definitions old.now) (U.definitions new.now) certificate.now.pairs) }
 {
     for index in 0..certificate.pair_count() {
         let (old_number, new_number) = certificate.pair(index);
@@ -61,7 +61,7 @@ fn check_pair<T: ComposeTable, U: ComposeTable>(
     requires old_in_range { pair.old.0 < length (nodes (T.definitions old.now)) }
     requires new_in_range { pair.new.0 < length (nodes (U.definitions new.now)) }
     requires sound { IsTrue (is_table (T.definitions old.now)) }
-    ensures { result ≡ first_unmet (flat_map (one_edge_demands names.now (T.definitions old.now) (U.definitions new.now) certificate.now.pairs pair.index (node_at (T.definitions old.now) pair.old.0) (node_at (U.definitions new.now) pair.new.0)) (edges (T.definitions old.now) (node_at (T.definitions old.now) pair.old.0))) }
+    ensures { result ≡ first_unmet (flat_map (one_edge_conditions names.now (T.definitions old.now) (U.definitions new.now) certificate.now.pairs pair.index (node_at (T.definitions old.now) pair.old.0) (node_at (U.definitions new.now) pair.new.0)) (edges (T.definitions old.now) (node_at (T.definitions old.now) pair.old.0))) }
 {
     for edge in 0..old.edge_count(pair.old) {
         let (keysym, target) = old.edge(pair.old, edge);
@@ -72,7 +72,7 @@ fn check_pair<T: ComposeTable, U: ComposeTable>(
     None
 }
 
-/// The first demand at the edge of this keysym, which leads to the target in the old table.
+/// The first condition at the edge of this keysym, which leads to the target in the old table.
 fn check_edge<T: ComposeTable, U: ComposeTable>(
     old: &T,
     new: &U,
@@ -86,7 +86,7 @@ fn check_edge<T: ComposeTable, U: ComposeTable>(
     requires leads { target_of (T.definitions old.now) (node_at (T.definitions old.now) pair.old.0) keysym ≡ Some target }
     requires new_in_range { pair.new.0 < length (nodes (U.definitions new.now)) }
     requires sound { IsTrue (is_table (T.definitions old.now)) }
-    ensures { result ≡ first_unmet (one_edge_demands names.now (T.definitions old.now) (U.definitions new.now) certificate.now.pairs pair.index (node_at (T.definitions old.now) pair.old.0) (node_at (U.definitions new.now) pair.new.0) keysym) }
+    ensures { result ≡ first_unmet (one_edge_conditions names.now (T.definitions old.now) (U.definitions new.now) certificate.now.pairs pair.index (node_at (T.definitions old.now) pair.old.0) (node_at (U.definitions new.now) pair.new.0) keysym) }
 {
     let landing = new.step(pair.new, keysym);
     if cancels(pair.new, landing) {

@@ -1,23 +1,23 @@
-//! The demands on the pairs of a certificate by themselves, and the look-up of a pair.
+//! The conditions on the pairs of a certificate by themselves, and the look-up of a pair.
 ghost use Rattle.std.specs.Prelude.{◌≡◌, ◌==◌, ◌&&◌, ◌||◌, not, nat_lt, List, length, IsTrue};
 ghost use Rattle.std.specs.List.{list_all};
 ghost use Rattle.compose_model.specs.Table.{Definition};
 ghost use Rattle.compose_model.specs.Nodes.{nodes};
 ghost use Rattle.compose_model.specs.Certificate as words;
-ghost use Rattle.compose_fresh.specs.Demands.{first_unmet};
-ghost use Rattle.compose_check.specs.Demands.{pair_demands};
+ghost use Rattle.compose_fresh.specs.Conditions.{first_unmet};
+ghost use Rattle.compose_check.specs.Conditions.{pair_conditions};
 
 use compose_cert::Certificate;
 use compose_fresh::CheckFault;
 
-/// The first demand on the pairs that they do not meet, for tables of so many nodes: the pairs strictly rise, are nodes of the
+/// The first condition on the pairs that they do not meet, for tables of so many nodes: the pairs strictly rise, are nodes of the
 /// tables, have the roots, and the old root stands with the new one alone. O(pairs).
 pub(crate) fn check_pairs(
     certificate: &Certificate,
     old_count: u32,
     new_count: u32,
 ) -> Option<CheckFault>
-    ensures { (old new : List Definition) → old_count ≡ length (nodes old) → new_count ≡ length (nodes new) → result ≡ first_unmet (pair_demands old new certificate.now.pairs) }
+    ensures { (old new : List Definition) → old_count ≡ length (nodes old) → new_count ≡ length (nodes new) → result ≡ first_unmet (pair_conditions old new certificate.now.pairs) }
 {
     if !are_rising(certificate) {
         return Some(CheckFault::PairsNotRising);

@@ -1,12 +1,12 @@
-//! The demand on the keysyms that begin a sequence in the new table and in none of the old.
+//! The condition on the keysyms that begin a sequence in the new table and in none of the old.
 ghost use Rattle.std.specs.Prelude.{◌≡◌, ◌||◌, [], Some, IsTrue};
 ghost use Rattle.compose_model.specs.Table.{has_key, is_prefix_free};
 ghost use Rattle.compose_model.specs.Nodes.{has_edge};
 ghost use Rattle.compose_model.specs.Certificate as words;
 ghost use Rattle.compose_model.specs.Certificate.{keys_rise};
 ghost use Rattle.compose_tree.specs.Targets.{target_of};
-ghost use Rattle.compose_fresh.specs.Demands.{first_unmet};
-ghost use Rattle.compose_check.specs.Demands.{start_demands};
+ghost use Rattle.compose_fresh.specs.Conditions.{first_unmet};
+ghost use Rattle.compose_check.specs.Conditions.{start_conditions};
 
 use crate::landing::is_own_text;
 use compose_fresh::{CheckFault, is_among};
@@ -23,7 +23,7 @@ pub(crate) fn check_starts<T: ComposeTable, U: ComposeTable>(
 ) -> Option<CheckFault>
     requires rise { IsTrue (keys_rise fresh.now) }
     requires prefix_free { IsTrue (is_prefix_free (U.definitions new.now)) }
-    ensures { result ≡ first_unmet (start_demands names.now fresh.now (T.definitions old.now) (U.definitions new.now)) }
+    ensures { result ≡ first_unmet (start_conditions names.now fresh.now (T.definitions old.now) (U.definitions new.now)) }
 {
     for index in 0..new.edge_count(NodeId::ROOT) {
         let (keysym, target) = new.edge(NodeId::ROOT, index);

@@ -1,4 +1,4 @@
-//! The demands on the typings: each of the repertoire's characters in order, by its keys.
+//! The conditions on the typings: each of the repertoire's characters in order, by its keys.
 ghost use Rattle.std.specs.Prelude.{◌≡◌, List, length, drop, min, encode_utf8};
 ghost use Rattle.std.specs.List.{list_all};
 ghost use Rattle.keysym_core.specs.Names.{KeysymNames};
@@ -6,9 +6,9 @@ ghost use Rattle.compose_model.specs.Table.{Definition, same};
 ghost use Rattle.compose_model.specs.Step as step;
 ghost use Rattle.compose_model.specs.Certificate.{is_key};
 ghost use Rattle.compose_state.specs.Texts.{text_bytes};
-ghost use Rattle.compose_check.specs.Demands as words;
-ghost use Rattle.compose_fresh.specs.Demands.{first_unmet};
-ghost use Rattle.compose_check.specs.Demands.{typing_demands};
+ghost use Rattle.compose_check.specs.Conditions as words;
+ghost use Rattle.compose_fresh.specs.Conditions.{first_unmet};
+ghost use Rattle.compose_check.specs.Conditions.{typing_conditions};
 ghost use Rattle.compose_check.specs.Typings.{typing_fault};
 
 use compose_cert::{Certificate, Repertoire, Typing};
@@ -25,7 +25,7 @@ pub(crate) fn check_typings<U: ComposeTable>(
     repertoire: &Repertoire,
     certificate: &Certificate,
 ) -> Option<CheckFault>
-    ensures { result ≡ first_unmet (typing_demands names.now (U.definitions new.now) repertoire.now repertoire.now.characters certificate.now.typings) }
+    ensures { result ≡ first_unmet (typing_conditions names.now (U.definitions new.now) repertoire.now repertoire.now.characters certificate.now.typings) }
 {
     let count = repertoire.count().min(certificate.typing_count());
     for index in 0..count {
@@ -46,7 +46,7 @@ pub(crate) fn check_typings<U: ComposeTable>(
 /// The fault where the characters or the typings go on after the index at which the other ones end.
 fn check_ends(repertoire: &Repertoire, certificate: &Certificate, end: usize) -> Option<CheckFault>
     requires { end ≡ min (length repertoire.now.characters) (length certificate.now.typings) }
-    ensures { (names : KeysymNames) (new : List Definition) → result ≡ first_unmet (typing_demands names new repertoire.now (drop end repertoire.now.characters) (drop end certificate.now.typings)) }
+    ensures { (names : KeysymNames) (new : List Definition) → result ≡ first_unmet (typing_conditions names new repertoire.now (drop end repertoire.now.characters) (drop end certificate.now.typings)) }
 {
     if end < repertoire.count() {
         return Some(CheckFault::TypingMissing {

@@ -5,7 +5,7 @@ ghost use Rattle.compose_model.specs.Table.{Definition, is_prefix_free};
 ghost use Rattle.compose_model.specs.Follows.{Follows, Waits};
 ghost use Rattle.compose_model.specs.Certificate as model;
 ghost use Rattle.compose_model.specs.Certificate.{IsValid, TypesAll};
-ghost use Rattle.compose_check.specs.Demands.{fault_of};
+ghost use Rattle.compose_check.specs.Conditions.{fault_of};
 ghost use Rattle.compose_check.specs.Verdict.{verdict_of};
 
 use crate::bound::check_bound;
@@ -24,12 +24,12 @@ use keysym_core::Names;
 pub enum Verdict {
     /// The certificate is valid.
     Yes,
-    /// It is not, and this is the first demand that it does not meet.
+    /// It is not, and this is the first condition that it does not meet.
     No(CheckFault),
 }
 
-/// No demand fails exactly where the certificate is valid.
-pub fn law_demands()
+/// No condition fails exactly where the certificate is valid.
+pub fn law_conditions()
     ensures valid { (names : KeysymNames) (old new : List Definition) (repertoire : model.Repertoire) (c : model.Certificate) → fault_of names old new repertoire c ≡ None → IsValid names old new repertoire c }
     ensures only { (names : KeysymNames) (old new : List Definition) (repertoire : model.Repertoire) (c : model.Certificate) → IsValid names old new repertoire c → fault_of names old new repertoire c ≡ None }
 {}
@@ -63,7 +63,7 @@ pub fn check<T: ComposeTable, U: ComposeTable>(
     // each character of the repertoire can be typed
     ensures types { result ≡ Verdict.Yes → TypesAll names.now (U.definitions new.now) repertoire.now certificate.now.typings }
 {
-    law_demands();
+    law_conditions();
     law_pairs_lift();
     law_bound();
     match first_fault(old, new, names, repertoire, certificate) {
@@ -72,7 +72,7 @@ pub fn check<T: ComposeTable, U: ComposeTable>(
     }
 }
 
-/// The fault of the first demand that the certificate does not meet. Every table is settled, so none has an overlap.
+/// The fault of the first condition that the certificate does not meet. Every table is settled, so none has an overlap.
 fn first_fault<T: ComposeTable, U: ComposeTable>(
     old: &T,
     new: &U,

@@ -1,4 +1,4 @@
--- The first demand that is not met, over lists of demands.
+-- The first condition that is not met, over lists of conditions.
 use Rattle.std.proofs.Common.{◌≡◌, ℕ, List, [], ◌∷◌, ◌++◌, Bool, true, false, cond, not, ◌&&◌, map, drop, ◌+◌, refl, sym, ◌∙◌, ap}
 use Rattle.std.specs.Prelude.{flat_map, slice_get, Option, Some, None}
 use Rattle.std.specs.List.{find, list_all}
@@ -8,22 +8,22 @@ use Rattle.std.proofs.lemmas.List.{drop_more}
 use Rattle.std.proofs.lemmas.List.Folds.{find-append, list_all-append}
 use Rattle.std.proofs.lemmas.Option.{slice_get_within, get_or_from_slice_get}
 use Rattle.compose_fresh.specs.declared.fault.CheckFault.{CheckFault}
-use Rattle.compose_fresh.specs.Demands.{Demand, demand, first_unmet}
+use Rattle.compose_fresh.specs.Conditions.{Condition, condition, first_unmet}
 
 -- the first of all is the first of these, or that of the others
-pub first_unmet-append : (xs ys : List Demand) → first_unmet (xs ++ ys) ≡ option_or (first_unmet xs) (first_unmet ys)
+pub first_unmet-append : (xs ys : List Condition) → first_unmet (xs ++ ys) ≡ option_or (first_unmet xs) (first_unmet ys)
 first_unmet-append xs ys =
-    ap (option_map (λ (d : Demand). d.fault)) (find-append (λ (d : Demand). not d.met) xs ys) ∙ go (find (λ (d : Demand). not d.met) xs)
+    ap (option_map (λ (d : Condition). d.fault)) (find-append (λ (d : Condition). not d.met) xs ys) ∙ go (find (λ (d : Condition). not d.met) xs)
   where
-    go : (o : Option Demand) → option_map (λ (d : Demand). d.fault) (option_or o (find (λ (d : Demand). not d.met) ys)) ≡ option_or (option_map (λ (d : Demand). d.fault) o) (first_unmet ys)
+    go : (o : Option Condition) → option_map (λ (d : Condition). d.fault) (option_or o (find (λ (d : Condition). not d.met) ys)) ≡ option_or (option_map (λ (d : Condition). d.fault) o) (first_unmet ys)
     go None = refl
     go (Some d) = refl
 
-pub first_unmet-met : (met : Bool) (fault : CheckFault) (ds : List Demand) → met ≡ true → first_unmet (demand met fault ∷ ds) ≡ first_unmet ds
+pub first_unmet-met : (met : Bool) (fault : CheckFault) (ds : List Condition) → met ≡ true → first_unmet (condition met fault ∷ ds) ≡ first_unmet ds
 first_unmet-met true fault ds h = refl
 first_unmet-met false fault ds h = cc
 
-pub first_unmet-fault : (met : Bool) (fault : CheckFault) (ds : List Demand) → met ≡ false → first_unmet (demand met fault ∷ ds) ≡ Some fault
+pub first_unmet-fault : (met : Bool) (fault : CheckFault) (ds : List Condition) → met ≡ false → first_unmet (condition met fault ∷ ds) ≡ Some fault
 first_unmet-fault true fault ds h = cc
 first_unmet-fault false fault ds h = refl
 
@@ -34,29 +34,29 @@ none_left (Some x) h = absurd (h x refl)
 
 -- ---- where all are met
 
-abbrev pub all_met : List Demand → Bool
-all_met ds = list_all (λ (d : Demand). d.met) ds
+abbrev pub all_met : List Condition → Bool
+all_met ds = list_all (λ (d : Condition). d.met) ds
 
 -- none is unmet exactly where all are met
-pub met_from_none : (ds : List Demand) → first_unmet ds ≡ None → all_met ds ≡ true
+pub met_from_none : (ds : List Condition) → first_unmet ds ≡ None → all_met ds ≡ true
 met_from_none [] h = refl
 met_from_none (d ∷ ds) h = go d.met refl h (met_from_none ds)
   where
-    go : (b : Bool) → d.met ≡ b → option_map (λ (d : Demand). d.fault) (cond (not b) (Some d) (find (λ (d : Demand). not d.met) ds)) ≡ None → (first_unmet ds ≡ None → all_met ds ≡ true) → d.met && all_met ds ≡ true
+    go : (b : Bool) → d.met ≡ b → option_map (λ (d : Condition). d.fault) (cond (not b) (Some d) (find (λ (d : Condition). not d.met) ds)) ≡ None → (first_unmet ds ≡ None → all_met ds ≡ true) → d.met && all_met ds ≡ true
     go true e h later = and_from d.met (all_met ds) e (later h)
     go false e h later = cc
 
-pub none_from_met : (ds : List Demand) → all_met ds ≡ true → first_unmet ds ≡ None
+pub none_from_met : (ds : List Condition) → all_met ds ≡ true → first_unmet ds ≡ None
 none_from_met [] h = refl
 none_from_met (d ∷ ds) h = go d.met refl (and_parts d.met (all_met ds) h) (none_from_met ds)
   where
-    go : (b : Bool) → d.met ≡ b → (d.met ≡ true) × (all_met ds ≡ true) → (all_met ds ≡ true → first_unmet ds ≡ None) → option_map (λ (d : Demand). d.fault) (cond (not b) (Some d) (find (λ (d : Demand). not d.met) ds)) ≡ None
+    go : (b : Bool) → d.met ≡ b → (d.met ≡ true) × (all_met ds ≡ true) → (all_met ds ≡ true → first_unmet ds ≡ None) → option_map (λ (d : Condition). d.fault) (cond (not b) (Some d) (find (λ (d : Condition). not d.met) ds)) ≡ None
     go true e h later = later h.1
     go false e h later = absurd (let clash : false ≡ true = sym e ∙ h.0 in cc)
 
-pub all_met-flat_map : {X : Type 0} (f : X → List Demand) (xs : List X) → all_met (flat_map f xs) ≡ list_all (λ x. all_met (f x)) xs
+pub all_met-flat_map : {X : Type 0} (f : X → List Condition) (xs : List X) → all_met (flat_map f xs) ≡ list_all (λ x. all_met (f x)) xs
 all_met-flat_map f [] = refl
-all_met-flat_map f (x ∷ xs) = list_all-append (λ (d : Demand). d.met) (f x) (flat_map f xs) ∙ ap (λ b. all_met (f x) && b) (all_met-flat_map f xs)
+all_met-flat_map f (x ∷ xs) = list_all-append (λ (d : Condition). d.met) (f x) (flat_map f xs) ∙ ap (λ b. all_met (f x) && b) (all_met-flat_map f xs)
 
 -- two tests side by side
 pub each_of : {X : Type 0} (p q : X → Bool) (xs : List X) → list_all (λ x. p x && (q x && true)) xs ≡ true → (list_all p xs ≡ true) × (list_all q xs ≡ true)
@@ -81,22 +81,22 @@ pub drop_at : {X : Type 0} (xs : List X) (i : ℕ) (x : X) → slice_get xs i �
 drop_at xs i x e = drop_more xs i x (slice_get_within xs i x e) ∙ ap (λ y. y ∷ drop (i + 1) xs) (get_or_from_slice_get xs i x x e)
 
 -- these, and those that follow
-pub unmet_before : (xs ys : List Demand) (fault : CheckFault) → first_unmet xs ≡ Some fault → first_unmet (xs ++ ys) ≡ Some fault
+pub unmet_before : (xs ys : List Condition) (fault : CheckFault) → first_unmet xs ≡ Some fault → first_unmet (xs ++ ys) ≡ Some fault
 unmet_before xs ys fault h = first_unmet-append xs ys ∙ ap (λ o. option_or o (first_unmet ys)) h
 
-pub met_before : (xs ys : List Demand) → first_unmet xs ≡ None → first_unmet (xs ++ ys) ≡ first_unmet ys
+pub met_before : (xs ys : List Condition) → first_unmet xs ≡ None → first_unmet (xs ++ ys) ≡ first_unmet ys
 met_before xs ys h = first_unmet-append xs ys ∙ ap (λ o. option_or o (first_unmet ys)) h
 
 -- where each element has several
-pub unmet_at : {X : Type 0} (f : X → List Demand) (xs : List X) (i : ℕ) (x : X) (fault : CheckFault) → slice_get xs i ≡ Some x → first_unmet (f x) ≡ Some fault → first_unmet (flat_map f (drop i xs)) ≡ Some fault
+pub unmet_at : {X : Type 0} (f : X → List Condition) (xs : List X) (i : ℕ) (x : X) (fault : CheckFault) → slice_get xs i ≡ Some x → first_unmet (f x) ≡ Some fault → first_unmet (flat_map f (drop i xs)) ≡ Some fault
 unmet_at f xs i x fault e h = ap (λ ys. first_unmet (flat_map f ys)) (drop_at xs i x e) ∙ unmet_before (f x) (flat_map f (drop (i + 1) xs)) fault h
 
-pub met_at : {X : Type 0} (f : X → List Demand) (xs : List X) (i : ℕ) (x : X) → slice_get xs i ≡ Some x → first_unmet (f x) ≡ None → first_unmet (flat_map f (drop (i + 1) xs)) ≡ first_unmet (flat_map f (drop i xs))
+pub met_at : {X : Type 0} (f : X → List Condition) (xs : List X) (i : ℕ) (x : X) → slice_get xs i ≡ Some x → first_unmet (f x) ≡ None → first_unmet (flat_map f (drop (i + 1) xs)) ≡ first_unmet (flat_map f (drop i xs))
 met_at f xs i x e h = sym (ap (λ ys. first_unmet (flat_map f ys)) (drop_at xs i x e) ∙ met_before (f x) (flat_map f (drop (i + 1) xs)) h)
 
 -- where each has one
-pub one_unmet_at : {X : Type 0} (f : X → Demand) (xs : List X) (i : ℕ) (x : X) → slice_get xs i ≡ Some x → (f x).met ≡ false → first_unmet (map f (drop i xs)) ≡ Some (f x).fault
+pub one_unmet_at : {X : Type 0} (f : X → Condition) (xs : List X) (i : ℕ) (x : X) → slice_get xs i ≡ Some x → (f x).met ≡ false → first_unmet (map f (drop i xs)) ≡ Some (f x).fault
 one_unmet_at f xs i x e h = ap (λ ys. first_unmet (map f ys)) (drop_at xs i x e) ∙ first_unmet-fault (f x).met (f x).fault (map f (drop (i + 1) xs)) h
 
-pub one_met_at : {X : Type 0} (f : X → Demand) (xs : List X) (i : ℕ) (x : X) → slice_get xs i ≡ Some x → (f x).met ≡ true → first_unmet (map f (drop (i + 1) xs)) ≡ first_unmet (map f (drop i xs))
+pub one_met_at : {X : Type 0} (f : X → Condition) (xs : List X) (i : ℕ) (x : X) → slice_get xs i ≡ Some x → (f x).met ≡ true → first_unmet (map f (drop (i + 1) xs)) ≡ first_unmet (map f (drop i xs))
 one_met_at f xs i x e h = sym (ap (λ ys. first_unmet (map f ys)) (drop_at xs i x e) ∙ first_unmet-met (f x).met (f x).fault (map f (drop (i + 1) xs)) h)

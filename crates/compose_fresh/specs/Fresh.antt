@@ -5,14 +5,14 @@ use Rattle.compose_model.specs.Table.{Definition, has_key}
 use Rattle.compose_model.specs.Nodes.{keysyms}
 use Rattle.compose_model.specs.Certificate.{keys_rise}
 use Rattle.compose_fresh.specs.declared.fault.CheckFault.TheVariants.{FreshNotRising, FreshIgnored, FreshUsed}
-use Rattle.compose_fresh.specs.Demands.{Demand, demand}
+use Rattle.compose_fresh.specs.Conditions.{Condition, condition}
 
 -- the most fresh keysyms that a certificate may have (this project's profile)
 abbrev pub max_fresh : ℕ
 max_fresh = 1048576
 
-abbrev pub one_fresh_demands : List Definition → ℕ → List Demand
-one_fresh_demands old k = demand (not (is_ignored k)) (FreshIgnored k) ∷ demand (not (has_key (keysyms old) k)) (FreshUsed k) ∷ []
+abbrev pub one_fresh_conditions : List Definition → ℕ → List Condition
+one_fresh_conditions old k = condition (not (is_ignored k)) (FreshIgnored k) ∷ condition (not (has_key (keysyms old) k)) (FreshUsed k) ∷ []
 
-abbrev pub fresh_demands : List Definition → List ℕ → List Demand
-fresh_demands old fresh = demand (keys_rise fresh) FreshNotRising ∷ flat_map (one_fresh_demands old) fresh
+abbrev pub fresh_conditions : List Definition → List ℕ → List Condition
+fresh_conditions old fresh = condition (keys_rise fresh) FreshNotRising ∷ flat_map (one_fresh_conditions old) fresh

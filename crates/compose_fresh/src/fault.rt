@@ -2,7 +2,7 @@
 use keysym_core::{Keysym, ShownChar, ShownKeysym};
 use thiserror::Error;
 
-/// The first demand that a certificate does not meet. `pair` is the index of the pair.
+/// The first condition that a certificate does not meet. `pair` is the index of the pair.
 #[derive(Clone, Copy, Debug, PartialEq, Eq, Drop, Error)]
 pub enum CheckFault {
     /// The pairs do not strictly rise by their old and then their new number.

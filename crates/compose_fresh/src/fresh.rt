@@ -1,11 +1,11 @@
-//! The demands on fresh keysyms: those for which nothing is promised, since the old table does not know them.
+//! The conditions on fresh keysyms: those for which nothing is promised, since the old table does not know them.
 ghost use Rattle.std.specs.Prelude.{◌≡◌, ◌==◌, ◌<◌, ℕ, List, None, length, flat_map, IsTrue};
 ghost use Rattle.std.specs.List.{position_or_len};
 ghost use Rattle.compose_model.specs.Table.{Definition, has_key};
 ghost use Rattle.compose_model.specs.Nodes.{nodes, node as node_at, edges, keysyms};
 ghost use Rattle.compose_model.specs.Certificate.{AreFresh, keys_rise};
-ghost use Rattle.compose_fresh.specs.Demands.{first_unmet};
-ghost use Rattle.compose_fresh.specs.Fresh.{fresh_demands, one_fresh_demands};
+ghost use Rattle.compose_fresh.specs.Conditions.{first_unmet};
+ghost use Rattle.compose_fresh.specs.Fresh.{fresh_conditions, one_fresh_conditions};
 
 use crate::fault::CheckFault;
 use compose_tree::{ComposeTable, NodeId};
@@ -14,10 +14,10 @@ use keysym_core::Keysym;
 /// The most fresh keysyms that a certificate can have.
 pub const MAX_FRESH: usize = 1_048_576;
 
-/// The first demand on fresh keysyms that these do not meet: they strictly rise, none is ignored, and none stands in a sequence
+/// The first condition on fresh keysyms that these do not meet: they strictly rise, none is ignored, and none stands in a sequence
 /// of the old table. O(edges of the table × log n + n) in the number n of the keysyms, or O(n) where there are none; no memory.
 pub fn check_fresh<T: ComposeTable>(old: &T, fresh: &[Keysym]) -> Option<CheckFault>
-    ensures exact { result ≡ first_unmet (fresh_demands (T.definitions old.now) fresh.now) }
+    ensures exact { result ≡ first_unmet (fresh_conditions (T.definitions old.now) fresh.now) }
     ensures clear { result ≡ None → AreFresh fresh.now (T.definitions old.now) }
     ensures only { AreFresh fresh.now (T.definitions old.now) → result ≡ None }
 {
@@ -54,7 +54,7 @@ fn are_rising(keysyms: &[Keysym]) -> bool
 
 /// The first fresh keysym that is ignored or used, where the first one that is used has the index `used`, if there is one.
 fn first_stale(fresh: &[Keysym], used: usize) -> Option<CheckFault>
-    ensures { (old : List Definition) → used ≡ position_or_len (has_key (keysyms old)) fresh.now → result ≡ first_unmet (flat_map (one_fresh_demands old) fresh.now) }
+    ensures { (old : List Definition) → used ≡ position_or_len (has_key (keysyms old)) fresh.now → result ≡ first_unmet (flat_map (one_fresh_conditions old) fresh.now) }
 {
     for index in 0..fresh.len() {
         let keysym = fresh[index];

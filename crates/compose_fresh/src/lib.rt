@@ -1,7 +1,7 @@
 //! Which keysyms are fresh for a table, and what can be wrong with a certificate.
 //!
 //! Fresh keysyms are those for which a move from an old table to a new one promises nothing, since the old table does not know
-//! them. [`check_fresh`] says which demand on them fails first. The faults of a certificate stand here, since both the checker
+//! them. [`check_fresh`] says which condition on them fails first. The faults of a certificate stand here, since both the checker
 //! and those who look for differences and make certificates tell that fault.
 #![tactic(auto)]
 

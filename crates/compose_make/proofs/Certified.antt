@@ -18,8 +18,8 @@ use Rattle.compose_model.proofs.Definitions.{sequence_few}
 use Rattle.compose_model.specs.Nodes.{nodes, number_of}
 use Rattle.compose_model.specs.Step.{pending}
 use Rattle.compose_fresh.specs.declared.fault.CheckFault.{CheckFault}
-use Rattle.compose_fresh.specs.Demands.{first_unmet}
-use Rattle.compose_fresh.specs.Fresh.{fresh_demands}
+use Rattle.compose_fresh.specs.Conditions.{first_unmet}
+use Rattle.compose_fresh.specs.Fresh.{fresh_conditions}
 use Rattle.compose_walk.specs.declared.fault.MakeFault.{MakeFault}
 use Rattle.compose_walk.specs.declared.fault.MakeFault.TheVariants.{BadFresh, TooManyFresh}
 use Rattle.compose_walk.specs.Walks.{IsFollower}
@@ -108,11 +108,11 @@ module _ (names : KeysymNames) (table : List Definition) (repertoire : Repertoir
   }
 
 -- what was walked was accepted
-pub accepted : {X : Type 0} (old : List Definition) (fresh : List ℕ) (r : Result X MakeFault) (x : X) → r ≡ Ok x → ((fault : CheckFault) → first_unmet (fresh_demands old fresh) ≡ Some fault → r ≡ Err (BadFresh fault))
-    → (first_unmet (fresh_demands old fresh) ≡ None → 1048576 < length fresh → r ≡ Err TooManyFresh) → (first_unmet (fresh_demands old fresh) ≡ None) × (length fresh ≤ 1048576)
-accepted old fresh r x ok bad many = go (first_unmet (fresh_demands old fresh)) refl
+pub accepted : {X : Type 0} (old : List Definition) (fresh : List ℕ) (r : Result X MakeFault) (x : X) → r ≡ Ok x → ((fault : CheckFault) → first_unmet (fresh_conditions old fresh) ≡ Some fault → r ≡ Err (BadFresh fault))
+    → (first_unmet (fresh_conditions old fresh) ≡ None → 1048576 < length fresh → r ≡ Err TooManyFresh) → (first_unmet (fresh_conditions old fresh) ≡ None) × (length fresh ≤ 1048576)
+accepted old fresh r x ok bad many = go (first_unmet (fresh_conditions old fresh)) refl
   where
-    go : (o : Option CheckFault) → first_unmet (fresh_demands old fresh) ≡ o → (first_unmet (fresh_demands old fresh) ≡ None) × (length fresh ≤ 1048576)
+    go : (o : Option CheckFault) → first_unmet (fresh_conditions old fresh) ≡ o → (first_unmet (fresh_conditions old fresh) ≡ None) × (length fresh ≤ 1048576)
     go (Some fault) e = let clash : Ok x ≡ Err (BadFresh fault) = sym ok ∙ bad fault e in cc
     go None e = (e, elim (cases_lt 1048576 (length fresh)) [ inl l ↦ absurd (let clash : Ok x ≡ Err TooManyFresh = sym ok ∙ many e l in cc) | inr l ↦ l ])
 

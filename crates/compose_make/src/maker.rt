@@ -3,8 +3,8 @@ ghost use Rattle.std.specs.Prelude.{◌≡◌, ◌<◌, ◌≤◌, ℕ, List, So
 ghost use Rattle.compose_model.specs.Table.{Definition};
 ghost use Rattle.compose_model.specs.Certificate.{AreFresh};
 ghost use Rattle.compose_tree.specs.Targets.{max_nodes};
-ghost use Rattle.compose_fresh.specs.Demands.{first_unmet};
-ghost use Rattle.compose_fresh.specs.Fresh.{fresh_demands, max_fresh};
+ghost use Rattle.compose_fresh.specs.Conditions.{first_unmet};
+ghost use Rattle.compose_fresh.specs.Fresh.{fresh_conditions, max_fresh};
 ghost use Rattle.compose_walk.specs.Walks.{IsFollower};
 ghost use Rattle.compose_make.specs.Made.{IsMade};
 
@@ -43,9 +43,9 @@ pub fn make<T: ComposeTable, U: ComposeTable>(
     repertoire: &Repertoire,
     fresh: &[Keysym],
 ) -> Result<Made, MakeFault>
-    ensures bad_fresh { (fault : CheckFault) → first_unmet (fresh_demands (T.definitions old.now) fresh.now) ≡ Some fault → result ≡ Err (MakeFault.BadFresh fault) }
-    ensures too_many { first_unmet (fresh_demands (T.definitions old.now) fresh.now) ≡ None → max_fresh < length fresh.now → result ≡ Err MakeFault.TooManyFresh }
-    ensures answer { first_unmet (fresh_demands (T.definitions old.now) fresh.now) ≡ None → length fresh.now ≤ max_fresh
+    ensures bad_fresh { (fault : CheckFault) → first_unmet (fresh_conditions (T.definitions old.now) fresh.now) ≡ Some fault → result ≡ Err (MakeFault.BadFresh fault) }
+    ensures too_many { first_unmet (fresh_conditions (T.definitions old.now) fresh.now) ≡ None → max_fresh < length fresh.now → result ≡ Err MakeFault.TooManyFresh }
+    ensures answer { first_unmet (fresh_conditions (T.definitions old.now) fresh.now) ≡ None → length fresh.now ≤ max_fresh
         → MatchResult result (IsMade names.now fresh.now (T.definitions old.now) (U.definitions new.now) repertoire.now) (λ e. e ≡ MakeFault.NoMemory) }
 {
     // A call's contract says that the table is settled.

@@ -11,7 +11,7 @@ use Rattle.compose_tree.specs.declared.table.BuildFault.TheVariants as build_fau
 use Rattle.compose_tree.specs.declared.reading.TableFault.{TableFault}
 use Rattle.compose_tree.specs.declared.reading.TableFault.TheVariants as table_faults
 use Rattle.compose_cert.specs.declared.CertFault.{CertFault}
-use Rattle.compose_check.specs.Demands.{fault_of}
+use Rattle.compose_check.specs.Conditions.{fault_of}
 use Rattle.compose_check.specs.Verdict.{verdict_of}
 use Rattle.compose_migration.specs.Given.{TableFails}
 use Rattle.compose_fresh.specs.declared.fault.CheckFault.{CheckFault}

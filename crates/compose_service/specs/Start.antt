@@ -9,7 +9,7 @@ use Rattle.compose_tree.specs.declared.reading.TableFault.{TableFault}
 use Rattle.compose_tree.specs.declared.reading.TableFault.TheVariants as table_faults
 use Rattle.compose_cert.specs.declared.CertFault.{CertFault}
 use Rattle.compose_cert.specs.declared.CertFault.TheVariants as cert_faults
-use Rattle.compose_check.specs.Demands.{fault_of}
+use Rattle.compose_check.specs.Conditions.{fault_of}
 use Rattle.compose_migration.specs.Given.{TableFails}
 use Rattle.compose_fresh.specs.declared.fault.CheckFault.{CheckFault}
 use Rattle.compose_machine.specs.Machine.{ServiceState}

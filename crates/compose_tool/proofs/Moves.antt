@@ -11,8 +11,8 @@ use Rattle.compose_migration.specs.declared.fault.MigrationFault.TheVariants as 
 use Rattle.keysym_core.specs.declared.fault.NameFault.TheVariants as name_faults
 use Rattle.compose_cert.specs.declared.CertFault.TheVariants as cert_faults
 use Rattle.compose_cert.specs.declared.RepertoireFault.TheVariants as repertoire_faults
-use Rattle.compose_fresh.specs.Fresh.{fresh_demands}
-use Rattle.compose_fresh.specs.Demands.{first_unmet}
+use Rattle.compose_fresh.specs.Fresh.{fresh_conditions}
+use Rattle.compose_fresh.specs.Conditions.{first_unmet}
 use Rattle.compose_check.specs.Input.{Parts, Unread, no_migration}
 use Rattle.compose_check.specs.Gives.{InputRefused}
 use Rattle.compose_fresh.specs.declared.fault.CheckFault.{CheckFault}
@@ -64,9 +64,9 @@ module _ {P : Type 0} where
 
 -- where a walk or a maker has an answer, they have no fault
 pub taken : {W P : Type 0} (IsAnswer : W → Type 0) (old : List Definition) (fresh : List ℕ) (parts : P) (r : Result W MakeFault) (w : W) → r ≡ Ok w
-    → ((fault : CheckFault) → first_unmet (fresh_demands old fresh) ≡ Some fault → r ≡ Err (BadFresh fault))
-    → (first_unmet (fresh_demands old fresh) ≡ None → 1048576 < length fresh → r ≡ Err TooManyFresh)
-    → (first_unmet (fresh_demands old fresh) ≡ None → length fresh ≤ 1048576 → IsAnswer w)
+    → ((fault : CheckFault) → first_unmet (fresh_conditions old fresh) ≡ Some fault → r ≡ Err (BadFresh fault))
+    → (first_unmet (fresh_conditions old fresh) ≡ None → 1048576 < length fresh → r ≡ Err TooManyFresh)
+    → (first_unmet (fresh_conditions old fresh) ≡ None → length fresh ≤ 1048576 → IsAnswer w)
     → (accepted fresh old parts ≡ Ok parts) × IsAnswer w
 taken IsAnswer old fresh parts r w was bad many answer =
     let ok = certified.accepted old fresh r w was bad many in (

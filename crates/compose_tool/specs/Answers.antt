@@ -35,7 +35,7 @@ IsTyped p (FreshNotAllowed keysym) = ⊥
 
 -- ---- check
 
--- the verdict on the certificate: `yes`, or the first demand that it does not meet
+-- the verdict on the certificate: `yes`, or the first condition that it does not meet
 abbrev pub IsChecked : checks.Parts → Answer → Type 0
 IsChecked p (Yes text) = (verdict_on p ≡ verdicts.Yes) × (string_bytes text ≡ one_line (codes "yes"))
 IsChecked p (No text) = ⊥

@@ -10,8 +10,8 @@ use Rattle.compose_model.specs.Certificate.{Repertoire}
 use Rattle.compose_tree.specs.Given.{NoTable, first_table}
 use Rattle.compose_migration.specs.Migration.{GivenMigration, NoMigration, NamedParts, TableSources, Parts, or_because, named, migration_of}
 use Rattle.compose_cert.specs.Repertoire.{repertoire_of}
-use Rattle.compose_fresh.specs.Fresh.{fresh_demands, max_fresh}
-use Rattle.compose_fresh.specs.Demands.{first_unmet}
+use Rattle.compose_fresh.specs.Fresh.{fresh_conditions, max_fresh}
+use Rattle.compose_fresh.specs.Conditions.{first_unmet}
 use Rattle.compose_check.specs.Input as checks
 use Rattle.compose_check.specs.Input.{Unread, no_migration, no_repertoire, parts_of}
 use Rattle.compose_walk.specs.declared.fault.MakeFault.{MakeFault}
@@ -56,9 +56,9 @@ allowed_parts words input = do
 abbrev pub migration_parts : GivenMigration → Result Parts NoAnswer
 migration_parts given = or_because (λ why. unread (no_migration why)) (migration_of given)
 
--- the first demand that the fresh keysyms do not meet for the old table; or they are more than a certificate can have
+-- the first condition that the fresh keysyms do not meet for the old table; or they are more than a certificate can have
 abbrev pub fresh_fault : List Definition → List ℕ → Option MakeFault
-fresh_fault old fresh = option_map_or (λ fault. Some (BadFresh fault)) (first_unmet (fresh_demands old fresh)) (if nat_lt max_fresh (length fresh) then Some TooManyFresh else None)
+fresh_fault old fresh = option_map_or (λ fault. Some (BadFresh fault)) (first_unmet (fresh_conditions old fresh)) (if nat_lt max_fresh (length fresh) then Some TooManyFresh else None)
 
 -- the parts, where the fresh keysyms have no fault
 abbrev pub accepted : {P : Type 0} → List ℕ → List Definition → P → Result P NoAnswer

@@ -14,7 +14,7 @@ pub enum Answer {
     Yes(String),
     /// The tables differ, or a character can't be typed, with this text.
     No(String),
-    /// The certificate is not valid: the first demand that it does not meet, which is printed behind `no: `.
+    /// The certificate is not valid: the first condition that it does not meet, which is printed behind `no: `.
     Invalid(CheckFault),
     /// The certificate is valid, but this fresh keysym of it, the first such one, is not among those that are allowed.
     FreshNotAllowed(Keysym),

@@ -17,7 +17,7 @@ use compose_tree::ComposeTable;
 use keysym_core::Keysym;
 use std::alloc::Global;
 
-/// Checks a certificate: `yes`, or the first demand that it does not meet. The parts are read in the order names, old table, new
+/// Checks a certificate: `yes`, or the first condition that it does not meet. The parts are read in the order names, old table, new
 /// table, repertoire, certificate, and the first that is refused decides. At the cost of `check_bytes`.
 pub fn check_migration<T: ComposeTable>(
     alloc: Global,

@@ -22,7 +22,7 @@ rests_by : (u v : List ℕ) → is_empty u && not (is_empty v) ≡ false → u �
 rests_by [] v h e = empty_is v (not-false (is_empty v) h)
 rests_by (k ∷ u) v h e = cc
 
--- where no demand fails, the steps agree
+-- where no condition fails, the steps agree
 pub agreement : (a b : Step) → difference a b ≡ None → Agrees a b
 agreement a b h = go (is_cancel b.effect) (same b.text a.text) (is_empty a.pending && not (is_empty b.pending)) refl refl refl h
   where
@@ -37,7 +37,7 @@ rest_test : (u v : List ℕ) → (u ≡ [] → v ≡ []) → is_empty u && not (
 rest_test [] v r = ap (λ y. not (is_empty y)) (r refl)
 rest_test (k ∷ u) v r = refl
 
--- and where the steps agree, no demand fails
+-- and where the steps agree, no condition fails
 pub no_difference : (a b : Step) → Agrees a b → difference a b ≡ None
 no_difference a b h = rw (not-true (is_cancel b.effect) (no_cancel_test b.effect h.not_cancelled), same_from b.text a.text h.same_text, rest_test a.pending b.pending h.rests) refl
 

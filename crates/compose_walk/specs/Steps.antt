@@ -20,7 +20,7 @@ pub record IsStep (names : KeysymNames) (table : List Definition) (p : List ℕ)
   pub text : text_bytes s.text ≡ (step names table p k).text
   pub next : s.next.0 ≡ number_of table (step names table p k).pending
 
--- the first demand that fails, if one does
+-- the first condition that fails, if one does
 abbrev pub difference_of : KeyStep → KeyStep → Option Kind
 difference_of old new =
     if new.cancels then Some Cancelled else

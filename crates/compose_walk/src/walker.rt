@@ -2,8 +2,8 @@
 ghost use Rattle.std.specs.Prelude.{◌≡◌, ◌<◌, ◌≤◌, ◌++◌, ◌∷◌, [], ℕ, List, Some, None, true, IsTrue, ◌^◌, Err, Ok, length, map, drop, IfOk, IfErr, MatchResult};
 ghost use Rattle.std.specs.List.{IsFirstBest};
 ghost use Rattle.compose_model.specs.Certificate.{AreFresh};
-ghost use Rattle.compose_fresh.specs.Demands.{first_unmet};
-ghost use Rattle.compose_fresh.specs.Fresh.{fresh_demands, max_fresh};
+ghost use Rattle.compose_fresh.specs.Conditions.{first_unmet};
+ghost use Rattle.compose_fresh.specs.Fresh.{fresh_conditions, max_fresh};
 ghost use Rattle.compose_walk.specs.Evidence.{AreDifferences};
 ghost use Rattle.compose_walk.specs.Stands.{comes_sooner, stand_pairs};
 ghost use Rattle.compose_walk.specs.Walks.{IsWalk};
@@ -29,9 +29,9 @@ pub fn walk<T: ComposeTable, U: ComposeTable>(
     names: &Names,
     fresh: &[Keysym],
 ) -> Result<Walk, MakeFault>
-    ensures bad_fresh { (fault : CheckFault) → first_unmet (fresh_demands (T.definitions old.now) fresh.now) ≡ Some fault → result ≡ Err (MakeFault.BadFresh fault) }
-    ensures too_many { first_unmet (fresh_demands (T.definitions old.now) fresh.now) ≡ None → max_fresh < length fresh.now → result ≡ Err MakeFault.TooManyFresh }
-    ensures answer { first_unmet (fresh_demands (T.definitions old.now) fresh.now) ≡ None → length fresh.now ≤ max_fresh
+    ensures bad_fresh { (fault : CheckFault) → first_unmet (fresh_conditions (T.definitions old.now) fresh.now) ≡ Some fault → result ≡ Err (MakeFault.BadFresh fault) }
+    ensures too_many { first_unmet (fresh_conditions (T.definitions old.now) fresh.now) ≡ None → max_fresh < length fresh.now → result ≡ Err MakeFault.TooManyFresh }
+    ensures answer { first_unmet (fresh_conditions (T.definitions old.now) fresh.now) ≡ None → length fresh.now ≤ max_fresh
         → MatchResult result (IsWalk names.now fresh.now (T.definitions old.now) (U.definitions new.now)) (λ e. e ≡ MakeFault.NoMemory) }
 {
     accept_fresh(old, fresh)?;
@@ -50,9 +50,9 @@ pub fn differences<T: ComposeTable, U: ComposeTable>(
     names: &Names,
     fresh: &[Keysym],
 ) -> Result<Differences, MakeFault>
-    ensures bad_fresh { (fault : CheckFault) → first_unmet (fresh_demands (T.definitions old.now) fresh.now) ≡ Some fault → result ≡ Err (MakeFault.BadFresh fault) }
-    ensures too_many { first_unmet (fresh_demands (T.definitions old.now) fresh.now) ≡ None → max_fresh < length fresh.now → result ≡ Err MakeFault.TooManyFresh }
-    ensures answer { first_unmet (fresh_demands (T.definitions old.now) fresh.now) ≡ None → length fresh.now ≤ max_fresh
+    ensures bad_fresh { (fault : CheckFault) → first_unmet (fresh_conditions (T.definitions old.now) fresh.now) ≡ Some fault → result ≡ Err (MakeFault.BadFresh fault) }
+    ensures too_many { first_unmet (fresh_conditions (T.definitions old.now) fresh.now) ≡ None → max_fresh < length fresh.now → result ≡ Err MakeFault.TooManyFresh }
+    ensures answer { first_unmet (fresh_conditions (T.definitions old.now) fresh.now) ≡ None → length fresh.now ≤ max_fresh
         → MatchResult result (AreDifferences names.now fresh.now (T.definitions old.now) (U.definitions new.now)) (λ e. e ≡ MakeFault.NoMemory) }
 {
     accept_fresh(old, fresh)?;
@@ -61,9 +61,9 @@ pub fn differences<T: ComposeTable, U: ComposeTable>(
 
 /// Refuses keysyms that are not fresh for the old table, or too many of them.
 pub fn accept_fresh<T: ComposeTable>(old: &T, fresh: &[Keysym]) -> Result<(), MakeFault>
-    ensures bad_fresh { (fault : CheckFault) → first_unmet (fresh_demands (T.definitions old.now) fresh.now) ≡ Some fault → result ≡ Err (MakeFault.BadFresh fault) }
-    ensures too_many { first_unmet (fresh_demands (T.definitions old.now) fresh.now) ≡ None → max_fresh < length fresh.now → result ≡ Err MakeFault.TooManyFresh }
-    ensures accepted { first_unmet (fresh_demands (T.definitions old.now) fresh.now) ≡ None → length fresh.now ≤ max_fresh → result ≡ Ok tt }
+    ensures bad_fresh { (fault : CheckFault) → first_unmet (fresh_conditions (T.definitions old.now) fresh.now) ≡ Some fault → result ≡ Err (MakeFault.BadFresh fault) }
+    ensures too_many { first_unmet (fresh_conditions (T.definitions old.now) fresh.now) ≡ None → max_fresh < length fresh.now → result ≡ Err MakeFault.TooManyFresh }
+    ensures accepted { first_unmet (fresh_conditions (T.definitions old.now) fresh.now) ≡ None → length fresh.now ≤ max_fresh → result ≡ Ok tt }
     ensures fresh { IfOk result (λ _. AreFresh fresh.now (T.definitions old.now)) }
 {
     if let Some(fault) = check_fresh(old, fresh) {

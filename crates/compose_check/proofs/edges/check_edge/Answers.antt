@@ -5,7 +5,7 @@ use Rattle.compose_model.specs.Nodes.{node}
 use Rattle.compose_model.specs.Certificate.{has_pair}
 use Rattle.compose_check.specs.Landing.{landing_text}
 use Rattle.compose_check.proofs.Landed.{landing_is_of}
-use Rattle.compose_check.proofs.EdgeDemands.{at_edge, edge_cancels, edge_differs, edge_missing, edge_is_met}
+use Rattle.compose_check.proofs.EdgeConditions.{at_edge, edge_cancels, edge_differs, edge_missing, edge_is_met}
 use Rattle.compose_check.proofs.edges.check_edge.Goals as goal
 
 pub text_to-requires : goal.text_to-requires

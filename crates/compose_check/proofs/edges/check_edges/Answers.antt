@@ -4,7 +4,7 @@ use Rattle.std.proofs.lemmas.Bool.{and_parts}
 use Rattle.compose_model.specs.Nodes.{nodes}
 use Rattle.compose_check.proofs.Lists.{all_at}
 use Rattle.compose_fresh.proofs.Unmet.{none_left}
-use Rattle.compose_check.proofs.EdgeDemands.{pair_unmet, pair_met}
+use Rattle.compose_check.proofs.EdgeConditions.{pair_unmet, pair_met}
 use Rattle.compose_check.proofs.edges.check_edges.Goals as goal
 
 pub check_pair-requires-clause-old_in_range : goal.check_pair-requires-clause-old_in_range

@@ -2,7 +2,7 @@ use Rattle.std.proofs.Common.{◌∙◌, [], ap}
 use Rattle.std.specs.Prelude.{is_some}
 use Rattle.compose_model.proofs.NodeLemmas.{node_zero}
 use Rattle.compose_tree.specs.Targets.{target_of}
-use Rattle.compose_check.proofs.StartDemands.{has_root, begins_somewhere}
+use Rattle.compose_check.proofs.StartConditions.{has_root, begins_somewhere}
 use Rattle.compose_check.proofs.starts.begins.Goals as goal
 
 pub step-requires : goal.step-requires

@@ -1,11 +1,11 @@
 use Rattle.std.proofs.Common.{◌≡◌, [], map, drop}
 use Rattle.compose_model.specs.Nodes.{edges}
-use Rattle.compose_fresh.specs.Demands.{first_unmet}
-use Rattle.compose_check.specs.Demands.{start_demand, start_demands}
+use Rattle.compose_fresh.specs.Conditions.{first_unmet}
+use Rattle.compose_check.specs.Conditions.{start_condition, start_conditions}
 use Rattle.compose_check.proofs.starts.check_starts.Given as goal
 
--- the demands on the keysyms that are left fail where those on all of them do
+-- the conditions on the keysyms that are left fail where those on all of them do
 abbrev pub invariant-loop-index : goal.invariant-loop-index
 invariant-loop-index g l =
-    first_unmet (map (start_demand l.names l.fresh (g.T.ComposeTable.definitions l.old) (g.U.ComposeTable.definitions l.new)) (drop l.index (edges (g.U.ComposeTable.definitions l.new) [])))
-    ≡ first_unmet (start_demands l.names l.fresh (g.T.ComposeTable.definitions l.old) (g.U.ComposeTable.definitions l.new))
+    first_unmet (map (start_condition l.names l.fresh (g.T.ComposeTable.definitions l.old) (g.U.ComposeTable.definitions l.new)) (drop l.index (edges (g.U.ComposeTable.definitions l.new) [])))
+    ≡ first_unmet (start_conditions l.names l.fresh (g.T.ComposeTable.definitions l.old) (g.U.ComposeTable.definitions l.new))

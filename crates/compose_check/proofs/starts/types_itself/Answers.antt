@@ -2,7 +2,7 @@ use Rattle.std.proofs.Common.{◌∙◌, ap, subst, []}
 use Rattle.std.specs.Prelude.{Some}
 use Rattle.compose_check.specs.Landing.{IsOf}
 use Rattle.compose_check.proofs.Landed.{landing_is_of}
-use Rattle.compose_check.proofs.StartDemands.{node_types_not, leaf_types}
+use Rattle.compose_check.proofs.StartConditions.{node_types_not, leaf_types}
 use Rattle.compose_check.proofs.starts.types_itself.Goals as goal
 
 pub text-requires : goal.text-requires

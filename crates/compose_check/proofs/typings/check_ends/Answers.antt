@@ -1,7 +1,7 @@
 use Rattle.std.proofs.Common.{◌∙◌, sym, ap, arith}
 use Rattle.std.specs.Prelude.{Some}
 use Rattle.compose_fresh.specs.declared.fault.CheckFault.TheVariants.{TypingUnasked}
-use Rattle.compose_check.proofs.TypingDemands.{character_left, typing_left}
+use Rattle.compose_check.proofs.TypingConditions.{character_left, typing_left}
 use Rattle.compose_check.proofs.typings.check_ends.Goals as goal
 
 pub returns-then-end-count : goal.returns-then-end-count

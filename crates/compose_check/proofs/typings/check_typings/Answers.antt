@@ -1,6 +1,6 @@
 use Rattle.std.proofs.Common.{◌∙◌, sym}
 use Rattle.compose_fresh.proofs.Unmet.{none_left}
-use Rattle.compose_check.proofs.TypingDemands.{typing_unmet, typing_met}
+use Rattle.compose_check.proofs.TypingConditions.{typing_unmet, typing_met}
 use Rattle.compose_check.proofs.typings.check_typings.Goals as goal
 
 pub returns-in-Some : goal.returns-in-Some

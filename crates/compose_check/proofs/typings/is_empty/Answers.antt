@@ -1,7 +1,7 @@
 use Rattle.std.proofs.Common.{◌∙◌, sym, ap}
 use Rattle.compose_model.specs.Step.{is_empty}
 use Rattle.compose_state.specs.Texts.{text_bytes}
-use Rattle.compose_check.proofs.TypingDemands.{character_not_empty}
+use Rattle.compose_check.proofs.TypingConditions.{character_not_empty}
 use Rattle.compose_check.proofs.typings.is_empty.Goals as goal
 
 pub returns-in-Char : goal.returns-in-Char

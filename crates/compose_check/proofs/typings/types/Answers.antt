@@ -2,7 +2,7 @@ use Rattle.std.proofs.Common.{◌∙◌, ◌+◌, [], ◌∷◌, ◌++◌, ◌&&
 use Rattle.std.proofs.lemmas.Bool.{and_left}
 use Rattle.compose_model.specs.Session.{Session}
 use Rattle.compose_model.specs.Step.{is_empty, step, pending_after}
-use Rattle.compose_check.proofs.TypingDemands.{types_from, types_at}
+use Rattle.compose_check.proofs.TypingConditions.{types_from, types_at}
 use Rattle.compose_check.proofs.typings.types.Goals as goal
 
 pub returns-then-not-is_empty : goal.returns-then-not-is_empty

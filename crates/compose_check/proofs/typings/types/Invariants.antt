@@ -1,6 +1,6 @@
 use Rattle.std.proofs.Common.{◌≡◌, [], ◌∷◌, ◌++◌, drop}
-use Rattle.compose_check.specs.Demands.{types}
-use Rattle.compose_check.proofs.TypingDemands.{types_from}
+use Rattle.compose_check.specs.Conditions.{types}
+use Rattle.compose_check.proofs.TypingConditions.{types_from}
 use Rattle.compose_check.proofs.typings.types.Given as goal
 
 -- the keys that are left type the character from here where all of them do from rest

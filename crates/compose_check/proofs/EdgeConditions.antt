@@ -1,4 +1,4 @@
--- The demands at an edge, by where its key leads in both tables.
+-- The conditions at an edge, by where its key leads in both tables.
 use Rattle.std.proofs.Common.{◌≡◌, ℕ, ◌+◌, ◌<◌, add_comm, length, drop, List, [], ◌∷◌, ◌++◌, Bool, true, false, not, refl, sym, ◌∙◌, ap, ap₂}
 use Rattle.std.specs.Prelude.{◌==◌, flat_map, slice_get, Option, Some, None}
 use Rattle.std.proofs.lemmas.Bool.{not_from_false, not_from_true}
@@ -14,8 +14,8 @@ use Rattle.compose_tree.specs.Targets.{target_of}
 use Rattle.compose_tree.proofs.Steps.{effect_at, effect_by_target, target_fed}
 use Rattle.compose_fresh.specs.declared.fault.CheckFault.{CheckFault}
 use Rattle.compose_fresh.specs.declared.fault.CheckFault.TheVariants.{Cancels, TextDiffers, PairMissing}
-use Rattle.compose_fresh.specs.Demands.{Demand, demand, first_unmet}
-use Rattle.compose_check.specs.Demands.{one_edge_demands, edge_demands_from}
+use Rattle.compose_fresh.specs.Conditions.{Condition, condition, first_unmet}
+use Rattle.compose_check.specs.Conditions.{one_edge_conditions, edge_conditions_from}
 use Rattle.compose_check.specs.Landing.{target_text, landing_text, landing_cancels, landing_number}
 use Rattle.compose_fresh.proofs.Unmet.{drop_at, first_unmet-met, first_unmet-fault, unmet_before, met_before}
 use Rattle.compose_check.proofs.Landed.{root_alone, lands_cancelled, lands_text, lands_number}
@@ -34,11 +34,11 @@ module _ (names : KeysymNames) (pairs : List (ℕ × ℕ)) (index : ℕ) (old ne
   abbrev v : List ℕ
   v = node new n
 
-  abbrev texts : Demand
-  texts = demand (same (step names new v k).text (step names old u k).text) (TextDiffers index k)
+  abbrev texts : Condition
+  texts = condition (same (step names new v k).text (step names old u k).text) (TextDiffers index k)
 
-  abbrev lands : Demand
-  lands = demand (has_pair pairs (number_of old (step names old u k).pending) (number_of new (step names new v k).pending)) (PairMissing index k)
+  abbrev lands : Condition
+  lands = condition (has_pair pairs (number_of old (step names old u k).pending) (number_of new (step names new v k).pending)) (PairMissing index k)
 
   -- the old step does not cancel
   goes_on : is_cancel (effect old u k) ≡ false
@@ -58,44 +58,44 @@ module _ (names : KeysymNames) (pairs : List (ℕ × ℕ)) (index : ℕ) (old ne
   pairs_are = ap₂ (has_pair pairs) (lands_number names old u k (Some target) e.from e.fed) (lands_number names new v k landing e.to e.fed)
 
   -- the new step cancels
-  pub edge_cancels : landing_cancels n landing ≡ true → Some (Cancels index k) ≡ first_unmet (one_edge_demands names old new pairs index u v k)
+  pub edge_cancels : landing_cancels n landing ≡ true → Some (Cancels index k) ≡ first_unmet (one_edge_conditions names old new pairs index u v k)
   edge_cancels h = sym (first_unmet-fault (not (is_cancel (effect new v k))) (Cancels index k) (texts ∷ lands ∷ []) (not_from_true (is_cancel (effect new v k)) (cancels_is ∙ h)))
 
   module _ (on : landing_cancels n landing ≡ false) where
-    first : first_unmet (one_edge_demands names old new pairs index u v k) ≡ first_unmet (texts ∷ lands ∷ [])
+    first : first_unmet (one_edge_conditions names old new pairs index u v k) ≡ first_unmet (texts ∷ lands ∷ [])
     first = first_unmet-met (not (is_cancel (effect new v k))) (Cancels index k) (texts ∷ lands ∷ []) (not_from_false (is_cancel (effect new v k)) (cancels_is ∙ on))
 
     -- the texts are other ones
-    pub edge_differs : same (landing_text names new k landing) (target_text old target) ≡ false → Some (TextDiffers index k) ≡ first_unmet (one_edge_demands names old new pairs index u v k)
+    pub edge_differs : same (landing_text names new k landing) (target_text old target) ≡ false → Some (TextDiffers index k) ≡ first_unmet (one_edge_conditions names old new pairs index u v k)
     edge_differs h = sym (first ∙ first_unmet-fault texts.met (TextDiffers index k) (lands ∷ []) (texts_are on ∙ h))
 
     module _ (agree : same (landing_text names new k landing) (target_text old target) ≡ true) where
-      second : first_unmet (one_edge_demands names old new pairs index u v k) ≡ first_unmet (lands ∷ [])
+      second : first_unmet (one_edge_conditions names old new pairs index u v k) ≡ first_unmet (lands ∷ [])
       second = first ∙ first_unmet-met texts.met (TextDiffers index k) (lands ∷ []) (texts_are on ∙ agree)
 
       -- the nodes are no pair
-      pub edge_missing : has_pair pairs (landing_number (Some target)) (landing_number landing) ≡ false → Some (PairMissing index k) ≡ first_unmet (one_edge_demands names old new pairs index u v k)
+      pub edge_missing : has_pair pairs (landing_number (Some target)) (landing_number landing) ≡ false → Some (PairMissing index k) ≡ first_unmet (one_edge_conditions names old new pairs index u v k)
       edge_missing h = sym (second ∙ first_unmet-fault lands.met (PairMissing index k) [] (pairs_are ∙ h))
 
       -- the edge is kept
-      pub edge_is_met : has_pair pairs (landing_number (Some target)) (landing_number landing) ≡ true → None ≡ first_unmet (one_edge_demands names old new pairs index u v k)
+      pub edge_is_met : has_pair pairs (landing_number (Some target)) (landing_number landing) ≡ true → None ≡ first_unmet (one_edge_conditions names old new pairs index u v k)
       edge_is_met h = sym (second ∙ first_unmet-met lands.met (PairMissing index k) [] (pairs_are ∙ h))
 
 -- ---- pair by pair
 
 module _ (names : KeysymNames) (old new : List Definition) (pairs : List (ℕ × ℕ)) (ps : List (ℕ × ℕ)) (i : ℕ) (p : ℕ × ℕ) (e : slice_get ps i ≡ Some p) where
-  abbrev here : List Demand
-  here = flat_map (one_edge_demands names old new pairs i (node old p.0) (node new p.1)) (edges old (node old p.0))
+  abbrev here : List Condition
+  here = flat_map (one_edge_conditions names old new pairs i (node old p.0) (node new p.1)) (edges old (node old p.0))
 
-  from_here : first_unmet (edge_demands_from names old new pairs i (drop i ps)) ≡ first_unmet (here ++ edge_demands_from names old new pairs (i + 1) (drop (i + 1) ps))
+  from_here : first_unmet (edge_conditions_from names old new pairs i (drop i ps)) ≡ first_unmet (here ++ edge_conditions_from names old new pairs (i + 1) (drop (i + 1) ps))
   from_here =
-      ap (λ qs. first_unmet (edge_demands_from names old new pairs i qs)) (drop_at ps i p e)
-      ∙ ap (λ n. first_unmet (here ++ edge_demands_from names old new pairs n (drop (i + 1) ps))) (add_comm 1 i)
+      ap (λ qs. first_unmet (edge_conditions_from names old new pairs i qs)) (drop_at ps i p e)
+      ∙ ap (λ n. first_unmet (here ++ edge_conditions_from names old new pairs n (drop (i + 1) ps))) (add_comm 1 i)
 
-  -- the first demand from this pair on is this pair's
-  pub pair_unmet : (fault : CheckFault) → first_unmet here ≡ Some fault → first_unmet (edge_demands_from names old new pairs i (drop i ps)) ≡ Some fault
-  pair_unmet fault h = from_here ∙ unmet_before here (edge_demands_from names old new pairs (i + 1) (drop (i + 1) ps)) fault h
+  -- the first condition from this pair on is this pair's
+  pub pair_unmet : (fault : CheckFault) → first_unmet here ≡ Some fault → first_unmet (edge_conditions_from names old new pairs i (drop i ps)) ≡ Some fault
+  pair_unmet fault h = from_here ∙ unmet_before here (edge_conditions_from names old new pairs (i + 1) (drop (i + 1) ps)) fault h
 
   -- or one of those that follow
-  pub pair_met : first_unmet here ≡ None → first_unmet (edge_demands_from names old new pairs (i + 1) (drop (i + 1) ps)) ≡ first_unmet (edge_demands_from names old new pairs i (drop i ps))
-  pair_met h = sym (from_here ∙ met_before here (edge_demands_from names old new pairs (i + 1) (drop (i + 1) ps)) h)
+  pub pair_met : first_unmet here ≡ None → first_unmet (edge_conditions_from names old new pairs (i + 1) (drop (i + 1) ps)) ≡ first_unmet (edge_conditions_from names old new pairs i (drop i ps))
+  pair_met h = sym (from_here ∙ met_before here (edge_conditions_from names old new pairs (i + 1) (drop (i + 1) ps)) h)

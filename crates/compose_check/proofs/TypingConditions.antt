@@ -1,4 +1,4 @@
--- The demands on typings, place by place.
+-- The conditions on typings, place by place.
 use Rattle.std.proofs.Common.{◌≡◌, ℕ, suc, ◌+◌, ◌-◌, ◌<◌, ◌≤◌, List, [], ◌∷◌, ◌++◌, Bool, true, false, cond, ◌&&◌, length, get_or, drop, map, replicate, refl, sym, ◌∙◌, ap, arith}
 use Rattle.std.specs.Prelude.{nat_lt, slice_get, Option, Some, None, encode_utf8}
 use Rattle.std.specs.Option.{option_or}
@@ -12,19 +12,19 @@ use Rattle.compose_model.specs.Step.{is_empty, step, steps_from, pending_after, 
 use Rattle.compose_model.specs.Certificate.{Repertoire, Typing}
 use Rattle.compose_fresh.specs.declared.fault.CheckFault.{CheckFault}
 use Rattle.compose_fresh.specs.declared.fault.CheckFault.TheVariants.{TypingMissing, TypingWrong, TypingUnasked}
-use Rattle.compose_fresh.specs.Demands.{first_unmet}
+use Rattle.compose_fresh.specs.Conditions.{first_unmet}
 use Rattle.compose_fresh.proofs.Unmet.{drop_at}
-use Rattle.compose_check.specs.Demands.{typing_demands, is_right}
+use Rattle.compose_check.specs.Conditions.{typing_conditions, is_right}
 use Rattle.compose_check.specs.Typings.{typing_fault}
 
 module _ (names : KeysymNames) (new : List Definition) (repertoire : Repertoire) where
   -- side by side the first fault is that of the first typing, or of those that follow
   side_by_side : (c : ℕ) (t : Typing) (cs : List ℕ) (ts : List Typing)
-      → first_unmet (typing_demands names new repertoire (c ∷ cs) (t ∷ ts)) ≡ option_or (typing_fault names new repertoire c t) (first_unmet (typing_demands names new repertoire cs ts))
+      → first_unmet (typing_conditions names new repertoire (c ∷ cs) (t ∷ ts)) ≡ option_or (typing_fault names new repertoire c t) (first_unmet (typing_conditions names new repertoire cs ts))
   side_by_side c t cs ts = go (nat_lt t.character c) (nat_lt c t.character) (is_right names new repertoire t)
     where
-      go : (low high right : Bool) → first_unmet (cond low (typing_demands names new repertoire [] (t ∷ ts)) (cond high (typing_demands names new repertoire (c ∷ cs) []) (record { met = right; fault = TypingWrong c } ∷ typing_demands names new repertoire cs ts)))
-          ≡ option_or (cond low (Some (TypingUnasked t.character)) (cond high (Some (TypingMissing c)) (cond right None (Some (TypingWrong c))))) (first_unmet (typing_demands names new repertoire cs ts))
+      go : (low high right : Bool) → first_unmet (cond low (typing_conditions names new repertoire [] (t ∷ ts)) (cond high (typing_conditions names new repertoire (c ∷ cs) []) (record { met = right; fault = TypingWrong c } ∷ typing_conditions names new repertoire cs ts)))
+          ≡ option_or (cond low (Some (TypingUnasked t.character)) (cond high (Some (TypingMissing c)) (cond right None (Some (TypingWrong c))))) (first_unmet (typing_conditions names new repertoire cs ts))
       go true high right = refl
       go false true right = refl
       go false false true = refl
@@ -32,13 +32,13 @@ module _ (names : KeysymNames) (new : List Definition) (repertoire : Repertoire)
 
   module _ (chars : List ℕ) (ts : List Typing) (i : ℕ) where
     abbrev left : ℕ → Option CheckFault
-    left n = first_unmet (typing_demands names new repertoire (drop n chars) (drop n ts))
+    left n = first_unmet (typing_conditions names new repertoire (drop n chars) (drop n ts))
 
     module _ (c : ℕ) (t : Typing) (at_c : slice_get chars i ≡ Some c) (at_t : slice_get ts i ≡ Some t) where
       both_left : left i ≡ option_or (typing_fault names new repertoire c t) (left (i + 1))
       both_left =
-          ap (λ cs. first_unmet (typing_demands names new repertoire cs (drop i ts))) (drop_at chars i c at_c)
-          ∙ ap (λ us. first_unmet (typing_demands names new repertoire (c ∷ drop (i + 1) chars) us)) (drop_at ts i t at_t)
+          ap (λ cs. first_unmet (typing_conditions names new repertoire cs (drop i ts))) (drop_at chars i c at_c)
+          ∙ ap (λ us. first_unmet (typing_conditions names new repertoire (c ∷ drop (i + 1) chars) us)) (drop_at ts i t at_t)
           ∙ side_by_side c t (drop (i + 1) chars) (drop (i + 1) ts)
 
       pub typing_unmet : (fault : CheckFault) → typing_fault names new repertoire c t ≡ Some fault → left i ≡ Some fault
@@ -50,14 +50,14 @@ module _ (names : KeysymNames) (new : List Definition) (repertoire : Repertoire)
     -- a character after the last typing
     pub character_left : (c : ℕ) → slice_get chars i ≡ Some c → length ts ≤ i → left i ≡ Some (TypingMissing c)
     character_left c at_c over =
-        ap (λ cs. first_unmet (typing_demands names new repertoire cs (drop i ts))) (drop_at chars i c at_c)
-        ∙ ap (λ us. first_unmet (typing_demands names new repertoire (c ∷ drop (i + 1) chars) us)) (drop_all i ts over)
+        ap (λ cs. first_unmet (typing_conditions names new repertoire cs (drop i ts))) (drop_at chars i c at_c)
+        ∙ ap (λ us. first_unmet (typing_conditions names new repertoire (c ∷ drop (i + 1) chars) us)) (drop_all i ts over)
 
     -- a typing after the last character
     pub typing_left : (t : Typing) → slice_get ts i ≡ Some t → length chars ≤ i → left i ≡ Some (TypingUnasked t.character)
     typing_left t at_t over =
-        ap (λ cs. first_unmet (typing_demands names new repertoire cs (drop i ts))) (drop_all i chars over)
-        ∙ ap (λ us. first_unmet (typing_demands names new repertoire [] us)) (drop_at ts i t at_t)
+        ap (λ cs. first_unmet (typing_conditions names new repertoire cs (drop i ts))) (drop_all i chars over)
+        ∙ ap (λ us. first_unmet (typing_conditions names new repertoire [] us)) (drop_at ts i t at_t)
 
 -- ---- one typing, key by key
 
