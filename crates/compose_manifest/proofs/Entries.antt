@@ -1,5 +1,5 @@
 -- Entries that are not as many as the sources.
-use Rattle.std.proofs.Common.{◌≡◌, ◌≢◌, Bool, true, false, List, [], ◌∷◌, length, refl, ap, suc, ◌∙◌}
+use Rattle.std.proofs.Common.{◌≡◌, ◌≢◌, Bool, true, false, List, [], ◌∷◌, length, refl, ap, suc}
 use Rattle.std.specs.Prelude.{◌&&◌}
 use Rattle.compose_find.specs.Found.{Met}
 use Rattle.compose_tool.specs.Manifest.{Entry}

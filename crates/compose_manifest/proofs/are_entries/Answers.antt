@@ -1,4 +1,4 @@
-use Rattle.std.proofs.Common.{◌≡◌, sym}
+use Rattle.std.proofs.Common.{sym}
 use Rattle.compose_manifest.proofs.Entries.{other_count}
 use Rattle.compose_manifest.proofs.are_entries.Goals as goal
 
