@@ -21,6 +21,8 @@ NAMES = [
     "check-fresh-dead-key",
     "explain-all-of-two-kinds",
     "explain-cancels",
+    "find-locale-by-its-alias",
+    "find-two-files-of-one-name",
     "include-last-definition-counts",
     "make-fresh-dead-key",
     "make-unreachable",
