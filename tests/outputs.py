@@ -38,7 +38,7 @@ def trials(program, folder):
     yield "nothing else is left", sorted(it for it in os.listdir(folder) if it.startswith("certificate")), ["certificate"]
     write(folder, "certificate", "kept\n")
     said, status = run(program, folder, *make, "other.manifest", "repertoire")
-    yield "where there is none, the difference is printed and the file stays", (said.splitlines()[:1], status, read(folder, "certificate")), (["a b"], 1, "kept\n")
+    yield "where there is none, the difference is printed and the file stays", (said.splitlines()[:1], status, read(folder, "certificate")), (["keys a b"], 1, "kept\n")
     yield "where input is refused, the file stays", (*run(program, folder, *make, "none", "repertoire"), read(folder, "certificate")), ("refused: file: none\n", 2, "kept\n")
     yield "a file is replaced", (*run(program, folder, *make, "more.manifest", "repertoire"), read(folder, "certificate")), ("", 0, CERTIFICATE)
     there = ("make", "-o", "no/certificate", "table.manifest", "more.manifest", "repertoire")
