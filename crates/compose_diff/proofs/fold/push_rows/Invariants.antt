@@ -1,0 +1,6 @@
+use Rattle.std.proofs.Common.{◌≡◌, ◌++◌, take, string_bytes}
+use Rattle.compose_diff.specs.Folds.{row_lines}
+use Rattle.compose_diff.proofs.fold.push_rows.Given as goal
+
+abbrev pub invariant-loop-row : goal.invariant-loop-row
+invariant-loop-row l = string_bytes l.text ≡ string_bytes l.fn.text ++ row_lines (take l.row-index l.rows)

@@ -1,0 +1,94 @@
+-- The changes that are meant: lines in the form in which rows are told, with places or without (this project's profile).
+use Rattle.std.specs.Prelude.{◌≡◌, ℕ, Bool, true, false, not, ◌+◌, ◌&&◌, ◌==◌, if◌then◌else◌, List, [], ◌∷◌, ◌++◌, length, take, drop, map, filter, flat_map, Option, Some, None, Result, Ok, Err, bytes_eq, codes}
+use Rattle.std.specs.List.{find, list_any}
+use Rattle.std.specs.Option.{option_map_or}
+use Rattle.std.specs.declared.vec.Vec.{Vec}
+use Rattle.std.specs.declared.alloc.Global.{Global}
+use Rattle.compose_text.specs.Lines.{lines_of}
+use Rattle.compose_compare.specs.declared.Change.{Change}
+use Rattle.compose_compare.specs.declared.Change.TheVariants.{Changed, Waiting, Removed, NewStart}
+use Rattle.compose_compare.specs.Change.{is_harmless}
+use Rattle.compose_diff.specs.declared.row.DiffRow.{DiffRow}
+use Rattle.compose_diff.specs.declared.accepted.AcceptFault.{AcceptFault}
+use Rattle.compose_diff.specs.declared.accepted.AcceptFault.TheVariants.{Stale, BadLine, NoMemory}
+use Rattle.compose_diff.specs.Line.{change_word, row_text}
+
+-- ---- the lines
+
+-- a line, and its number from 1
+pub record Line : Type 0 where
+  pub number : ℕ
+  pub text : List ℕ
+
+-- nothing, or a comment, which begins with `#` (code 35)
+abbrev pub is_skipped : List ℕ → Bool
+is_skipped [] = true
+is_skipped (b ∷ rest) = b == 35
+
+-- the lines that are not skipped, numbered on from n
+abbrev pub said_from : ℕ → List (List ℕ) → List Line
+said_from n [] = []
+said_from n (line ∷ lines) = if is_skipped line then said_from (1 + n) lines else record { number = n; text = line } ∷ said_from (1 + n) lines
+
+-- the text begins with these bytes
+abbrev pub begins_with : List ℕ → List ℕ → Bool
+begins_with text front = bytes_eq (take (length front) text) front
+
+-- the text begins with the word of such a change, a colon, a blank and a bracket
+abbrev pub begins_as : List ℕ → Change → Bool
+begins_as text change = begins_with text (change_word change) && begins_with (drop (length (change_word change)) text) (codes ": <")
+
+-- the changes that somebody meets, which can be accepted
+abbrev pub acceptable : List Change
+acceptable = Changed ∷ Waiting ∷ Removed ∷ NewStart ∷ []
+
+-- it begins as the line of a change that can be accepted
+abbrev pub is_in_form : Line → Bool
+is_in_form line = list_any (begins_as line.text) acceptable
+
+-- the lines of a file, or the first of them that is not in the form
+abbrev pub accepted_of : List ℕ → Result (List Line) AcceptFault
+accepted_of bytes =
+    let lines = said_from 1 (lines_of bytes) in
+    option_map_or (λ (line : Line). Err (BadLine line.number)) (find (λ line. not (is_in_form line)) lines) (Ok lines)
+
+-- ---- what they accept
+
+-- no more, or a blank (code 32), after which places stand
+abbrev pub is_end : List ℕ → Bool
+is_end [] = true
+is_end (b ∷ rest) = b == 32
+
+-- the line is this text, with places after it or without
+abbrev pub tells : List ℕ → Line → Bool
+tells text line = begins_with line.text text && is_end (drop (length text) line.text)
+
+-- one of the lines tells the row's change, keys and texts
+abbrev pub is_accepted : List Line → DiffRow → Bool
+is_accepted lines row = list_any (tells (row_text row)) lines
+
+-- the line tells none of the texts
+abbrev pub is_stale : List (List ℕ) → Line → Bool
+is_stale texts line = not (list_any (λ text. tells text line) texts)
+
+-- the rows that are not accepted, in order; or the first line that tells none of the rows
+abbrev pub left_of : List Line → List DiffRow → Result (List DiffRow) AcceptFault
+left_of lines rows = option_map_or (λ (line : Line). Err (Stale line.number)) (find (is_stale (map row_text rows)) lines) (Ok (filter (λ row. not (is_accepted lines row)) rows))
+
+-- what is said, unless memory was refused
+abbrev pub Gives : {A : Type 0} → Result A AcceptFault → Result A AcceptFault → Type 0
+Gives (Ok value) said = said ≡ Ok value
+Gives (Err NoMemory) said = Unit {0}
+Gives (Err fault) said = said ≡ Err fault
+
+-- the same of a list of rows
+abbrev pub Leaves : Result (Vec DiffRow Global) AcceptFault → Result (List DiffRow) AcceptFault → Type 0
+Leaves (Ok left) said = said ≡ Ok left.items
+Leaves (Err NoMemory) said = Unit {0}
+Leaves (Err fault) said = said ≡ Err fault
+
+-- ---- the list to accept
+
+-- the rows that somebody meets, a line each, without places
+abbrev pub accept_lines : List DiffRow → List ℕ
+accept_lines rows = flat_map (λ row. row_text row ++ 10 ∷ []) (filter (λ row. not (is_harmless row.change)) rows)

@@ -1,0 +1,50 @@
+-- The line of a told sequence (this project's profile): what happens, the keys, the texts and the places.
+use Rattle.std.specs.Prelude.{ℕ, List, [], ◌∷◌, ◌++◌, map, flat_map, Option, Some, None, codes}
+use Rattle.std.specs.Fmt.{decimal}
+use Rattle.compose_lex.specs.Escape.{quote}
+use Rattle.compose_tool.specs.Shown.{shown_text}
+use Rattle.compose_compare.specs.declared.Change.{Change}
+use Rattle.compose_compare.specs.declared.Change.TheVariants.{Kept, Changed, Waiting, Removed, Added, NewStart}
+use Rattle.compose_diff.specs.declared.row.Entry.{Entry}
+use Rattle.compose_diff.specs.declared.row.DiffRow.{DiffRow}
+
+abbrev pub change_word : Change → List ℕ
+change_word Kept = codes "kept"
+change_word Changed = codes "changed"
+change_word Waiting = codes "waiting"
+change_word Removed = codes "removed"
+change_word Added = codes "added"
+change_word NewStart = codes "new start"
+
+-- each key in angle brackets, after a blank
+abbrev pub keys_part : List (List ℕ) → List ℕ
+keys_part keys = flat_map (λ key. codes " <" ++ (shown_text key ++ codes ">")) keys
+
+-- the text in quotes, after a blank
+abbrev pub text_part : Option Entry → List ℕ
+text_part None = []
+text_part (Some entry) = codes " " ++ quote entry.text.now
+
+-- the path, a colon and the line, after a blank
+abbrev pub place_part : Option Entry → List ℕ
+place_part None = []
+place_part (Some entry) = codes " " ++ (shown_text entry.path.now ++ (codes ":" ++ decimal entry.line))
+
+-- the word and the keys
+abbrev pub keys_text : Change → List (List ℕ) → List ℕ
+keys_text change keys = change_word change ++ (codes ":" ++ keys_part keys)
+
+-- the names of the keys of a sequence
+abbrev pub key_names : DiffRow → List (List ℕ)
+key_names row = map (λ key. key.now) row.keys.now
+
+-- the word, the keys and the texts, without places
+abbrev pub row_text : DiffRow → List ℕ
+row_text row = keys_text row.change (key_names row) ++ (text_part row.old ++ text_part row.new)
+
+abbrev pub places_text : DiffRow → List ℕ
+places_text row = place_part row.old ++ place_part row.new
+
+-- the whole line, with the newline (code 10) that ends it
+abbrev pub row_line : DiffRow → List ℕ
+row_line row = row_text row ++ (places_text row ++ 10 ∷ [])

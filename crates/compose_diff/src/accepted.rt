@@ -1,0 +1,279 @@
+//! The changes that are meant.
+ghost use Rattle.std.specs.Prelude.{◌≡◌, ◌++◌, ◌∷◌, [], not, true, false, List, ℕ, map, filter, IfOk, OnOk, string_bytes};
+ghost use Rattle.std.specs.List.{find, list_any};
+ghost use Rattle.std.specs.Option.{option_map};
+ghost use Rattle.compose_text.specs.Lines.{lines_of};
+ghost use Rattle.compose_compare.specs.Change.{is_harmless};
+ghost use Rattle.compose_diff.specs.Line.{row_text, change_word};
+ghost use Rattle.compose_diff.specs.Accepted as words;
+ghost use Rattle.compose_diff.specs.Accepted.{Gives, accepted_of, left_of};
+
+use crate::line::{change_word, is_harmless, push_row_text};
+use crate::row::DiffRow;
+use compose_compare::Change;
+use compose_text::first_line;
+use std::alloc::{AllocError, AllocFailed, Global};
+use std::marker::Model;
+use thiserror::Error;
+
+/// Why the changes that are meant are refused.
+#[derive(Clone, Copy, Debug, PartialEq, Eq, Drop, Error)]
+pub enum AcceptFault {
+    /// The line with this number is the first one that tells none of the changes.
+    #[error("1 Stale line={line}")]
+    Stale { line: usize },
+    /// The line with this number is the first one that doesn't begin as a line that can be accepted.
+    #[error("2 BadLine line={line}")]
+    BadLine { line: usize },
+    /// Memory was refused in this call.
+    #[error("3 NoMemory")]
+    NoMemory,
+}
+
+impl From<AllocError> for AcceptFault {
+    ghost use Rattle.compose_diff.specs.declared.accepted.AcceptFault.TheVariants.{NoMemory};
+
+    ghost from_gives = { λ _ e. e ≡ NoMemory };
+
+    fn from(_error: AllocError) -> AcceptFault {
+        AcceptFault::NoMemory
+    }
+}
+
+impl<T: Drop> From<AllocFailed<T>> for AcceptFault {
+    ghost use Rattle.compose_diff.specs.declared.accepted.AcceptFault.TheVariants.{NoMemory};
+
+    ghost from_gives = { λ _ e. e ≡ NoMemory };
+
+    fn from(_error: AllocFailed<T>) -> AcceptFault {
+        AcceptFault::NoMemory
+    }
+}
+
+/// A line of a file of changes that are meant.
+#[derive(Drop)]
+struct Line<'a> {
+    number: usize,
+    text: &'a [u8],
+}
+
+impl<'a> Model for Line<'a> {
+    ghost use Rattle.compose_diff.specs.Accepted as words;
+
+    ghost Value = { words.Line };
+
+    ghost view = { λ line. record { number = line.number; text = line.text.now } };
+}
+
+/// The changes that are meant, as lines in the form in which rows are told.
+#[derive(Drop)]
+pub struct Accepted<'a> {
+    lines: Vec<Line<'a>>,
+}
+
+impl<'a> Model for Accepted<'a> {
+    ghost use Rattle.std.specs.Prelude.{List};
+    ghost use Rattle.compose_diff.specs.Accepted as words;
+
+    ghost Value = { List words.Line };
+
+    ghost view = { λ accepted. accepted.lines.items };
+}
+
+impl<'a> Accepted<'a> {
+    /// Reads the lines of a file, but for the empty ones and those that begin with `#`; or the first that is not in the form: it is to
+    /// begin with the word of a change that somebody meets, a colon, and a key in brackets. O(bytes).
+    pub fn read(alloc: Global, bytes: &'a [u8]) -> Result<Accepted<'a>, AcceptFault>
+        ensures { Gives result (accepted_of bytes.now) }
+    {
+        let lines = said_lines(alloc, bytes)?;
+        match first_bad(&lines) {
+            Some(line) => Err(AcceptFault::BadLine { line }),
+            None => Ok(Accepted { lines }),
+        }
+    }
+
+    /// The rows that no line accepts, in order; or the first line that tells none of the rows. A line accepts a row whose change, keys
+    /// and texts it tells, with places after them or without; the places may be others. O(bytes of the rows × lines).
+    pub fn leave_out<'r>(
+        &self,
+        alloc: Global,
+        rows: &[DiffRow<'r>],
+    ) -> Result<Vec<DiffRow<'r>>, AcceptFault>
+        ensures { words.Leaves result (left_of self.now rows.now) }
+    {
+        let texts = row_texts(alloc, rows)?;
+        if let Some(line) = first_stale(&self.lines, &texts) {
+            return Err(AcceptFault::Stale { line });
+        }
+        Ok(not_told(alloc, rows, &self.lines)?)
+    }
+}
+
+/// The lines of a file that are not skipped.
+fn said_lines(alloc: Global, bytes: &[u8]) -> Result<Vec<Line<'_>>, AllocError>
+    ensures { IfOk result (λ lines. lines.items ≡ words.said_from 1 (lines_of bytes.now)) }
+{
+    let mut lines = Vec::new(alloc);
+    let mut rest = bytes;
+    let mut number = 0;
+    while let Some((text, behind)) = first_line(rest) {
+        number += 1;
+        if !is_skipped(text) {
+            lines.push(Line { number, text })?;
+        }
+        rest = behind;
+    }
+    Ok(lines)
+}
+
+/// Whether the line is empty, or a comment.
+fn is_skipped(line: &[u8]) -> bool
+    ensures { result ≡ words.is_skipped line.now }
+{
+    match line.first() {
+        Some(byte) => *byte == b'#',
+        None => true,
+    }
+}
+
+/// The number of the first line that is not in the form.
+fn first_bad(lines: &[Line]) -> Option<usize>
+    ensures { result ≡ option_map (λ line. line.number) (find (λ line. not (words.is_in_form line)) lines.now) }
+{
+    for line in lines {
+        if !is_in_form(line) {
+            return Some(line.number);
+        }
+    }
+    None
+}
+
+/// Whether the line begins as the line of a change that can be accepted.
+fn is_in_form(line: &Line) -> bool
+    ensures { result ≡ words.is_in_form line.now }
+{
+    begins_as(line.text, Change::Changed)
+        || begins_as(line.text, Change::Waiting)
+        || begins_as(line.text, Change::Removed)
+        || begins_as(line.text, Change::NewStart)
+}
+
+/// Whether the text begins as the line of such a change.
+fn begins_as(text: &[u8], change: Change) -> bool
+    ensures { result ≡ words.begins_as text.now change }
+{
+    match text.strip_prefix(change_word(change).as_bytes()) {
+        Some(rest) => rest.strip_prefix(b": <").is_some(),
+        None => false,
+    }
+}
+
+/// The change, keys and texts of each row, as they are printed.
+fn row_texts(alloc: Global, rows: &[DiffRow]) -> Result<Vec<String>, AllocError>
+    ensures { IfOk result (λ texts. map (λ text. string_bytes text) texts.items ≡ map row_text rows.now) }
+{
+    let mut texts = Vec::new(alloc);
+    for row in rows {
+        let text = row_text(alloc, row)?;
+        texts.push(text)?;
+    }
+    Ok(texts)
+}
+
+/// The change, keys and texts of a row, as they are printed.
+fn row_text(alloc: Global, row: &DiffRow) -> Result<String, AllocError>
+    ensures { IfOk result (λ text. string_bytes text ≡ row_text row.now) }
+{
+    let mut text = String::new(alloc);
+    push_row_text(alloc, &mut text, row)?;
+    Ok(text)
+}
+
+/// The number of the first line that tells none of the texts.
+fn first_stale(lines: &[Line], texts: &[String]) -> Option<usize>
+    ensures { result ≡ option_map (λ line. line.number) (find (words.is_stale (map (λ text. string_bytes text) texts.now)) lines.now) }
+{
+    for line in lines {
+        if is_stale(line, texts) {
+            return Some(line.number);
+        }
+    }
+    None
+}
+
+/// Whether the line tells none of the texts.
+fn is_stale(line: &Line, texts: &[String]) -> bool
+    ensures { result ≡ words.is_stale (map (λ text. string_bytes text) texts.now) line.now }
+{
+    for text in texts {
+        if tells(text, line) {
+            return false;
+        }
+    }
+    true
+}
+
+/// Whether the line is the text, with places after it or without.
+fn tells(text: &str, line: &Line) -> bool
+    ensures { result ≡ words.tells text.now line.now }
+{
+    match line.text.strip_prefix(text.as_bytes()) {
+        Some(rest) => is_end(rest),
+        None => false,
+    }
+}
+
+/// Whether nothing is left, or a blank, after which places stand.
+fn is_end(rest: &[u8]) -> bool
+    ensures { result ≡ words.is_end rest.now }
+{
+    match rest.first() {
+        Some(byte) => *byte == b' ',
+        None => true,
+    }
+}
+
+/// The rows that none of the lines tells.
+fn not_told<'r>(
+    alloc: Global,
+    rows: &[DiffRow<'r>],
+    lines: &[Line],
+) -> Result<Vec<DiffRow<'r>>, AllocError>
+    ensures { IfOk result (λ left. left.items ≡ filter (λ row. not (words.is_accepted lines.now row)) rows.now) }
+{
+    let mut left = Vec::new(alloc);
+    for row in rows {
+        let text = row_text(alloc, row)?;
+        if !is_accepted(lines, &text) {
+            left.push(*row)?;
+        }
+    }
+    Ok(left)
+}
+
+/// Whether one of the lines tells the text.
+fn is_accepted(lines: &[Line], text: &str) -> bool
+    ensures { result ≡ list_any (words.tells text.now) lines.now }
+{
+    for line in lines {
+        if tells(text, line) {
+            return true;
+        }
+    }
+    false
+}
+
+/// The list that accepts these rows: a line for each that somebody meets, without places. O(bytes).
+pub fn accept_text(alloc: Global, rows: &[DiffRow]) -> Result<String, AllocError>
+    ensures { IfOk result (λ text. string_bytes text ≡ words.accept_lines rows.now) }
+{
+    let mut text = String::new(alloc);
+    for row in rows {
+        if !is_harmless(row.change) {
+            push_row_text(alloc, &mut text, row)?;
+            text.push_str("\n")?;
+        }
+    }
+    Ok(text)
+}

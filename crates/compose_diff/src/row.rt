@@ -1,0 +1,27 @@
+//! A sequence and what happens to it.
+use compose_compare::Change;
+
+/// What one of the tables has for a sequence: its text, and where the definition is that counts.
+#[derive(Clone, Copy, Debug)]
+pub struct Entry<'a> {
+    /// The text of the sequence.
+    pub text: &'a str,
+    /// The index of the source among those of its table.
+    pub source: usize,
+    /// The path of the source.
+    pub path: &'a str,
+    /// The line in it, from 1.
+    pub line: usize,
+}
+
+/// A sequence and what happens to it.
+#[derive(Clone, Copy, Debug)]
+pub struct DiffRow<'a> {
+    pub change: Change,
+    /// The names of its keys, as the file has them.
+    pub keys: &'a [&'a str],
+    /// What the old table has for it, if the old table has it.
+    pub old: Option<Entry<'a>>,
+    /// What the new table has for it, if the new table has it.
+    pub new: Option<Entry<'a>>,
+}
