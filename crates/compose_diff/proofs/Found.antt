@@ -1,8 +1,10 @@
 -- The first element that passes a test, looked for from the front.
-use Rattle.std.proofs.Common.{◌≡◌, ℕ, ◌+◌, ◌<◌, Bool, true, false, List, ◌∷◌, length, drop, get_or, sym, ◌∙◌, ap, refl}
+use Rattle.std.proofs.Common.{◌≡◌, ℕ, ◌+◌, ◌<◌, Bool, true, false, List, ◌∷◌, length, map, drop, get_or, sym, ◌∙◌, ap, refl}
 use Rattle.std.specs.Prelude.{Option, Some}
-use Rattle.std.specs.List.{find}
-use Rattle.std.proofs.lemmas.List.{drop_more}
+use Rattle.std.specs.List.{find, list_any}
+use Rattle.std.proofs.lemmas.List.{drop_more, get_or-map, length-map}
+use Rattle.std.proofs.lemmas.List.Folds.{list_any_at}
+use Rattle.compose_diff.specs.Accepted.{Line, tells}
 
 -- the element at this index, and what is left after it
 at_index : {X : Type 0} (xs : List X) (i : ℕ) (x : X) → i < length xs → x ≡ get_or xs i x → drop i xs ≡ x ∷ drop (i + 1) xs
@@ -13,3 +15,8 @@ find_here p xs i x less is passes left = sym left ∙ ap (find p) (at_index xs i
 
 pub find_later : {X : Type 0} (p : X → Bool) (xs : List X) (i : ℕ) (x : X) → i < length xs → x ≡ get_or xs i x → p x ≡ false → find p (drop i xs) ≡ find p xs → find p (drop (i + 1) xs) ≡ find p xs
 find_later p xs i x less is fails left = sym (ap (find p) (at_index xs i x less is) ∙ rw fails refl) ∙ left
+
+-- a line that tells the text of one element tells one of the texts
+pub told_at : {X : Type 0} (text : X → List ℕ) (xs : List X) (line : Line) (i : ℕ) (x : X) → i < length xs → x ≡ get_or xs i x → tells (text x) line ≡ true → list_any (λ t. tells t line) (map text xs) ≡ true
+told_at text xs line i x less is told =
+    list_any_at (λ t. tells t line) (map text xs) i (text x) (rw (length-map xs text) less) (ap (λ t. tells t line) (get_or-map text xs i x (text x) less ∙ ap text (sym is)) ∙ told)

@@ -1,3 +1,4 @@
+mod Examples
+pub mod Concat
 pub mod Found
 pub mod Runs
-pub mod RunLines

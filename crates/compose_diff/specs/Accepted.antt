@@ -63,9 +63,9 @@ is_end (b ∷ rest) = b == 32
 abbrev pub tells : List ℕ → Line → Bool
 tells text line = begins_with line.text text && is_end (drop (length text) line.text)
 
--- one of the lines tells the row's change, keys and texts
+-- somebody meets what happens, and one of the lines tells it, the keys and the texts
 abbrev pub is_accepted : List Line → DiffRow → Bool
-is_accepted lines row = list_any (tells (row_text row)) lines
+is_accepted lines row = not (is_harmless row.change) && list_any (tells (row_text row)) lines
 
 -- the line tells none of the texts
 abbrev pub is_stale : List (List ℕ) → Line → Bool

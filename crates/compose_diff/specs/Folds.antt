@@ -32,6 +32,10 @@ abbrev pub runs_of : List DiffRow → List (List DiffRow)
 runs_of [] = []
 runs_of (row ∷ rows) = onto_runs row (runs_of rows)
 
+-- the rows of all runs, in order
+abbrev pub all_of : List (List DiffRow) → List DiffRow
+all_of runs = flat_map (λ run. run) runs
+
 -- the texts of a row, which is in one table
 abbrev pub texts_part : List DiffRow → List ℕ
 texts_part rows = flat_map (λ row. text_part row.old ++ text_part row.new) rows

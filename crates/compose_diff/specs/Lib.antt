@@ -4,3 +4,4 @@ pub mod Accepted
 pub mod Counts
 pub mod Folds
 pub mod Order
+pub mod Told

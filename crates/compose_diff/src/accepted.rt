@@ -1,5 +1,5 @@
 //! The changes that are meant.
-ghost use Rattle.std.specs.Prelude.{◌≡◌, ◌++◌, ◌∷◌, [], not, true, false, List, ℕ, map, filter, IfOk, OnOk, string_bytes};
+ghost use Rattle.std.specs.Prelude.{◌≡◌, ◌<◌, ◌++◌, not, length, map, filter, is_some, IfSome, IfOk, OnOk, string_bytes};
 ghost use Rattle.std.specs.List.{find, list_any};
 ghost use Rattle.std.specs.Option.{option_map};
 ghost use Rattle.compose_text.specs.Lines.{lines_of};
@@ -94,7 +94,8 @@ impl<'a> Accepted<'a> {
     }
 
     /// The rows that no line accepts, in order; or the first line that tells none of the rows. A line accepts a row whose change, keys
-    /// and texts it tells, with places after them or without; the places may be others. O(bytes of the rows × lines).
+    /// and texts it tells, with places after them or without; the places may be others. O(bytes) where the lines
+    /// are in the order of the rows, else O(bytes of the rows × lines).
     pub fn leave_out<'r>(
         &self,
         alloc: Global,
@@ -190,28 +191,34 @@ fn row_text(alloc: Global, row: &DiffRow) -> Result<String, AllocError>
     Ok(text)
 }
 
-/// The number of the first line that tells none of the texts.
+/// The number of the first line that tells none of the texts. Texts in the order of the lines are found at once.
 fn first_stale(lines: &[Line], texts: &[String]) -> Option<usize>
     ensures { result ≡ option_map (λ line. line.number) (find (words.is_stale (map (λ text. string_bytes text) texts.now)) lines.now) }
 {
+    let mut hint = 0;
     for line in lines {
-        if is_stale(line, texts) {
-            return Some(line.number);
+        match told_by(line, hint, texts) {
+            Some(at) => hint = at + 1,
+            None => return Some(line.number),
         }
     }
     None
 }
 
-/// Whether the line tells none of the texts.
-fn is_stale(line: &Line, texts: &[String]) -> bool
-    ensures { result ≡ words.is_stale (map (λ text. string_bytes text) texts.now) line.now }
+/// The index of a text that the line tells, looked for at the hint first.
+fn told_by(line: &Line, hint: usize, texts: &[String]) -> Option<usize>
+    ensures told { not (is_some result) ≡ words.is_stale (map (λ text. string_bytes text) texts.now) line.now }
+    ensures within { IfSome result (λ at. at < length texts.now) }
 {
-    for text in texts {
+    if hint < texts.len() && tells(&texts[hint], line) {
+        return Some(hint);
+    }
+    for (at, text) in texts.iter().enumerate() {
         if tells(text, line) {
-            return false;
+            return Some(at);
         }
     }
-    true
+    None
 }
 
 /// Whether the line is the text, with places after it or without.
@@ -234,7 +241,7 @@ fn is_end(rest: &[u8]) -> bool
     }
 }
 
-/// The rows that none of the lines tells.
+/// The rows that no line accepts, in order. Lines in the order of the rows are found at once.
 fn not_told<'r>(
     alloc: Global,
     rows: &[DiffRow<'r>],
@@ -243,25 +250,47 @@ fn not_told<'r>(
     ensures { IfOk result (λ left. left.items ≡ filter (λ row. not (words.is_accepted lines.now row)) rows.now) }
 {
     let mut left = Vec::new(alloc);
+    let mut hint = 0;
     for row in rows {
-        let text = row_text(alloc, row)?;
-        if !is_accepted(lines, &text) {
-            left.push(*row)?;
+        match accepting(alloc, row, lines, hint)? {
+            Some(at) => hint = at + 1,
+            None => left.push(*row)?,
         }
     }
     Ok(left)
 }
 
-/// Whether one of the lines tells the text.
-fn is_accepted(lines: &[Line], text: &str) -> bool
-    ensures { result ≡ list_any (words.tells text.now) lines.now }
+/// The index of a line that accepts the row, looked for at the hint first.
+fn accepting(
+    alloc: Global,
+    row: &DiffRow,
+    lines: &[Line],
+    hint: usize,
+) -> Result<Option<usize>, AllocError>
+    ensures accepted { IfOk result (λ at. is_some at ≡ words.is_accepted lines.now row.now) }
+    ensures within { IfOk result (λ at. IfSome at (λ i. i < length lines.now)) }
 {
-    for line in lines {
+    if is_harmless(row.change) {
+        return Ok(None);
+    }
+    let text = row_text(alloc, row)?;
+    Ok(telling(lines, hint, &text))
+}
+
+/// The index of a line that tells the text, looked for at the hint first.
+fn telling(lines: &[Line], hint: usize, text: &str) -> Option<usize>
+    ensures told { is_some result ≡ list_any (words.tells text.now) lines.now }
+    ensures within { IfSome result (λ at. at < length lines.now) }
+{
+    if hint < lines.len() && tells(text, &lines[hint]) {
+        return Some(hint);
+    }
+    for (at, line) in lines.iter().enumerate() {
         if tells(text, line) {
-            return true;
+            return Some(at);
         }
     }
-    false
+    None
 }
 
 /// The list that accepts these rows: a line for each that somebody meets, without places. O(bytes).

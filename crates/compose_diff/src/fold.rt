@@ -62,8 +62,7 @@ fn push_runs(alloc: Global, text: &mut String, rows: &[DiffRow]) -> Result<(), A
 {
     let mut from = 0;
     while from < rows.len() {
-        let count = push_first_run(alloc, text, &rows[from..])?;
-        from += count;
+        from += push_first_run(alloc, text, &rows[from..])?;
     }
     Ok(())
 }

@@ -1,5 +1,5 @@
-//! What no case of tests/cases can show: an old and a new table of different forms, loads of a state, and printed faults that no command
-//! prints.
+//! What no case of tests/cases can show: an old and a new table of different forms, loads of a state, printed faults that no command
+//! prints, and the texts of `diff`.
 #![tactic(auto)]
 
 #[cfg(test)]
@@ -12,6 +12,8 @@ mod explaining;
 mod faults;
 #[cfg(test)]
 mod loading;
+#[cfg(test)]
+mod losing;
 #[cfg(test)]
 mod making;
 #[cfg(test)]

@@ -1,0 +1,48 @@
+-- Keys, counts, strings of JSON and accepted lines, written down by hand.
+use Rattle.std.proofs.Common.{◌≡◌, [], ◌∷◌, ◌++◌, refl, true, false}
+use Rattle.std.specs.Prelude.{Ok, Err, codes}
+use Rattle.std.specs.Char.{encode_utf8}
+use Rattle.std.specs.Fmt.{digits}
+use Rattle.std.specs.Str.{chars}
+use Rattle.compose_diff.specs.Line.{keys_part}
+use Rattle.compose_diff.specs.Counts.{counts_line}
+use Rattle.compose_diff.specs.Json.{json_string, json_strings}
+use Rattle.compose_diff.specs.Accepted.{accepted_of, tells}
+use Rattle.compose_diff.specs.declared.accepted.AcceptFault.TheVariants.{BadLine}
+
+-- ---- what is printed
+
+two_keys : keys_part (codes "dead_hook" ∷ codes "o" ∷ []) ≡ codes " <dead_hook> <o>"
+unfolding chars encode_utf8
+two_keys = refl
+
+-- an escape (code 27) can't steer a terminal
+shown_key : keys_part ((97 ∷ 27 ∷ []) ∷ []) ≡ codes " <a\\u{1b}>"
+unfolding chars encode_utf8 digits
+shown_key = refl
+
+all_counts : counts_line (record { kept = 5205; changed = 3; waiting = 0; removed = 298; new_starts = 0; added = 12; accepted = 2 }) ≡ codes "diff: 5205 kept, 3 changed, 0 waiting, 298 removed, 0 new starts, 12 added, 2 accepted\n"
+unfolding digits
+all_counts = refl
+
+quotes : json_string (codes "a\"\\") ≡ codes "\"a\\\"\\\\\""
+unfolding chars encode_utf8
+quotes = refl
+
+controls : json_strings ((27 ∷ []) ∷ codes "b" ∷ []) ≡ codes "[\"\\u001b\",\"b\"]"
+unfolding chars encode_utf8 digits
+controls = refl
+
+-- ---- accepted lines
+
+skipped : accepted_of (codes "# meant" ++ 10 ∷ 10 ∷ codes "removed: <a> \"x\"" ++ 10 ∷ []) ≡ Ok (record { number = 3; text = codes "removed: <a> \"x\"" } ∷ [])
+skipped = refl
+
+harmless : accepted_of (codes "removed: <a> \"x\"" ++ 10 ∷ codes "added: <a> \"x\"" ++ 10 ∷ []) ≡ Err (BadLine 2)
+harmless = refl
+
+with_a_place : tells (codes "removed: <a> \"x\"") (record { number = 1; text = codes "removed: <a> \"x\" OLD:9" }) ≡ true
+with_a_place = refl
+
+other_text : tells (codes "removed: <a> \"x\"") (record { number = 1; text = codes "removed: <a> \"xy\" OLD:9" }) ≡ false
+other_text = refl

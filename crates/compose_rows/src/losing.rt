@@ -1,0 +1,228 @@
+//! What `diff` prints of worked rows, and which of them are accepted.
+use compose_compare::Change;
+use compose_diff::{
+    AcceptFault, Accepted, Counts, DiffRow, Entry, accept_text, answer_diff, diff_text,
+    folded_text, json_text, loses_nothing, sort_rows,
+};
+use compose_tool::Answer;
+use std::alloc::Global;
+use std::test::Fail;
+
+/// What a table has for a sequence.
+fn entry(text: &'static str, path: &'static str, line: usize) -> Option<Entry<'static>> {
+    Some(Entry {
+        text,
+        source: 0,
+        path,
+        line,
+    })
+}
+
+/// A row that the old table alone has.
+fn old_row(
+    change: Change,
+    keys: &'static [&'static str],
+    text: &'static str,
+    line: usize,
+) -> DiffRow<'static> {
+    DiffRow {
+        change,
+        keys,
+        old: entry(text, "OLD", line),
+        new: None,
+    }
+}
+
+/// A row that the new table alone has.
+fn new_row(
+    change: Change,
+    keys: &'static [&'static str],
+    text: &'static str,
+    line: usize,
+) -> DiffRow<'static> {
+    DiffRow {
+        change,
+        keys,
+        old: None,
+        new: entry(text, "NEW", line),
+    }
+}
+
+/// A row of each change, in the reverse of the order in which they are told.
+fn each() -> [DiffRow<'static>; 6] {
+    [
+        DiffRow {
+            change: Change::Kept,
+            keys: &["dead_acute", "e"],
+            old: entry("é", "OLD", 1),
+            new: entry("é", "NEW", 5),
+        },
+        new_row(Change::Added, &["Multi_key", "a", "b"], "x", 8),
+        new_row(Change::NewStart, &["F13"], "x", 7),
+        old_row(Change::Removed, &["Multi_key", "parenleft", "1"], "①", 9),
+        old_row(Change::Waiting, &["a", "b"], "\"", 3),
+        DiffRow {
+            change: Change::Changed,
+            keys: &["dead_hook", "o"],
+            old: entry("ở", "en/Compose", 1234),
+            new: entry("ờ", "fi/Compose", 361),
+        },
+    ]
+}
+
+/// Five rows that go together, between two that do not.
+fn run() -> [DiffRow<'static>; 7] {
+    [
+        old_row(Change::Removed, &["Multi_key", "parenleft"], "(", 1),
+        old_row(Change::Removed, &["Multi_key", "parenleft", "1"], "①", 2),
+        old_row(Change::Removed, &["Multi_key", "parenleft", "2"], "②", 3),
+        old_row(Change::Removed, &["Multi_key", "parenleft", "3"], "③", 4),
+        old_row(Change::Removed, &["Multi_key", "parenleft", "4"], "④", 5),
+        old_row(Change::Removed, &["Multi_key", "parenleft", "5"], "⑤", 6),
+        old_row(Change::Removed, &["Multi_key", "bar", "5"], "5", 7),
+    ]
+}
+
+/// The lines of the rows of each change, in the order in which they are told.
+const EACH: &str =
+    "changed: <dead_hook> <o> \"ở\" \"ờ\" en/Compose:1234 fi/Compose:361\nwaiting: <a> <b> \"\\\"\" OLD:3\nremoved: <Multi_key> <parenleft> <1> \"①\" OLD:9\nnew start: <F13> \"x\" NEW:7\nadded: <Multi_key> <a> <b> \"x\" NEW:8\n";
+
+/// The list that accepts them.
+const TO_ACCEPT: &str =
+    "changed: <dead_hook> <o> \"ở\" \"ờ\"\nwaiting: <a> <b> \"\\\"\"\nremoved: <Multi_key> <parenleft> <1> \"①\"\nnew start: <F13> \"x\"\n";
+
+#[test]
+fn rows_are_told_in_groups(rt: HostRuntime) -> Result<(), Fail> {
+    let mut rows = Vec::from_array(rt.alloc(), each())?;
+    sort_rows(&mut rows)?;
+    assert_eq!(rt; diff_text(rt.alloc(), &rows)?.as_str(), EACH);
+    assert_eq!(rt; folded_text(rt.alloc(), &rows)?.as_str(), EACH);
+    assert_eq!(rt; accept_text(rt.alloc(), &rows)?.as_str(), TO_ACCEPT);
+    Ok(())
+}
+
+#[test]
+fn rows_are_counted(rt: HostRuntime) -> Result<(), Fail> {
+    let counts = Counts::of(&each(), 2);
+    assert_eq!(rt;
+        format!(in rt.alloc(); "{counts}")?.as_str(),
+        "diff: 1 kept, 1 changed, 1 waiting, 1 removed, 1 new starts, 1 added, 2 accepted\n"
+    );
+    assert!(rt; !loses_nothing(&each()));
+    assert!(rt; loses_nothing(&each()[..2]));
+    Ok(())
+}
+
+#[test]
+fn five_rows_are_folded(rt: HostRuntime) -> Result<(), Fail> {
+    assert_eq!(rt;
+        folded_text(rt.alloc(), &run())?.as_str(),
+        "removed: <Multi_key> <parenleft> \"(\" OLD:1\nremoved: <Multi_key> <parenleft> .. 5 sequences \"①\" \"②\" \"③\" .. OLD:2\nremoved: <Multi_key> <bar> <5> \"5\" OLD:7\n"
+    );
+    Ok(())
+}
+
+#[test]
+fn three_rows_are_not_folded(rt: HostRuntime) -> Result<(), Fail> {
+    let rows = &run()[1..4];
+    assert_eq!(rt;
+        folded_text(rt.alloc(), rows)?.as_str(),
+        diff_text(rt.alloc(), rows)?.as_str()
+    );
+    Ok(())
+}
+
+#[test]
+fn what_steers_a_terminal_is_shown(rt: HostRuntime) -> Result<(), Fail> {
+    let rows = [DiffRow {
+        change: Change::Removed,
+        keys: &["a\u{202e}"],
+        old: entry("\u{1b}", "\u{1b}[2J", 1),
+        new: None,
+    }];
+    assert_eq!(rt;
+        diff_text(rt.alloc(), &rows)?.as_str(),
+        "removed: <a\\u{202e}> \"\\033\" \\u{1b}[2J:1\n"
+    );
+    assert_eq!(rt;
+        json_text(rt.alloc(), &rows)?.as_str(),
+        "{\"change\":\"removed\",\"keys\":[\"a\\u202e\"],\"old\":\"\\u001b\",\"new\":null,\"old_file\":\"\\u001b[2J\",\"old_line\":1,\"new_file\":null,\"new_line\":null}\n"
+    );
+    Ok(())
+}
+
+#[test]
+fn kept_rows_are_objects_too(rt: HostRuntime) -> Result<(), Fail> {
+    assert_eq!(rt;
+        json_text(rt.alloc(), &each()[..3])?.as_str(),
+        "{\"change\":\"kept\",\"keys\":[\"dead_acute\",\"e\"],\"old\":\"é\",\"new\":\"é\",\"old_file\":\"OLD\",\"old_line\":1,\"new_file\":\"NEW\",\"new_line\":5}\n{\"change\":\"added\",\"keys\":[\"Multi_key\",\"a\",\"b\"],\"old\":null,\"new\":\"x\",\"old_file\":null,\"old_line\":null,\"new_file\":\"NEW\",\"new_line\":8}\n{\"change\":\"new start\",\"keys\":[\"F13\"],\"old\":null,\"new\":\"x\",\"old_file\":null,\"old_line\":null,\"new_file\":\"NEW\",\"new_line\":7}\n"
+    );
+    Ok(())
+}
+
+/// The answer on the rows of each change, of which these lines are accepted.
+fn answer(alloc: Global, lines: &str) -> Result<Answer, Fail> {
+    let mut rows = Vec::from_array(alloc, each())?;
+    sort_rows(&mut rows)?;
+    let accepted = Accepted::read(alloc, lines.as_bytes())?;
+    Ok(answer_diff(alloc, &rows, &accepted, true)?)
+}
+
+#[test]
+fn accepted_rows_are_counted_apart(rt: HostRuntime) -> Result<(), Fail> {
+    let yes = String::from_str(
+        rt.alloc(),
+        "added: <Multi_key> <a> <b> \"x\" NEW:8\ndiff: 1 kept, 0 changed, 0 waiting, 0 removed, 0 new starts, 1 added, 4 accepted\n",
+    )?;
+    assert_eq!(rt; answer(rt.alloc(), TO_ACCEPT)?, Answer::Yes(yes));
+    let counts = Counts::of(&each(), 0);
+    let no = format!(in rt.alloc(); "{EACH}{counts}")?;
+    assert_eq!(rt; answer(rt.alloc(), "")?, Answer::No(no));
+    Ok(())
+}
+
+/// How many of the rows of each change these lines leave.
+fn left(alloc: Global, lines: &str) -> Result<usize, AcceptFault> {
+    let accepted = Accepted::read(alloc, lines.as_bytes())?;
+    let left = accepted.leave_out(alloc, &each())?;
+    Ok(left.len())
+}
+
+#[test]
+fn told_rows_are_accepted(rt: HostRuntime) -> Result<(), Fail> {
+    assert_eq!(rt; left(rt.alloc(), ""), Ok(6));
+    assert_eq!(rt; left(rt.alloc(), TO_ACCEPT), Ok(2));
+    assert_eq!(rt;
+        left(rt.alloc(), "# meant\n\nnew start: <F13> \"x\" NEW:99"),
+        Ok(5)
+    );
+    Ok(())
+}
+
+#[test]
+fn other_lines_are_refused(rt: HostRuntime) -> Result<(), Fail> {
+    assert_eq!(rt;
+        left(rt.alloc(), "# meant\nnew start: <F13> \"y\"\n"),
+        Err(AcceptFault::Stale { line: 2 })
+    );
+    assert_eq!(rt;
+        left(
+            rt.alloc(),
+            "new start: <F13> \"x\"\n\nadded: <Multi_key> <a> <b> \"x\"\n"
+        ),
+        Err(AcceptFault::BadLine { line: 3 })
+    );
+    let (stale, bad) = (
+        AcceptFault::Stale { line: 4 },
+        AcceptFault::BadLine { line: 5 },
+    );
+    assert_eq!(rt;
+        format!(in rt.alloc(); "{stale}")?.as_str(),
+        "1 Stale line=4"
+    );
+    assert_eq!(rt;
+        format!(in rt.alloc(); "{bad}")?.as_str(),
+        "2 BadLine line=5"
+    );
+    Ok(())
+}
