@@ -178,7 +178,7 @@ impl ComposeState {
                 };
             }
             Target::Leaf(leaf) => {
-                self.pending.clear();
+                self.pending = ArrayVec::new();
                 self.status = Status::Composed;
                 return Fed {
                     accepted: true,
@@ -206,7 +206,7 @@ impl ComposeState {
                 text: plain_text(names, keysym),
             };
         }
-        self.pending.clear();
+        self.pending = ArrayVec::new();
         self.status = Status::Cancelled;
         Fed {
             accepted: true,
