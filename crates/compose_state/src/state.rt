@@ -74,6 +74,7 @@ impl ComposeState {
 
     /// Feeds one key (xkb_compose_state_feed). Takes no memory; O(pending keysyms + log edges of a node) where the pending
     /// keysyms were fed with this table, and else O(pending keysyms × log edges of a node).
+    #[inline(always)]
     pub fn feed<'t, T: ComposeTable>(
         &mut self,
         table: &'t T,
@@ -98,6 +99,7 @@ impl ComposeState {
 
     /// Goes over to the table, and feeds one key to it: `refeed` and then `feed`. Takes no memory. Where a sequence of the table goes on
     /// behind the pending keysyms with the key, or nothing is pending, it costs what `feed` alone does, and else what both cost.
+    #[inline(always)]
     pub fn refeed_and_feed<'t, T: ComposeTable>(
         &mut self,
         table: &'t T,
@@ -149,6 +151,7 @@ impl ComposeState {
     }
 
     /// Feeds a key that leads to this target behind what is pending, by the edge at this place.
+    #[inline(always)]
     fn follow<'t, T: ComposeTable>(
         &mut self,
         table: &'t T,
@@ -175,7 +178,7 @@ impl ComposeState {
                 };
             }
             Target::Leaf(leaf) => {
-                self.pending.clear();
+                self.pending = ArrayVec::new();
                 self.status = Status::Composed;
                 return Fed {
                     accepted: true,
@@ -187,6 +190,7 @@ impl ComposeState {
     }
 
     /// Feeds a key that no sequence has behind what is pending: it passes where nothing is pending, and else cancels.
+    #[inline(always)]
     fn feed_apart(&mut self, names: &Names, keysym: Keysym) -> Fed<'static>
         ensures state { self.new ≡ (if is_empty self.old.pending then record { pending = []; status = Nothing } else record { pending = []; status = Cancelled }) }
         ensures accepted { result.accepted ≡ true }
@@ -202,7 +206,7 @@ impl ComposeState {
                 text: plain_text(names, keysym),
             };
         }
-        self.pending.clear();
+        self.pending = ArrayVec::new();
         self.status = Status::Cancelled;
         Fed {
             accepted: true,
@@ -247,6 +251,7 @@ fn child<T: ComposeTable>(table: &T, node: NodeId, keysym: Keysym) -> Option<Nod
 }
 
 /// The node behind the keysym, if a sequence goes on there. Looks at this place among the node's edges first.
+#[inline(always)]
 fn child_at<T: ComposeTable>(table: &T, node: NodeId, keysym: Keysym, place: u32) -> Option<NodeId>
     requires { node.0 < length (nodes (T.definitions table.now)) }
     ensures { result ≡ node_id (T.definitions table.now) (words.node (T.definitions table.now) node.0 ++ keysym ∷ []) }
@@ -264,6 +269,7 @@ fn child_at<T: ComposeTable>(table: &T, node: NodeId, keysym: Keysym, place: u32
 }
 
 /// The node of these keysyms, if they are a node of the table. The places are hints.
+#[inline(always)]
 fn node_of<T: ComposeTable>(table: &T, keysyms: &[Keysym], places: &[u32; 31]) -> Option<NodeId>
     requires { length keysyms.now ≤ 31 }
     ensures value { result ≡ node_id (T.definitions table.now) keysyms.now }
@@ -279,6 +285,7 @@ fn node_of<T: ComposeTable>(table: &T, keysyms: &[Keysym], places: &[u32; 31]) -
 }
 
 /// The place of the keysym's edge and where it leads behind the pending ones, if they are a node of the table and it has such an edge.
+#[inline(always)]
 fn target<T: ComposeTable>(
     table: &T,
     pending: &[Keysym],

@@ -28,7 +28,7 @@ returns-in-Leaf-clause-state g c =
     let s : Session = record { pending = c.self.inside.pending.items; status = c.self.inside.status } in
     let t : Option Target = Some (Leaf c.in-Leaf.leaf) in
     let leads : target_of table s.pending c.args.keysym ≡ t = search rules in
-    session_after table s c.args.keysym t c.requires.accepted leads c.clear.new.self.items _ c.clear.ensures refl ∙ ap (λ x. fed table x c.args.keysym) c.self.view_is
+    session_after table s c.args.keysym t c.requires.accepted leads c.new-self-inside.result.items _ c.new-self-inside.ensures refl ∙ ap (λ x. fed table x c.args.keysym) c.self.view_is
 
 pub returns-in-Leaf-clause-told : goal.returns-in-Leaf-clause-told
 returns-in-Leaf-clause-told g c names =
