@@ -1,8 +1,9 @@
 #!/usr/bin/env python3
 """real.py PROGRAM BENCH: runs the program, and `compose_bench`, on the files that Debian ships (not part of the gate).
 
-The names file is keysymdef.h with our header of short names; the tables are the UTF-8 tables of libx11-data. Typing is
-compared with libxkbcommon at each of 300,000 random keys a table. The last line is `N passed, M failed`."""
+The names file is keysymdef.h with our header of short names; the tables are the UTF-8 tables of libx11-data, and one of a user
+that includes the table of the locale, each by the manifest that `composecheck manifest` prints for it. Typing is compared with
+libxkbcommon at each of 300,000 random keys a table. The last line is `N passed, M failed`."""
 import itertools
 import os
 import re
@@ -22,6 +23,13 @@ ENGLISH = os.path.join(LOCALES, "en_US.UTF-8", "Compose")
 XKB_HEADER = "/usr/include/xkbcommon/xkbcommon-compose.h"
 PACKAGES = {HEADER: "x11proto-dev", ENGLISH: "libx11-data", XKB_HEADER: "libxkbcommon-dev"}
 EMPTY_REPERTOIRE = "repertoire"
+# the table of a user: sequences of its own, one that the table of the locale has too, and one that goes on from one of its sequences
+USER = ".XCompose"
+USER_TABLE = """include "%L"
+<Multi_key> <h> <o> <m> <e> : "⌂" U2302
+<Multi_key> <apostrophe> <e> : "é!"
+<dead_acute> <a> <a> : "áá"
+"""
 KEYS = 300_000
 KEYS_A_PROCESS = 30_000
 
@@ -48,11 +56,21 @@ def locales():
     return sorted(name for name in os.listdir(LOCALES) if name.endswith(".UTF-8") and os.path.exists(os.path.join(LOCALES, name, "Compose")))
 
 
-def write_manifests(folder):
-    """A manifest for each table under either rule: the table, and the one that others include."""
-    for name, rule in itertools.product(locales(), ["refuse", "longest"]):
-        with open(os.path.join(folder, f"{name}.{rule}"), "w") as manifest:
-            manifest.write(f"overlap {rule}\nroot\t{os.path.join(LOCALES, name, 'Compose')}\n{ENGLISH}\t{ENGLISH}\n")
+def tables(folder):
+    """The path of each table by its name."""
+    return {name: os.path.join(LOCALES, name, "Compose") for name in locales()} | {USER: os.path.join(folder, USER)}
+
+
+def write_manifests(program, folder, results):
+    """The manifest that is printed for each table, under either rule."""
+    with open(os.path.join(folder, USER), "w", encoding="utf-8") as table:
+        table.write(USER_TABLE)
+    for name, path in tables(folder).items():
+        ran = run(program, folder, "manifest", "--system", LOCALES, "--locale", "en_US.UTF-8", path)
+        results.expect(f"the manifest of {name}", ran.returncode == 0, ran.stderr)
+        for rule in ["refuse", "longest"]:
+            with open(os.path.join(folder, f"{name}.{rule}"), "w") as manifest:
+                manifest.write(f"overlap {rule}\n{ran.stdout}")
     with open(os.path.join(folder, "names"), "w") as names:
         names.write(open(HEADER).read() + open(SHORT_NAMES).read())
     with open(os.path.join(folder, "nothing"), "w") as manifest:
@@ -172,9 +190,11 @@ def check_typing(program, folder, results):
     compiler = ["cc", "-O2", "-o", "xkb", os.path.join(TOP, "bench", "xkb.c"), "-lxkbcommon"]
     subprocess.run(compiler, cwd=folder, check=True)
     values = key_streams.header_values()
-    for name in locales():
-        path = os.path.join(LOCALES, name, "Compose")
-        keys = key_streams.random_keys(key_streams.sequences(path, values), KEYS, name)
+    for name, path in tables(folder).items():
+        sequences = key_streams.sequences(path, values)
+        if name == USER:
+            sequences += key_streams.sequences(ENGLISH, values)
+        keys = key_streams.random_keys(sequences, KEYS, name)
         agreed = 0
         for start in range(0, KEYS, KEYS_A_PROCESS):
             part = keys[start : start + KEYS_A_PROCESS]
@@ -198,7 +218,7 @@ def main():
             return 2
     results = Results()
     with tempfile.TemporaryDirectory() as folder:
-        write_manifests(folder)
+        write_manifests(program, folder, results)
         check_header(program, folder, results)
         check_tables(program, folder, results)
         check_counts(bench, folder, results)

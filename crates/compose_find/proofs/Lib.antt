@@ -2,3 +2,4 @@ mod Percents
 mod IncludeLines
 mod Folders
 mod Searches
+mod Followed

@@ -3,3 +3,4 @@ pub mod Includes
 pub mod Locales
 pub mod Found
 pub mod Given
+pub mod Sources

@@ -13,6 +13,7 @@
 mod fault;
 mod files;
 mod includes;
+mod law;
 mod locales;
 mod met;
 mod paths;
@@ -22,7 +23,9 @@ mod search;
 pub use fault::IncludeFault;
 pub use files::Files;
 pub use includes::{Include, includes_of};
+pub use law::law_found;
 pub use locales::locale_file;
 pub use met::{FindFault, Met};
+pub use paths::beside;
 pub use percent::{Meanings, expand};
 pub use search::find_sources;

@@ -23,8 +23,8 @@ pub(crate) fn include_path(
     }
 }
 
-/// The path, taken from the folder of the including file where it is a relative one.
-pub(crate) fn beside(alloc: Global, from: &str, path: &str) -> Result<String, AllocError>
+/// The path, taken from the folder of the file `from` where it is a relative one; an absolute one as it is. O(bytes).
+pub fn beside(alloc: Global, from: &str, path: &str) -> Result<String, AllocError>
     ensures { IfOk result (λ beside. string_bytes beside ≡ paths.beside from.now path.now) }
 {
     let mut beside = String::new(alloc);

@@ -1,10 +1,10 @@
 -- The least typings: of the lists of keys that type a character a shortest one, and the first of these in the order of sequences.
-use Rattle.std.specs.Prelude.{◌≡◌, ◌⊎◌, ◌<◌, ℕ, Bool, List, map, IsTrue}
+use Rattle.std.specs.Prelude.{◌≡◌, ◌⊎◌, ◌<◌, ℕ, Bool, not, List, map, IsTrue}
 use Rattle.std.specs.List.{list_all, AllByRecursion}
 use Rattle.keysym_core.specs.Names.{KeysymNames}
 use Rattle.compose_model.specs.Table.{Definition, has_key}
 use Rattle.compose_model.specs.Follows.{Types}
-use Rattle.compose_model.specs.Certificate.{Typing, Repertoire, is_key}
+use Rattle.compose_model.specs.Certificate.{Typing, Repertoire, is_key, keys_rise}
 use Rattle.compose_walk.specs.Evidence.{comes_first}
 
 -- the keys are all in the repertoire
@@ -27,3 +27,10 @@ pub record IsUnreachable (names : KeysymNames) (table : List Definition) (repert
   pub wanted : IsTrue (has_key repertoire.characters c)
   pub untyped : (w : List ℕ) → IsTrue (are_keys repertoire w) → Types names table w c → ⊥
   pub earlier_typed : (d : ℕ) → IsTrue (has_key repertoire.characters d) → d < c → (w : List ℕ) × IsLeastTyping names table repertoire d w
+
+-- these are, in order, the characters of the repertoire that no list of its keys types: each of the others has a least typing
+pub record AreUntypable (names : KeysymNames) (table : List Definition) (repertoire : Repertoire) (characters : List ℕ) : Type 0 where
+  pub rise : IsTrue (keys_rise characters)
+  pub wanted : (c : ℕ) → IsTrue (has_key characters c) → IsTrue (has_key repertoire.characters c)
+  pub untyped : (c : ℕ) → IsTrue (has_key characters c) → (w : List ℕ) → IsTrue (are_keys repertoire w) → Types names table w c → ⊥
+  pub others_typed : (c : ℕ) → IsTrue (has_key repertoire.characters c) → IsTrue (not (has_key characters c)) → (w : List ℕ) × IsLeastTyping names table repertoire c w

@@ -48,6 +48,11 @@ abbrev pub first_missing : List WantedCharacter → Option ℕ
 first_missing [] = None
 first_missing (row ∷ rows) = if is_some row.keys then first_missing rows else Some row.character
 
+-- all characters for which no keys are known
+abbrev pub all_missing : List WantedCharacter → List ℕ
+all_missing [] = []
+all_missing (row ∷ rows) = if is_some row.keys then all_missing rows else row.character ∷ all_missing rows
+
 -- these typings are what the rows say
 abbrev pub IsOfRows : List WantedCharacter → Typings → Type 0
 IsOfRows rows (Found typings) = (first_missing rows ≡ None) × (typings ≡ map typing_of rows)

@@ -15,4 +15,4 @@ pub use compose_walk::{
 };
 pub use list::TypingList;
 pub use maker::{Made, make};
-pub use typings::{Typings, find_typings};
+pub use typings::{Typings, find_typings, untypable};

@@ -1,7 +1,8 @@
 //! A typing for each character that people need.
 ghost use Rattle.std.specs.Prelude.{◌≡◌, IfOk, IfErr};
+ghost use Rattle.compose_make.specs.Least.{AreUntypable};
 ghost use Rattle.compose_make.specs.Candidates.{is_plain};
-ghost use Rattle.compose_make.specs.Wanted.{AreLeast, IsOfRows, characters_of};
+ghost use Rattle.compose_make.specs.Wanted.{AreLeast, IsOfRows, all_missing, characters_of};
 ghost use Rattle.compose_make.specs.Found.{IsTypings};
 
 use crate::list::TypingList;
@@ -47,6 +48,27 @@ pub fn find_typings<U: ComposeTable>(
     typings_of(alloc, &rows)
 }
 
+/// Finds all characters of the repertoire that no list of its keys types, in order. At the cost of `find_typings`.
+///
+/// # Errors
+/// `NoMemory` alone.
+pub fn untypable<U: ComposeTable>(
+    alloc: Global,
+    table: &U,
+    names: &Names,
+    repertoire: &Repertoire,
+) -> Result<Vec<char>, MakeFault>
+    ensures found { IfOk result (λ characters. AreUntypable names.now (U.definitions table.now) repertoire.now characters.items) }
+    ensures err { IfErr result (λ e. e ≡ MakeFault.NoMemory) }
+{
+    // The contracts of these calls say that the table is settled and the repertoire sound.
+    let _ = table.node_count();
+    let _ = repertoire.count();
+    let mut rows = wanted_rows(alloc, table, names, repertoire)?;
+    visit(table, repertoire, NodeId::ROOT, &[], &mut rows);
+    missing_of(alloc, &rows)
+}
+
 /// A row for each character of the repertoire, with the key that types it by itself, if there is one.
 fn wanted_rows<U: ComposeTable>(
     alloc: Global,
@@ -80,4 +102,18 @@ fn typings_of(alloc: Global, rows: &[Wanted]) -> Result<Typings, MakeFault>
         typings.push(typing)?;
     }
     Ok(Typings::Found(TypingList::new(typings)))
+}
+
+/// The characters of the rows that have no keys.
+fn missing_of(alloc: Global, rows: &[Wanted]) -> Result<Vec<char>, MakeFault>
+    ensures found { IfOk result (λ missing. missing.items ≡ all_missing rows.now) }
+    ensures err { IfErr result (λ e. e ≡ MakeFault.NoMemory) }
+{
+    let mut missing = Vec::new(alloc);
+    for row in rows {
+        if !row.has_keys() {
+            missing.push(row.character())?;
+        }
+    }
+    Ok(missing)
 }

@@ -1,5 +1,5 @@
 //! The characters that people need, each with the first keys that were found for it.
-ghost use Rattle.std.specs.Prelude.{◌≡◌, ◌<◌, ◌≤◌, ℕ, [], ◌∷◌, ◌++◌, map, length, get_or, encode_utf8, MatchOption, IsTrue, IfOk, Some, None};
+ghost use Rattle.std.specs.Prelude.{◌≡◌, ◌<◌, ◌≤◌, ℕ, [], ◌∷◌, ◌++◌, map, length, get_or, encode_utf8, MatchOption, IsTrue, IfOk, Some, None, is_some};
 ghost use Rattle.std.specs.Option.{option_map};
 ghost use Rattle.compose_model.specs.Certificate.{keys_rise};
 ghost use Rattle.compose_walk.specs.Evidence.{comes_first};
@@ -55,6 +55,13 @@ impl Wanted {
             Some(keys) => Ok(Some(Typing::new(self.character, keys.as_slice().to_vec(alloc)?))),
             None => Ok(None),
         }
+    }
+
+    /// Whether keys were found.
+    pub fn has_keys(&self) -> bool
+        ensures { result ≡ is_some self.now.keys }
+    {
+        self.keys.is_some()
     }
 
     /// Takes these keys where they come first.

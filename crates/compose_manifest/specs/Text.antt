@@ -1,9 +1,10 @@
 -- The manifest of sources that were found.
-use Rattle.std.specs.Prelude.{◌≡◌, ℕ, Bool, true, false, ◌&&◌, List, [], ◌∷◌, ◌++◌, flat_map, Result, Ok, Err, unwrap_or, string_bytes, bytes_eq, IsTrue}
+use Rattle.std.specs.Prelude.{◌≡◌, ℕ, Bool, true, false, not, ◌&&◌, if◌then◌else◌, List, [], ◌∷◌, ◌++◌, flat_map, Result, Ok, Err, unwrap_or, string_bytes, bytes_eq, IsTrue}
 use Rattle.std.specs.declared.alloc.Global.{Global}
 use Rattle.std.specs.declared.string.String.{String}
 use Rattle.compose_model.specs.declared.Rule.{Rule}
 use Rattle.compose_model.specs.declared.Rule.TheVariants.{Refuse, Longest}
+use Rattle.compose_find.specs.Expand.{beside}
 use Rattle.compose_find.specs.Found.{Met}
 use Rattle.compose_tool.specs.Manifest.{Entry, Listing, listing_of}
 use Rattle.compose_manifest.specs.declared.WriteFault.{WriteFault}
@@ -31,9 +32,13 @@ abbrev pub is_refuse : Rule → Bool
 is_refuse Refuse = true
 is_refuse Longest = false
 
--- the listing has the sources' entries, and refuses overlaps
+-- the listing has the sources' entries, and refuses overlaps; relative paths go from the folder in which the program runs
 abbrev pub lists : Listing → List Met → Bool
-lists listing sources = is_refuse (unwrap_or listing.rule Refuse) && are_entries listing.entries sources
+lists listing sources = not listing.paths_here && is_refuse (unwrap_or listing.rule Refuse) && are_entries listing.entries sources
+
+-- the path of an entry's file, where the manifest with this listing lies at a path
+abbrev pub file_path : Listing → List ℕ → List ℕ → List ℕ
+file_path listing manifest path = if listing.paths_here then beside manifest path else path
 
 -- a manifest's bytes are read as a listing of the sources
 abbrev pub ReadsAs : List ℕ → List Met → Type 0

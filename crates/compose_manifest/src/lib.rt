@@ -1,13 +1,14 @@
-//! The manifest of the sources that were found on a system.
+//! The manifest of the sources that were found on a system, and the paths of a manifest.
 //!
-//! [`manifest_text`] writes a line for each source, and reads the text back: what it gives lists these sources.
+//! [`manifest_text`] writes a line for each source, and reads the text back: what it gives lists these sources. [`file_path`] says where the
+//! file of an entry lies.
 #![tactic(auto)]
 
 ghost use Rattle.std.specs.Prelude.{◌≡◌, ◌++◌, ◌∷◌, [], IfOk, OnOk, string_bytes};
 ghost use Rattle.compose_manifest.specs.Text as text;
 ghost use Rattle.compose_manifest.specs.declared.WriteFault.TheVariants.{NoMemory};
 
-use compose_find::Met;
+use compose_find::{Met, beside};
 use compose_model::Rule;
 use compose_tool::{Entry, Manifest, ManifestFault, read_manifest};
 use std::alloc::{AllocError, AllocFailed, Global};
@@ -53,6 +54,22 @@ pub fn manifest_text(alloc: Global, sources: &[Met]) -> Result<String, WriteFaul
     }
 }
 
+/// The path of the file of this entry, where the manifest lies at the path `at`: a relative one goes from the manifest's folder where the
+/// manifest says so, and else stays relative to the folder in which the program runs. O(bytes).
+pub fn file_path(
+    alloc: Global,
+    manifest: &Manifest,
+    at: &str,
+    entry: &Entry,
+) -> Result<String, AllocError>
+    ensures { IfOk result (λ path. string_bytes path ≡ text.file_path manifest.now at.now entry.now.path) }
+{
+    if manifest.paths_here() {
+        return beside(alloc, at, &entry.path);
+    }
+    String::from_str(alloc, &entry.path)
+}
+
 /// A line for each source.
 fn lines_of(alloc: Global, sources: &[Met]) -> Result<String, AllocError>
     ensures { IfOk result (λ written. string_bytes written ≡ text.manifest_bytes sources.now) }
@@ -74,11 +91,13 @@ fn push_line(lines: &mut String, source: &Met) -> Result<(), AllocError>
     lines.push('\n')
 }
 
-/// Whether the manifest lists these sources, by the rule that refuses overlaps.
+/// Whether the manifest lists these sources, by the rule that refuses overlaps and with paths as they stand.
 fn lists(manifest: &Manifest, sources: &[Met]) -> bool
     ensures { result ≡ text.lists manifest.now sources.now }
 {
-    manifest.rule() == Rule::Refuse && are_entries(manifest.entries(), sources)
+    !manifest.paths_here()
+        && manifest.rule() == Rule::Refuse
+        && are_entries(manifest.entries(), sources)
 }
 
 /// Whether the entries are those of the sources, in order.

@@ -34,13 +34,13 @@ pub data Event : Type 0 where
   refuses : Event
   sends : List ℕ → Event
 
--- a piece comes only where all is sent, and stands behind what is held
+-- a piece comes only where all is sent, and follows what is held
 pub record Receives (s : ConnectionState) (piece : List ℕ) (s' : ConnectionState) : Type 0 where
   pub goes_on : s.refused ≡ false
   pub all_sent : s.unsent ≡ []
   pub after : s' ≡ record s { held = s.held ++ piece }
 
--- the request whose frame is held first is answered, where less than the limit is unsent, and its reply stands behind what is unsent
+-- the request whose frame is held first is answered, where less than the limit is unsent, and its reply follows what is unsent
 pub record Answers (limit : ℕ) (s : ConnectionState) (x : Exchange) (s' : ConnectionState) : Type 0 where
   pub goes_on : s.refused ≡ false
   pub below : length s.unsent < limit

@@ -125,7 +125,7 @@ fn cut_anywhere(rt: HostRuntime) -> Result<(), Fail> {
     Ok(())
 }
 
-/// What stands behind an open and a key, and its fault.
+/// What follows an open and a key, and its fault.
 static FAULTS: [(&[u8], Option<WireFault>); 12] = [
     (&[5, 0, 0, 0, 0, 0, 0x80, 0, 1], Some(WireFault::TooLong)),
     (&[7, 0, 0, 0, 0, 0, 0x80, 0, 1], Some(WireFault::TooLong)),
@@ -141,7 +141,7 @@ static FAULTS: [(&[u8], Option<WireFault>); 12] = [
     (&[2, 0, 0, 0, 7, 0, 0, 0, 4, 0xff], None),
 ];
 
-/// A feeder that holds an open, a key and what stands behind them.
+/// A feeder that holds an open, a key and what follows them.
 fn fed(alloc: Global, behind: &[u8]) -> Result<Feeder, Fail> {
     let mut feeder = Feeder::new(alloc);
     feed(&mut feeder, &OPEN_AND_KEY)?;

@@ -1,5 +1,5 @@
 -- Fresh keysyms and a manifest, read by the definitions.
-use Rattle.std.proofs.Common.{◌≡◌, List, [], ◌∷◌, ◌++◌, refl}
+use Rattle.std.proofs.Common.{true, ◌≡◌, List, [], ◌∷◌, ◌++◌, refl}
 use Rattle.std.specs.Prelude.{Some, None, Ok, Err, codes}
 use Rattle.std.specs.Char.{encode_utf8}
 use Rattle.std.specs.Str.{is_utf8, chars}
@@ -28,9 +28,9 @@ falling = refl
 
 -- ---- a manifest
 
--- a rule, a comment, and two entries
-two_entries : listing_of (codes "overlap longest" ++ 10 ∷ codes "# both" ++ 10 ∷ codes "root" ++ 9 ∷ codes "a.compose" ++ 10 ∷ codes "more" ++ 9 ∷ codes "b.compose" ++ 10 ∷ [])
-    ≡ Ok (record { rule = Some Longest; entries = record { name = codes "root"; path = codes "a.compose" } ∷ record { name = codes "more"; path = codes "b.compose" } ∷ [] })
+-- a rule, where paths go from, a comment, and two entries
+two_entries : listing_of (codes "overlap longest" ++ 10 ∷ codes "paths here" ++ 10 ∷ codes "# both" ++ 10 ∷ codes "root" ++ 9 ∷ codes "a.compose" ++ 10 ∷ codes "more" ++ 9 ∷ codes "b.compose" ++ 10 ∷ [])
+    ≡ Ok (record { rule = Some Longest; paths_here = true; entries = record { name = codes "root"; path = codes "a.compose" } ∷ record { name = codes "more"; path = codes "b.compose" } ∷ [] })
 unfolding is_utf8 chars encode_utf8
 two_entries = refl
 

@@ -5,3 +5,4 @@ pub mod OneKey
 pub mod Moves
 pub mod Rising
 pub mod Steps
+mod Untypable

@@ -1,7 +1,7 @@
 -- What each command answers on its parts.
-use Rattle.std.specs.Prelude.{◌≡◌, ◌≢◌, ◌⊎◌, ℕ, List, [], ◌∷◌, ◌++◌, Option, Some, None, string_bytes, codes, true, not}
+use Rattle.std.specs.Prelude.{◌≡◌, ◌≢◌, ◌⊎◌, ℕ, List, [], ◌∷◌, ◌++◌, length, filter, flat_map, if◌then◌else◌, Option, Some, None, string_bytes, codes, true, not}
 use Rattle.std.specs.List.{find}
-use Rattle.std.specs.Fmt.{digits}
+use Rattle.std.specs.Fmt.{decimal, digits}
 use Rattle.keysym_core.specs.Names.{KeysymNames}
 use Rattle.keysym_core.specs.Printed.{at_least_four}
 use Rattle.compose_model.specs.Table.{Definition, has_key}
@@ -13,8 +13,9 @@ use Rattle.compose_check.specs.Input.{verdict_on}
 use Rattle.compose_check.specs.declared.verdict.Verdict.TheVariants as verdicts
 use Rattle.compose_walk.specs.Evidence.{Evidence, IsLeast, AreDifferences}
 use Rattle.compose_walk.specs.Explained.{explained, all_explained}
-use Rattle.compose_make.specs.Least.{IsUnreachable}
+use Rattle.compose_make.specs.Least.{AreUntypable, IsUnreachable}
 use Rattle.compose_make.specs.Made.{IsMadeFor}
+use Rattle.compose_migration.specs.Migration.{Parts}
 use Rattle.compose_tool.specs.Parts.{TypedParts, AllowedParts, Explainable, Needs}
 use Rattle.compose_tool.specs.Typed.{typed_lines}
 use Rattle.compose_tool.specs.declared.answer.Answer.{Answer}
@@ -103,3 +104,54 @@ IsMadeText needs (Yes text) = SpellsMade needs (string_bytes text)
 IsMadeText needs (No text) = TellsLeast needs.move.names needs.fresh needs.move.old needs.move.new (string_bytes text) ⊎ TellsUnreachable needs (string_bytes text)
 IsMadeText needs (Invalid fault) = ⊥
 IsMadeText needs (FreshNotAllowed keysym) = ⊥
+
+-- ---- make --all
+
+-- the words for a character that the old table can't type either
+abbrev pub tables_words : List ℕ → ℕ → List ℕ
+tables_words old c = if has_key old c then codes " in both tables" else []
+
+-- a character's line
+abbrev pub untypable_line : List ℕ → ℕ → List ℕ
+untypable_line old c = one_line (codes "unreachable U+" ++ at_least_four (digits 16 true c) ++ tables_words old c)
+
+abbrev pub each_untypable : List ℕ → List ℕ → List ℕ
+each_untypable old new = flat_map (untypable_line old) new
+
+-- how many the old table can type, and how many it can't
+abbrev pub count_alone : List ℕ → List ℕ → ℕ
+count_alone old new = length (filter (λ c. not (has_key old c)) new)
+
+abbrev pub count_of_both : List ℕ → List ℕ → ℕ
+count_of_both old new = length (filter (λ c. has_key old c) new)
+
+-- as `3 unreachable: 2 in the new table alone, 1 in both tables`
+abbrev pub untypable_count : List ℕ → List ℕ → List ℕ
+untypable_count old new =
+    one_line (decimal (length new) ++ codes " unreachable: " ++ decimal (count_alone old new) ++ codes " in the new table alone, " ++ decimal (count_of_both old new) ++ codes " in both tables")
+
+-- a line for each character that the new table can't type, and a line that counts them
+abbrev pub untypable_lines : List ℕ → List ℕ → List ℕ
+untypable_lines old new = each_untypable old new ++ untypable_count old new
+
+-- the bytes tell each character that the new table can't type, and which of them the old table can't type either
+pub record IsUntypableText (move : Parts) (repertoire : certificates.Repertoire) (bytes : List ℕ) : Type 0 where
+  pub old : List ℕ
+  pub are_old : AreUntypable move.names move.old repertoire old
+  pub new : List ℕ
+  pub are_new : AreUntypable move.names move.new repertoire new
+  pub is : bytes ≡ untypable_lines old new
+
+-- the new table follows, no list of keys types some character, and the bytes tell each such one
+pub record TellsUntypable (needs : Needs) (bytes : List ℕ) : Type 0 where
+  pub follows : model.Follows needs.move.names needs.fresh needs.move.old needs.move.new
+  pub least : ℕ
+  pub unreachable : IsUnreachable needs.move.names needs.move.new needs.repertoire least
+  pub tells : IsUntypableText needs.move needs.repertoire bytes
+
+-- a certificate's text; else the least counterexample's, where the new table does not follow; else all characters that have no typing
+abbrev pub IsAllMadeText : Needs → Answer → Type 0
+IsAllMadeText needs (Yes text) = SpellsMade needs (string_bytes text)
+IsAllMadeText needs (No text) = TellsLeast needs.move.names needs.fresh needs.move.old needs.move.new (string_bytes text) ⊎ TellsUntypable needs (string_bytes text)
+IsAllMadeText needs (Invalid fault) = ⊥
+IsAllMadeText needs (FreshNotAllowed keysym) = ⊥

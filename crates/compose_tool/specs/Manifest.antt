@@ -1,5 +1,5 @@
 -- Manifests: the files of a table, under the names by which includes find them (this project's profile).
-use Rattle.std.specs.Prelude.{ℕ, Bool, true, not, ◌+◌, ◌-◌, ◌&&◌, ◌||◌, ◌==◌, nat_lt, if◌then◌else◌, List, [], ◌∷◌, ◌++◌, length, take, drop, Option, Some, None, is_some, Result, Ok, Err, bytes_eq, codes}
+use Rattle.std.specs.Prelude.{ℕ, Bool, true, false, not, ◌+◌, ◌-◌, ◌&&◌, ◌||◌, ◌==◌, nat_lt, if◌then◌else◌, List, [], ◌∷◌, ◌++◌, length, take, drop, Option, Some, None, is_some, Result, Ok, Err, bytes_eq, codes}
 use Rattle.std.specs.Str.{is_utf8}
 use Rattle.std.specs.Option.{option_map_or}
 use Rattle.std.specs.List.{list_all}
@@ -16,9 +16,10 @@ pub record Entry : Type 0 where
   pub name : List ℕ
   pub path : List ℕ
 
--- the rule for overlaps, if the manifest says one, and the entries, the root first
+-- the rule for overlaps, if the manifest says one, whether the paths of the entries are relative to the manifest, and the entries, the root first
 pub record Listing : Type 0 where
   pub rule : Option Rule
+  pub paths_here : Bool
   pub entries : List Entry
 
 -- ---- a line
@@ -55,11 +56,19 @@ entry_of line = entry_of_parts (front is_no_tab line) (behind is_no_tab line)
 abbrev pub rule_of : List ℕ → Option Rule
 rule_of line = if bytes_eq line (codes "overlap longest") then Some Longest else if bytes_eq line (codes "overlap refuse") then Some Refuse else None
 
+-- the line by which paths are relative to the manifest
+abbrev pub says_paths_here : List ℕ → Bool
+says_paths_here line = bytes_eq line (codes "paths here")
+
 -- ---- all lines
 
 -- the listing with a rule, which stands before the entries and once
 abbrev pub with_rule : ℕ → Listing → Rule → Result Listing ManifestFault
 with_rule n listing rule = if is_some listing.rule || nat_lt 0 (length listing.entries) then Err (BadLine n) else Ok (record listing { rule = Some rule })
+
+-- the listing whose paths are relative to the manifest, which is said before the entries and once
+abbrev pub with_paths_here : ℕ → Listing → Result Listing ManifestFault
+with_paths_here n listing = if listing.paths_here || nat_lt 0 (length listing.entries) then Err (BadLine n) else Ok (record listing { paths_here = true })
 
 abbrev pub with_entry : ℕ → Listing → Option Entry → Result Listing ManifestFault
 with_entry n listing None = Err (BadLine n)
@@ -67,7 +76,9 @@ with_entry n listing (Some entry) = Ok (record listing { entries = listing.entri
 
 -- the listing with what a line says
 abbrev pub with_text : ℕ → Listing → List ℕ → Result Listing ManifestFault
-with_text n listing line = if is_skipped line then Ok listing else option_map_or (with_rule n listing) (rule_of line) (with_entry n listing (entry_of line))
+with_text n listing line =
+    if is_skipped line then Ok listing else
+    if says_paths_here line then with_paths_here n listing else option_map_or (with_rule n listing) (rule_of line) (with_entry n listing (entry_of line))
 
 -- and with what line n says, which is to be UTF-8
 abbrev pub with_line : ℕ → Listing → List ℕ → Result Listing ManifestFault
@@ -85,4 +96,4 @@ some_entries (Ok listing) = if nat_lt 0 (length listing.entries) then Ok listing
 
 -- what a manifest lists, or the fault of its first faulty line
 abbrev pub listing_of : List ℕ → Result Listing ManifestFault
-listing_of bytes = some_entries (lines_on 1 (lines_of bytes) (Ok (record { rule = None; entries = [] })))
+listing_of bytes = some_entries (lines_on 1 (lines_of bytes) (Ok (record { rule = None; paths_here = false; entries = [] })))

@@ -1,5 +1,5 @@
 -- What users and files wrote, as it is printed to a terminal (this project's profile).
-use Rattle.std.specs.Prelude.{ℕ, Bool, ◌||◌, if◌then◌else◌, List, ◌++◌, flat_map, codes, false}
+use Rattle.std.specs.Prelude.{ℕ, Bool, ◌||◌, ◌==◌, if◌then◌else◌, List, ◌++◌, flat_map, codes, false}
 use Rattle.std.specs.Fmt.{digits}
 use Rattle.std.specs.Str.{chars}
 use Rattle.std.specs.Char.{encode_utf8}
@@ -15,3 +15,10 @@ shown_character c = if is_unsafe c then codes "\\u{" ++ digits 16 false c ++ cod
 
 abbrev pub shown_text : List ℕ → List ℕ
 shown_text text = flat_map shown_character (chars text)
+
+-- a newline (code 10) itself, any other character as above
+abbrev pub shown_in_lines : ℕ → List ℕ
+shown_in_lines c = if c == 10 then encode_utf8 c else shown_character c
+
+abbrev pub shown_lines : List ℕ → List ℕ
+shown_lines text = flat_map shown_in_lines (chars text)

@@ -62,7 +62,7 @@ fn tell_made<T: ComposeTable>(
 }
 
 /// The text of a certificate.
-fn spell(alloc: Global, certificate: &Certificate) -> Result<String, AllocError>
+pub fn spell(alloc: Global, certificate: &Certificate) -> Result<String, AllocError>
     ensures { IfOk result (λ text. Spells (string_bytes text) certificate.now) }
 {
     certificate.write_text(alloc).map_err(|_| AllocError)

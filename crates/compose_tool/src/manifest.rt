@@ -4,7 +4,7 @@ ghost use Rattle.std.specs.List.{list_all};
 ghost use Rattle.std.specs.Option.{option_map};
 ghost use Rattle.compose_model.specs.declared.Rule.TheVariants.{Refuse, Longest};
 ghost use Rattle.compose_tool.specs.Manifest as words;
-ghost use Rattle.compose_tool.specs.Manifest.{listing_of, with_rule, with_text};
+ghost use Rattle.compose_tool.specs.Manifest.{listing_of, with_paths_here, with_rule, with_text};
 ghost use Rattle.compose_tool.specs.Given.{ManifestGives, LineGives, SaidGives, entry};
 
 use compose_model::Rule;
@@ -63,10 +63,11 @@ impl Model for Entry {
     ghost view = { λ e. record { name = string_bytes e.name; path = string_bytes e.path } };
 }
 
-/// The sources of a table in order, the root first, and the rule for its overlaps.
+/// The sources of a table in order, the root first, the rule for its overlaps, and from where relative paths go.
 #[derive(Drop)]
 pub struct Manifest {
     rule: Option<Rule>,
+    paths_here: bool,
     entries: Vec<Entry>,
 }
 
@@ -75,7 +76,7 @@ impl Model for Manifest {
 
     ghost Value = { Listing };
 
-    ghost view = { λ m. record { rule = m.rule; entries = m.entries.items } };
+    ghost view = { λ m. record { rule = m.rule; paths_here = m.paths_here; entries = m.entries.items } };
 }
 
 impl Manifest {
@@ -115,15 +116,24 @@ impl Manifest {
     {
         self.rule.unwrap_or(Rule::Refuse)
     }
+
+    /// Whether a relative path of an entry goes from the folder of the manifest; else it goes from the folder in which the program
+    /// runs. O(1).
+    pub fn paths_here(&self) -> bool
+        ensures { result ≡ self.now.paths_here }
+    {
+        self.paths_here
+    }
 }
 
 /// What a manifest lists, or the fault of its first faulty line. A line is a name, one tab and a path, or empty, or begins
-/// with `#`; a line `overlap longest` or `overlap refuse` may stand before the entries, once. O(bytes).
+/// with `#`; a line `overlap longest` or `overlap refuse` may stand before the entries, once, and so may a line `paths here`. O(bytes).
 pub fn read_manifest(alloc: Global, bytes: &[u8]) -> Result<Manifest, ManifestFault>
     ensures { ManifestGives result (listing_of bytes.now) }
 {
     let mut manifest = Manifest {
         rule: None,
+        paths_here: false,
         entries: Vec::new(alloc),
     };
     let mut rest = bytes;
@@ -159,6 +169,9 @@ impl Manifest {
         if is_skipped(text) {
             return Ok(());
         }
+        if text == "paths here" {
+            return self.set_paths_here(number);
+        }
         if let Some(rule) = rule_of(text) {
             return self.set_rule(number, rule);
         }
@@ -176,6 +189,17 @@ impl Manifest {
             return Err(ManifestFault::BadLine { line: number });
         }
         self.rule = Some(rule);
+        Ok(())
+    }
+
+    /// Takes relative paths from the manifest's folder, which is said before the entries and once.
+    fn set_paths_here(&mut self, number: usize) -> Result<(), ManifestFault>
+        ensures { SaidGives (with_paths_here number self.old) result self.new }
+    {
+        if self.paths_here || !self.entries.is_empty() {
+            return Err(ManifestFault::BadLine { line: number });
+        }
+        self.paths_here = true;
         Ok(())
     }
 

@@ -2,7 +2,7 @@
 ghost use Rattle.std.specs.Prelude.{◌≡◌, Some, IsOk};
 ghost use Rattle.std.specs.Fmt.{HasWritten, IsPlainFormatter};
 ghost use Rattle.compose_tool.specs.Shown as words;
-ghost use Rattle.compose_tool.specs.Shown.{shown_character, shown_text};
+ghost use Rattle.compose_tool.specs.Shown.{shown_character, shown_in_lines, shown_lines, shown_text};
 
 use std::fmt;
 
@@ -28,6 +28,45 @@ fn write_shown<W: fmt::Write>(text: &str, f: &mut fmt::Formatter<W>) -> fmt::Res
         write!(f, "{shown}")?;
     }
     Ok(())
+}
+
+/// A text of several lines, printed as [`Shown`] prints one, but for its newlines, which stay.
+#[derive(Clone, Copy, Debug)]
+pub struct ShownLines<'a>(pub &'a str);
+
+impl fmt::Display for ShownLines<'_> {
+    ghost output = { λ shown. Some (shown_lines shown.0.now) };
+
+    fn fmt<W: fmt::Write>(&self, f: &mut fmt::Formatter<W>) -> fmt::Result {
+        write_lines(self.0, f)
+    }
+}
+
+/// Writes each character of the lines.
+fn write_lines<W: fmt::Write>(text: &str, f: &mut fmt::Formatter<W>) -> fmt::Result
+    ensures { IsPlainFormatter f.old → IsOk result → HasWritten W.write_str_gives f.old (shown_lines text.now) f.new }
+{
+    for character in text.chars() {
+        let shown = ShownInLines(character);
+        write!(f, "{shown}")?;
+    }
+    Ok(())
+}
+
+/// A character of several lines, printed so that it can't steer a terminal.
+#[derive(Clone, Copy, Debug)]
+struct ShownInLines(char);
+
+impl fmt::Display for ShownInLines {
+    ghost output = { λ shown. Some (shown_in_lines shown.0) };
+
+    fn fmt<W: fmt::Write>(&self, f: &mut fmt::Formatter<W>) -> fmt::Result {
+        if self.0 == '\n' {
+            return f.write_char(self.0);
+        }
+        let shown = ShownCharacter(self.0);
+        write!(f, "{shown}")
+    }
 }
 
 /// A character, printed so that it can't steer a terminal.

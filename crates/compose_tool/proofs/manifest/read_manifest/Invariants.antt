@@ -1,11 +1,11 @@
-use Rattle.std.proofs.Common.{◌≡◌, ◌≤◌, ◌+◌, length}
+use Rattle.std.proofs.Common.{◌≡◌, ◌≤◌, ◌+◌, length, false}
 use Rattle.std.specs.Prelude.{Ok, None, []}
 use Rattle.compose_text.specs.Lines.{lines_of}
 use Rattle.compose_tool.specs.Manifest.{Listing, lines_on}
 use Rattle.compose_tool.proofs.manifest.read_manifest.Given as goal
 
 abbrev nothing : Listing
-nothing = record { rule = None; entries = [] }
+nothing = record { rule = None; paths_here = false; entries = [] }
 
 -- the lines that are left bring the listing to what all of them say, and no more lines were read than bytes
 abbrev pub invariant-loop-line : goal.invariant-loop-line

@@ -1,0 +1,163 @@
+//! `make --all`: a certificate, or all characters that can't be typed.
+ghost use Rattle.std.specs.Prelude.{◌≡◌, ◌++◌, string_bytes, IfOk};
+ghost use Rattle.compose_migration.specs.Given.{given_of, parts};
+ghost use Rattle.compose_make.specs.Least.{AreUntypable};
+ghost use Rattle.compose_tool.specs.Parts.{makeable, make_parts};
+ghost use Rattle.compose_tool.specs.Refused.{Gives};
+ghost use Rattle.compose_tool.specs.Answers as answers;
+ghost use Rattle.compose_tool.specs.Answers.{IsAllMadeText, IsUntypableText, count_alone, count_of_both, each_untypable, tables_words, untypable_count, untypable_line};
+
+use crate::answer::Answer;
+use crate::explaining::tell;
+use crate::making::spell;
+use crate::parts::{in_rising_order, read_migration, read_repertoire};
+use crate::refusal::Refusal;
+use compose_cert::Repertoire;
+use compose_make::{Made, make, untypable};
+use compose_migration::{Migration, MigrationInput};
+use compose_tree::ComposeTable;
+use keysym_core::{Keysym, Names, ShownChar};
+use std::alloc::{AllocError, Global};
+use std::fmt::Write;
+
+/// Makes a certificate as `make_migration`, but tells each character that can't be typed, in order, with the words `in both tables`
+/// where the old one can't type it either, and a last line that counts them. The parts are read, and refused, as there. At the cost
+/// of `make_migration`, of `untypable` for both tables, and O(m n) in the characters that these can't type.
+pub fn make_all_migration<T: ComposeTable>(
+    alloc: Global,
+    input: &MigrationInput<'_, '_>,
+    repertoire: &[u8],
+) -> Result<Answer, Refusal>
+    ensures { Gives IsAllMadeText result (make_parts (given_of input.entry.now) repertoire.now) }
+{
+    let migration: Migration<T> = read_migration(alloc, input)?;
+    let repertoire = read_repertoire(alloc, repertoire)?;
+    let fresh = in_rising_order(alloc, &migration.keys)?;
+    tell_all_made(alloc, &migration, &repertoire, &fresh)
+}
+
+/// Tells what is made of these tables, and all characters that can't be typed.
+fn tell_all_made<T: ComposeTable>(
+    alloc: Global,
+    migration: &Migration<T>,
+    repertoire: &Repertoire,
+    fresh: &[Keysym],
+) -> Result<Answer, Refusal>
+    ensures { Gives IsAllMadeText result (makeable (parts T.definitions migration.now) repertoire.now fresh.now) }
+{
+    let names = &migration.names;
+    let made = make(
+        alloc,
+        &migration.old,
+        &migration.new,
+        names,
+        repertoire,
+        fresh,
+    )?;
+    match made {
+        Made::Made(certificate) => Ok(Answer::Yes(spell(alloc, &certificate)?)),
+        Made::Differs(least) => Ok(Answer::No(tell(alloc, names, &least)?)),
+        Made::Unreachable(_least) => Ok(Answer::No(tell_untypable(alloc, migration, repertoire)?)),
+    }
+}
+
+/// The lines of all characters that the new table can't type.
+fn tell_untypable<T: ComposeTable>(
+    alloc: Global,
+    migration: &Migration<T>,
+    repertoire: &Repertoire,
+) -> Result<String, AllocError>
+    ensures { IfOk result (λ text. IsUntypableText (parts T.definitions migration.now) repertoire.now (string_bytes text)) }
+{
+    let before = untypable_by(alloc, &migration.old, &migration.names, repertoire)?;
+    let after = untypable_by(alloc, &migration.new, &migration.names, repertoire)?;
+    untypable_lines(alloc, &before, &after)
+}
+
+/// The characters that a table can't type.
+fn untypable_by<T: ComposeTable>(
+    alloc: Global,
+    table: &T,
+    names: &Names,
+    repertoire: &Repertoire,
+) -> Result<Vec<char>, AllocError>
+    ensures { IfOk result (λ characters. AreUntypable names.now (T.definitions table.now) repertoire.now characters.items) }
+{
+    match untypable(alloc, table, names, repertoire) {
+        Ok(characters) => Ok(characters),
+        Err(_) => Err(AllocError),
+    }
+}
+
+/// A line for each of the new table's characters, and a line that counts them. O(m n) in the characters of both tables.
+fn untypable_lines(alloc: Global, old: &[char], new: &[char]) -> Result<String, AllocError>
+    ensures { IfOk result (λ text. string_bytes text ≡ answers.untypable_lines old.now new.now) }
+{
+    let mut text = String::new(alloc);
+    push_each(&mut text, old, new)?;
+    push_count(&mut text, old, new)?;
+    Ok(text)
+}
+
+/// Appends the line of each of the new table's characters to the text.
+fn push_each(text: &mut String, old: &[char], new: &[char]) -> Result<(), AllocError>
+    ensures { IfOk result (λ _. string_bytes text.new ≡ string_bytes text.old ++ each_untypable old.now new.now) }
+{
+    for character in new {
+        push_untypable(text, old, *character)?;
+    }
+    Ok(())
+}
+
+/// Appends the line of a character to the text.
+fn push_untypable(text: &mut String, old: &[char], character: char) -> Result<(), AllocError>
+    ensures { IfOk result (λ _. string_bytes text.new ≡ string_bytes text.old ++ untypable_line old.now character) }
+{
+    let shown = ShownChar(character);
+    let tables = tables_words(old, character);
+    write!(text, "unreachable {shown}{tables}\n")?;
+    Ok(())
+}
+
+/// The words for a character that the old table can't type either.
+fn tables_words(old: &[char], character: char) -> &'static str
+    ensures { result.now ≡ tables_words old.now character }
+{
+    if old.contains(&character) {
+        " in both tables"
+    } else {
+        ""
+    }
+}
+
+/// Appends the line that counts the new table's characters to the text.
+fn push_count(text: &mut String, old: &[char], new: &[char]) -> Result<(), AllocError>
+    ensures { IfOk result (λ _. string_bytes text.new ≡ string_bytes text.old ++ untypable_count old.now new.now) }
+{
+    let count = new.len();
+    let alone = count_alone(old, new);
+    let both = count_of_both(old, new);
+    write!(
+        text,
+        "{count} unreachable: {alone} in the new table alone, {both} in both tables\n"
+    )?;
+    Ok(())
+}
+
+/// How many of the new table's characters are none of the old table's.
+fn count_alone(old: &[char], new: &[char]) -> usize
+    ensures { result ≡ count_alone old.now new.now }
+{
+    new.iter()
+        .filter(|character| !old.contains(character))
+        .count()
+}
+
+/// How many of the new table's characters are the old table's too.
+fn count_of_both(old: &[char], new: &[char]) -> usize
+    ensures { result ≡ count_of_both old.now new.now }
+{
+    new.iter()
+        .filter(|character| old.contains(character))
+        .count()
+}
