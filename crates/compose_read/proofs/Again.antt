@@ -17,7 +17,8 @@ use Rattle.compose_lex.specs.declared.LexFault.{LexFault}
 use Rattle.compose_read.specs.Lines.{Source, Visit, included, included_by, source_named, numbered, own_lines, source_lines, visits_below}
 use Rattle.compose_read.specs.Read.{at_line, event_keysym, sequence_of, string_text, result_text, definition_of, include_fault, said, line_gives}
 use Rattle.compose_read.specs.Kept.{definitions_in, given, are_faultless}
-use Rattle.compose_read.proofs.Visits.{below, plain_line, lines_below}
+use Rattle.compose_read.specs.Visits.{below}
+use Rattle.compose_read.proofs.ReadLines.{plain_line, lines_below}
 use Rattle.compose_read.specs.declared.ReadFault.{ReadFault}
 use Rattle.compose_read.specs.declared.ReadFault.TheVariants as faults
 

@@ -15,7 +15,10 @@ pub mod Events
 pub mod Faults
 pub mod OneLine
 pub mod ReadOn
-pub mod Visits
+pub mod ReadLines
+pub mod OpenSources
+pub mod IncludeWords
+pub mod FaultsSoFar
 pub mod Overlaps
 pub mod TextLines
 pub mod Given

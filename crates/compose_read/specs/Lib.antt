@@ -7,5 +7,7 @@ pub mod Guess
 pub mod Rows
 pub mod Given
 pub mod Sequence
+pub mod Visits
 pub mod Progress
 pub mod Kept
+pub mod Faults

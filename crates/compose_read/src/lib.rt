@@ -22,20 +22,25 @@ mod definitions;
 mod draft;
 mod kept;
 mod line;
+mod line_faults;
+mod open_source;
 mod reading;
 mod rows;
 mod sequences;
 mod settling;
 mod sources;
+mod visits;
 
 use compose_lex::LexFault;
 pub use definitions::Definitions;
+pub use line_faults::read_faults;
 pub use reading::read_definitions;
 pub use sequences::Sequences;
 pub use settling::{SettleFault, settle};
 pub use sources::{SourceFault, Sources};
 use std::alloc::{AllocError, AllocFailed};
 use thiserror::Error;
+pub use visits::{VisitedLine, Visits};
 
 /// The first fault of what is read. `source` is the place among the sources, from 0; `line` counts from 1; `index` is the event's place from 0, or the number of events for the result's name.
 #[derive(Debug, PartialEq, Eq, Drop, Error)]

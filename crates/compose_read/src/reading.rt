@@ -180,7 +180,7 @@ fn take_line<'a>(
 }
 
 /// The bytes without a UTF-8 byte order mark at their front.
-fn without_mark(bytes: &[u8]) -> &[u8]
+pub(crate) fn without_mark(bytes: &[u8]) -> &[u8]
     ensures { result.now ≡ without_mark bytes.now }
 {
     if bytes.starts_with(&[0xef, 0xbb, 0xbf]) {

@@ -6,7 +6,8 @@ use Rattle.compose_read.proofs.TextLines.{text_lines, next_text}
 use Rattle.compose_read.specs.Rows.{Drafted}
 use Rattle.compose_read.specs.Kept.{AreKept}
 use Rattle.compose_read.specs.declared.kept.KeptSource.{KeptSource}
-use Rattle.compose_read.proofs.Visits.{visits_are, left_to_visit, none_left, whole_read, plain_counted, include_counted, plain_turn, line_refused, include_turn, include_refused}
+use Rattle.compose_read.specs.Visits.{left_to_visit}
+use Rattle.compose_read.proofs.ReadLines.{visits_are, none_left, whole_read, plain_counted, include_counted, plain_turn, line_refused, include_turn, include_refused}
 use Rattle.compose_read.proofs.KeptSources.{found_kept, kept_stay, kept_on, put_kept, source_kept, table_grew, as_many, read_again}
 use Rattle.compose_read.proofs.reading.+read_source.Goals as goal
 

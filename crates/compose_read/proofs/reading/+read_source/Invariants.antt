@@ -6,7 +6,7 @@ use Rattle.compose_text.specs.Lines.{lines_of}
 use Rattle.compose_read.specs.Lines.{Visit, visits_below}
 use Rattle.compose_read.specs.Progress.{reading_on}
 use Rattle.compose_read.specs.Kept.{AreKept}
-use Rattle.compose_read.proofs.Visits.{left_to_visit}
+use Rattle.compose_read.specs.Visits.{left_to_visit}
 use Rattle.compose_read.proofs.reading.+read_source.Given as goal
 
 abbrev pub decreases-read_source : goal.decreases-read_source

@@ -3,7 +3,7 @@ use Rattle.std.specs.Prelude.{Result, Ok, Err}
 use Rattle.compose_model.specs.Table.{Definition}
 use Rattle.compose_read.specs.Read.{definitions_of}
 use Rattle.compose_read.specs.Given.{ReadGives}
-use Rattle.compose_read.proofs.Visits.{all_read, root_refused}
+use Rattle.compose_read.proofs.ReadLines.{all_read, root_refused}
 use Rattle.compose_read.proofs.KeptSources.{none_kept}
 use Rattle.compose_read.specs.declared.ReadFault.{ReadFault}
 use Rattle.compose_read.proofs.reading.read_definitions.Goals as goal

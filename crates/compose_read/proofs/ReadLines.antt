@@ -6,6 +6,7 @@ use Rattle.std.proofs.lemmas.Option.{slice_get-get_or, same_Some}
 use Rattle.compose_text.specs.Lines.{lines_of}
 use Rattle.keysym_core.specs.Names.{KeysymNames}
 use Rattle.compose_read.specs.Lines.{Source, Visit, included, source_named, visits, max_depth, numbered, own_lines, source_lines, visits_below}
+use Rattle.compose_read.specs.Visits.{below, left_to_visit}
 use Rattle.compose_read.specs.Rows.{Drafted, no_row}
 use Rattle.compose_read.specs.Progress.{front, read_so_far, reading_on, ReadsOn}
 use Rattle.compose_read.specs.Read.{read_on, definitions_of}
@@ -16,11 +17,6 @@ use Rattle.std.proofs.lemmas.List.{append-nil}
 use Rattle.compose_read.specs.declared.ReadFault.{ReadFault}
 use Rattle.compose_read.specs.declared.ReadFault.TheVariants as faults
 use Rattle.compose_read.specs.declared.reading.Progress.{Progress}
-
--- a line and, where it includes a source, the lines visited from this one
-abbrev pub below : List Source → ℕ → Visit → List Visit
-below sources zero v = v ∷ []
-below sources (suc left) v = v ∷ option_map_or (visits_below sources left) (included sources v.bytes) []
 
 pub plain_line : (sources : List Source) (left : ℕ) (v : Visit) → included sources v.bytes ≡ None → below sources left v ≡ v ∷ []
 plain_line sources zero v h = refl
@@ -53,10 +49,6 @@ visits_are sources left source bytes l h =
   where
     none : Source
     none = record { name = []; bytes = [] }
-
--- what is left to visit behind a line of this number
-abbrev pub left_to_visit : List Source → ℕ → ℕ → ℕ → ℕ → List ℕ → List Visit
-left_to_visit sources left source depth line rest = flat_map (below sources left) (numbered source depth (1 + line) (lines_of rest))
 
 module _ (sources : List Source) (left source depth line : ℕ) (rest bytes behind : List ℕ) (lines : lines_of rest ≡ bytes ∷ lines_of behind) where
   abbrev next : Visit
