@@ -9,7 +9,7 @@ use mio::net::UnixStream;
 use std::alloc::Global;
 
 /// So many turns a connection has before the others have theirs.
-const TURNS: u32 = 8;
+const TURNS: u32 = 4;
 
 /// So many bytes a connection may hold without more room.
 const HELD: usize = 65_536;
