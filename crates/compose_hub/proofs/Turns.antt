@@ -4,8 +4,8 @@ use Rattle.compose_machine.specs.Machine.{ServiceState, Reading}
 use Rattle.compose_machine.specs.Laws.{IsHistory}
 use Rattle.compose_many.specs.Connection.{ConnectionState, Event, AllHappen, exchanges}
 use Rattle.compose_many.specs.declared.turn.Turn.{Turn}
-use Rattle.compose_many.proofs.Happening.{history-both, run-both, happen-both}
-use Rattle.compose_hub.specs.Turns.{TurnsSo, GoesOnBy}
+use Rattle.compose_many.proofs.Happening.{run-both, happen-both}
+use Rattle.compose_hub.specs.Turns.{TurnsSo}
 
 -- turns after which the connection goes on
 pub record WentOn (unsent : ℕ) (reading : Reading) (old new : ServiceState) (before now : ConnectionState) : Type 0 where
@@ -32,12 +32,3 @@ module _ (unsent : ℕ) (reading : Reading) (old mid new : ServiceState) (before
     happen = happen-both (max unsent 1) before between now so_far.events events so_far.happen (subst (λ (s : ConnectionState). AllHappen (max unsent 1) between events s) (sym e) h);
     run = run-both reading old mid new so_far.events events so_far.run r;
   }
-
-pub no_exchange : (reading : Reading) (old : ServiceState) → GoesOnBy reading old old
-no_exchange reading old = ([], refl)
-
-pub goes_on_then : (reading : Reading) (old mid new : ServiceState) → GoesOnBy reading old mid → GoesOnBy reading mid new → GoesOnBy reading old new
-goes_on_then reading old mid new a b = (a.0 ++ b.0, history-both reading old mid new a.0 b.0 a.1 b.1)
-
-pub turns_go_on : (unsent : ℕ) (reading : Reading) (turn : Turn) (old new : ServiceState) (before now : ConnectionState) → TurnsSo unsent reading turn old new before now → GoesOnBy reading old new
-turns_go_on unsent reading turn old new before now t = (exchanges t.0, t.3)

@@ -1,7 +1,7 @@
 -- What turns of a connection do to it and to the service.
 use Rattle.std.specs.Prelude.{◌≡◌, ℕ, max, List}
 use Rattle.compose_machine.specs.Machine.{ServiceState, Reading}
-use Rattle.compose_machine.specs.Laws.{Exchange, IsHistory}
+use Rattle.compose_machine.specs.Laws.{IsHistory}
 use Rattle.compose_many.specs.Connection.{ConnectionState, Event, AllHappen, exchanges}
 use Rattle.compose_many.specs.declared.turn.Turn.{Turn}
 use Rattle.compose_many.specs.declared.turn.Turn.TheVariants.{Ends}
@@ -15,7 +15,3 @@ LeavesSo _ after now = now ≡ after
 abbrev pub TurnsSo : ℕ → Reading → Turn → ServiceState → ServiceState → ConnectionState → ConnectionState → Type 0
 TurnsSo unsent reading turn old new before now =
     (events : List Event) × (after : ConnectionState) × AllHappen (max unsent 1) before events after × IsHistory reading old (exchanges events) new × LeavesSo turn after now
-
--- the service goes on by a history of the machine
-abbrev pub GoesOnBy : Reading → ServiceState → ServiceState → Type 0
-GoesOnBy reading old new = (h : List Exchange) × IsHistory reading old h new

@@ -1,5 +1,7 @@
 //! A connection and its stream.
-ghost use Rattle.compose_hub.specs.Turns.{TurnsSo};
+ghost use Rattle.std.specs.Prelude.{◌≡◌};
+ghost use Rattle.compose_many.specs.Connection.{new_connection};
+ghost use Rattle.compose_hub.specs.Serving.{ClientTurnsSo, IsStill};
 
 use compose_many::{Connection, Limits as TurnLimits, Nonblocking, Turn, take_turn};
 use compose_serve::Answer;
@@ -7,7 +9,7 @@ use mio::net::UnixStream;
 use std::alloc::Global;
 
 /// So many turns a connection has before the others have theirs.
-const TURNS: u32 = 64;
+const TURNS: u32 = 4;
 
 /// So many bytes a connection may hold without more room.
 const HELD: usize = 65_536;
@@ -46,7 +48,9 @@ pub(crate) struct Client {
 
 impl Client {
     /// A client that has had no turn.
-    pub(crate) fn new(alloc: Global, number: u32, stream: UnixStream) -> Client {
+    pub(crate) fn new(alloc: Global, number: u32, stream: UnixStream) -> Client
+        ensures { (result.number ≡ number) × (result.connection ≡ new_connection) }
+    {
         Client {
             stream,
             connection: Connection::new(alloc),
@@ -57,7 +61,9 @@ impl Client {
     }
 
     /// The number of its connection, from 1.
-    pub(crate) fn number(&self) -> u32 {
+    pub(crate) fn number(&self) -> u32
+        ensures { result ≡ self.now.number }
+    {
         self.number
     }
 
@@ -67,7 +73,9 @@ impl Client {
     }
 
     /// Takes room that it does not use, or gives it some where it waits for it and there is some left.
-    pub(crate) fn share_room(&mut self, rooms_left: &mut usize) {
+    pub(crate) fn share_room(&mut self, rooms_left: &mut usize)
+        ensures { IsStill self.old self.new }
+    {
         if self.uses_room() {
             return;
         }
@@ -85,7 +93,7 @@ impl Client {
         alloc: Global,
         unsent: usize,
     ) -> Turn
-        ensures { TurnsSo unsent S.reading result (S.state service.old) (S.state service.new) self.old.connection self.new.connection }
+        ensures { ClientTurnsSo unsent S.reading result (S.state service.old) (S.state service.new) self.old self.new }
     {
         'turns: for _ in 0..TURNS {
             match self.turn(service, alloc, unsent) {
@@ -98,7 +106,7 @@ impl Client {
 
     /// One turn, with its own stream.
     fn turn<S: Answer>(&mut self, service: &mut S, alloc: Global, unsent: usize) -> Turn
-        ensures { TurnsSo unsent S.reading result (S.state service.old) (S.state service.new) self.old.connection self.new.connection }
+        ensures { ClientTurnsSo unsent S.reading result (S.state service.old) (S.state service.new) self.old self.new }
     {
         let held = if self.has_room { usize::MAX } else { HELD };
         let limits = TurnLimits { unsent, held };

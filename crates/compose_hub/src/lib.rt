@@ -7,7 +7,7 @@
 //! Its bounds: so many connections are served at once, and further ones are left in the listener's queue, as a service that takes one
 //! connection after another leaves them; so a client waits and is not refused. The replies that are unsent on a connection are
 //! bounded, and at most 8 connections hold more than 68 KiB of a load at a time, so that many clients that begin a load cannot fill
-//! the memory. A connection that has had 64 turns waits for the others.
+//! the memory. A connection that has had 4 turns waits for the others.
 #![tactic(auto)]
 
 mod client;

@@ -1,6 +1,8 @@
 //! The connections of a service, and their turns.
-ghost use Rattle.std.specs.Prelude.{◌≡◌, max, vec_len, IfOk};
-ghost use Rattle.compose_hub.specs.Turns.{GoesOnBy};
+ghost use Rattle.std.specs.Prelude.{◌≡◌, ℕ, ◌+◌, ◌<◌, ◌^◌, max, vec_len, IfOk};
+ghost use Rattle.compose_machine.specs.Machine.{ServiceState, Reading};
+ghost use Rattle.compose_many.specs.Connection.{new_connection};
+ghost use Rattle.compose_hub.specs.Serving.{ServesMany, GoesOnServing, AcceptsSo, AllAreStill, HasNone, SlotIsStill, SlotTurnsSo, StandsAs};
 
 use crate::client::{Client, Limits, WaitsFor};
 use compose_many::Turn;
@@ -47,6 +49,10 @@ struct Server {
 
 /// Serves the connections to the listener, many at once, until as many as are asked for have ended.
 ///
+/// Whatever is ready, and however it ends: all that happened on the connections is one list of events, in which each connection goes on
+/// from new by its own events, and the service goes on by the requests of all of them as they were answered. What `law_connections` of
+/// `compose_many` says holds of it. Which connections are ready, and which bytes come on them, no contract says.
+///
 /// An error of `accept` or of registering a stream ends nothing but that connection; where `accept` fails for another cause, as too
 /// many open files, it is tried again after a second at the latest. An error is one of `Poll`, of the memory for the slots, or of
 /// the report.
@@ -60,7 +66,7 @@ pub fn serve_at_once<S: Answer, E: Report>(
     limits: Limits,
     report: &mut E,
 ) -> io::Result<()>
-    ensures { GoesOnBy S.reading (S.state service.old) (S.state service.new) }
+    ensures { ServesMany limits.unsent S.reading (S.state service.old) (S.state service.new) }
 {
     let mut poll = Poll::new(net)?;
     poll.registry()
@@ -74,7 +80,7 @@ pub fn serve_at_once<S: Answer, E: Report>(
         }
         poll.poll(&mut events, server.longest_wait())?;
         server.mark_ready(&events);
-        server.take_turns(service, alloc, report)?;
+        server.take_turns(service, alloc, limits.unsent, report)?;
         server.share_room();
     }
     Ok(())
@@ -83,7 +89,7 @@ pub fn serve_at_once<S: Answer, E: Report>(
 impl Server {
     /// A server without connections.
     fn new(alloc: Global, limits: Limits) -> io::Result<Server>
-        ensures { IfOk result (λ server. vec_len server.slots ≡ max limits.at_once 1) }
+        ensures { IfOk result (λ server. (vec_len server.slots ≡ max limits.at_once 1) × HasNone server.slots.items) }
     {
         let mut slots = Vec::new(alloc);
         'slots: for _ in 0..limits.at_once.max(1) {
@@ -128,38 +134,33 @@ impl Server {
 
     /// Accepts the connections that wait in the listener's queue, while there is a slot for them.
     fn accept_all(&mut self, alloc: Global, registry: &Registry, listener: &UnixListener)
-        ensures { vec_len self.new.slots ≡ vec_len self.old.slots }
+        ensures { (unsent : ℕ) (reading : Reading) (state : ServiceState) → GoesOnServing unsent reading state state self.old.accepted self.new.accepted self.old.slots.items self.new.slots.items }
     {
         if self.queue == Queue::Failed {
             self.queue = Queue::Waits;
         }
-        for (key, slot) in self.slots.iter_mut().enumerate() {
+        'slots: for (key, slot) in self.slots.iter_mut().enumerate() {
             if self.queue != Queue::Waits || self.accepted >= self.limits.connections {
                 return;
             }
             if slot.is_some() {
                 continue;
             }
-            match accept(listener) {
-                Ok(stream) => {
-                    *slot = admitted(alloc, registry, stream, Token(key), self.accepted + 1);
-                    if slot.is_some() {
-                        self.accepted += 1;
-                    }
-                }
-                Err(queue) => self.queue = queue,
-            }
+            let token = Token(key);
+            self.queue = accept_into(slot, &mut self.accepted, alloc, registry, listener, token);
         }
     }
 
     /// Gives what is reported as ready its next turn.
-    fn mark_ready(&mut self, events: &Events) {
-        for event in events {
+    fn mark_ready(&mut self, events: &Events)
+        ensures { (self.new.accepted ≡ self.old.accepted) × AllAreStill self.old.slots.items self.new.slots.items }
+    {
+        'events: for event in events {
             let Token(key) = event.token();
             if key == usize::MAX {
                 self.queue = Queue::Waits;
-            } else if let Some(Some(client)) = self.slots.get_mut(key) {
-                client.waits_for = WaitsFor::Turn;
+            } else if key < self.slots.len() {
+                give_turn(&mut self.slots[key]);
             }
         }
     }
@@ -169,12 +170,13 @@ impl Server {
         &mut self,
         service: &mut S,
         alloc: Global,
+        unsent: usize,
         report: &mut E,
     ) -> io::Result<()>
-        ensures { GoesOnBy S.reading (S.state service.old) (S.state service.new) }
+        ensures { GoesOnServing unsent S.reading (S.state service.old) (S.state service.new) self.old.accepted self.new.accepted self.old.slots.items self.new.slots.items }
     {
-        'slots: for slot in &mut self.slots {
-            if let Some((number, how)) = serve_slot(slot, service, alloc, self.limits.unsent) {
+        'slots: for slot in self.slots.iter_mut() {
+            if let Some((number, how)) = serve_slot(slot, service, alloc, unsent) {
                 report.ended(number, how)?;
             }
         }
@@ -182,14 +184,25 @@ impl Server {
     }
 
     /// Gives room to connections that wait for it, as far as there is some.
-    fn share_room(&mut self) {
+    fn share_room(&mut self)
+        ensures { (self.new.accepted ≡ self.old.accepted) × AllAreStill self.old.slots.items self.new.slots.items }
+    {
         let used = self.slots.iter().filter(|slot| uses_room(slot)).count();
         let mut rooms_left = ROOMS.saturating_sub(used);
-        for slot in &mut self.slots {
+        'slots: for slot in self.slots.iter_mut() {
             if let Some(client) = slot {
                 client.share_room(&mut rooms_left);
             }
         }
+    }
+}
+
+/// Gives the connection in this slot its next turn.
+fn give_turn(slot: &mut Option<Client>)
+    ensures { SlotIsStill slot.old slot.new }
+{
+    if let Some(client) = slot {
+        client.waits_for = WaitsFor::Turn;
     }
 }
 
@@ -213,6 +226,30 @@ fn accept(listener: &UnixListener) -> Result<UnixStream, Queue> {
     }
 }
 
+/// Accepts the next connection into this slot, if there is one that can be registered; says what is known of the queue then.
+fn accept_into(
+    slot: &mut Option<Client>,
+    accepted: &mut u32,
+    alloc: Global,
+    registry: &Registry,
+    listener: &UnixListener,
+    token: Token,
+) -> Queue
+    requires { accepted.old + 1 < 2 ^ 32 }
+    ensures { AcceptsSo accepted.old accepted.new slot.old slot.new }
+{
+    match accept(listener) {
+        Ok(stream) => {
+            *slot = admitted(alloc, registry, stream, token, *accepted + 1);
+            if slot.is_some() {
+                *accepted += 1;
+            }
+            Queue::Waits
+        }
+        Err(queue) => queue,
+    }
+}
+
 /// A client on this stream, unless it cannot be registered.
 fn admitted(
     alloc: Global,
@@ -220,7 +257,9 @@ fn admitted(
     mut stream: UnixStream,
     token: Token,
     number: u32,
-) -> Option<Client> {
+) -> Option<Client>
+    ensures { StandsAs number new_connection result }
+{
     let interest = Interest::READABLE | Interest::WRITABLE;
     match registry.register(&mut stream, token, interest) {
         Ok(()) => Some(Client::new(alloc, number, stream)),
@@ -235,7 +274,7 @@ fn serve_slot<S: Answer>(
     alloc: Global,
     unsent: usize,
 ) -> Option<(u32, Result<Ended, ServeFault>)>
-    ensures { GoesOnBy S.reading (S.state service.old) (S.state service.new) }
+    ensures { SlotTurnsSo unsent S.reading (S.state service.old) (S.state service.new) slot.old slot.new }
 {
     let Some(client) = slot else {
         return None;
