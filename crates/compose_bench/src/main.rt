@@ -1,5 +1,9 @@
 //! Times of single calls, for `bench/run.py`: `compose_bench WHAT FILE..` prints lines of a name, a tab and a number.
 //! Times are nanoseconds of the quickest of some rounds.
+//!
+//! ```text
+//! compose_bench names share/composecheck/short-unicode-names.h
+//! ```
 #![tactic(auto)]
 
 mod compiling;

@@ -1,4 +1,15 @@
 //! The texts of certificates and repertoires.
+//!
+//! A certificate says in lines of ASCII that a new table follows an old one: a bound on the keys, pairs of nodes, a key sequence for each
+//! character that people need, and the fresh keysyms. [`Certificate::read`] takes exactly one text for each certificate, the one that
+//! [`Certificate::write_text`] gives. A repertoire lists characters and the keys that people have; its text may have comments.
+//!
+//! ```text
+//! let repertoire = Repertoire::read(alloc, b"keys 0x20 0x7e\nkeys 0xff20 0xff20\nU+00E9\n")?;
+//! repertoire.characters()    // ['é']
+//! ```
+//!
+//! What a text spells is a relation (`specs/`), apart from the readers; `law_one_certificate` says that they agree.
 #![tactic(auto)]
 
 ghost use Rattle.std.specs.Prelude.{◌≡◌, ℕ, List, Ok};

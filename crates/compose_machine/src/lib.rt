@@ -1,6 +1,12 @@
 //! The service as a machine: which reply it may give to a request, which state it goes on to, and the laws of its runs.
 //!
-//! A law is a function without parameters whose contract states it, for all states and all lists of requests.
+//! A law is a function without parameters whose contract states it, for all states and all lists of requests: sessions don't disturb one
+//! another, and what a session types after a load is what it would have typed without it.
+//!
+//! ```text
+//! law_isolation();     // the replies to one session's requests are those of a run of its requests alone
+//! law_kept_texts();    // a load by a valid certificate changes no text that is typed
+//! ```
 #![tactic(auto)]
 
 ghost use Rattle.std.specs.Prelude.{◌≡◌, ◌++◌, List, ℕ, map};

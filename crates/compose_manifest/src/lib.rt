@@ -1,7 +1,12 @@
 //! The manifest of the sources that were found on a system, and the paths of a manifest.
 //!
-//! [`manifest_text`] writes a line for each source, and reads the text back: what it gives lists these sources. [`file_path`] says where the
-//! file of an entry lies.
+//! [`manifest_text`] writes a line for each source, and reads the text back: what it gives lists these sources. A name or a path that no
+//! line of a manifest can hold is refused. [`file_path`] says where the file of an entry lies.
+//!
+//! ```text
+//! /home/ada/.XCompose	/home/ada/.XCompose
+//! %L	/usr/share/X11/locale/en_US.UTF-8/Compose
+//! ```
 #![tactic(auto)]
 
 ghost use Rattle.std.specs.Prelude.{◌≡◌, ◌++◌, ◌∷◌, [], IfOk, OnOk, string_bytes};

@@ -1,5 +1,6 @@
 //! What no case of tests/cases can show: an old and a new table of different forms, loads of a state, printed faults that no command
-//! prints, and the texts of `diff`.
+//! prints, and the texts of `diff`. Each test is a worked example, as: where the old table has `<a> <b> : "x"` and the new one
+//! `<a> <b> : "y"`, the shortest list of keys on which they differ is a, b.
 #![tactic(auto)]
 
 #[cfg(test)]

@@ -3,6 +3,11 @@
 //! A service answers requests one after another. Every answer is one step of the machine in `compose_machine`, which says what a
 //! service is: its current table, and the sessions in the order in which they were opened. What is stored differs from the machine in
 //! one thing: a load touches no session, and a session that is named is first refed by the current table.
+//!
+//! ```text
+//! let mut service: Service<PackedTable> = Service::start(alloc, names, repertoire, sources, rule, &certificate)?;
+//! service.answer(alloc, &Request { session: 7, body: Body::Open })
+//! ```
 #![tactic(auto)]
 
 mod refusal;

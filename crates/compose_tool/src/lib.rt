@@ -2,6 +2,11 @@
 //!
 //! A command is a function from its input to `Result<Answer, Refusal>`: what is printed on standard output, or why there is no answer.
 //! [`Ended::of`] says how it ends.
+//!
+//! ```text
+//! let answered = type_keys::<PackedTable>(alloc, &header, &["a", "b"], &table);
+//! Ended::of(&answered).status()    // 0
+//! ```
 #![tactic(auto)]
 
 mod answer;

@@ -1,5 +1,9 @@
 //! Single calls and failing devices, for `tests/calls.py` and `tests/devices.py`: `compose_trials WHAT [CALL]` reads what a trial needs
 //! from files of fixed names in the folder that it runs in, and prints what came of it.
+//!
+//! ```text
+//! python3 tests/calls.py crates/compose_trials/out/compose_trials
+//! ```
 #![tactic(auto)]
 
 mod answering;

@@ -1,4 +1,13 @@
 //! The walk through an old and a new compose table side by side: does the new one follow, and if not, where do they differ.
+//!
+//! [`walk`] goes over pairs of nodes, shortest keys first. It gives the pairs that a certificate lists where the new table follows, and
+//! else a shortest list of keys at whose last one the tables differ, the first in order where several are equally short.
+//! [`differences`] gives every such list that has no other as a prefix; [`explain`] and [`explain_all`] print them.
+//!
+//! ```text
+//! differences(alloc, &old, &new, &names, &[])?    // old: <a> <b> : "x", new: <a> <b> : "y"
+//!                                                 // one: the keys a, b, on which "x" became "y"
+//! ```
 #![tactic(auto)]
 
 ghost use Rattle.std.specs.Prelude.{◌∷◌, [], ℕ, List, IsTrue};

@@ -1,6 +1,11 @@
-//! The words of the command line of `composecheck`, as requests.
+//! The arguments of the command line of `composecheck`, as requests.
 //!
 //! A command is a variant of [`Request`], a `Command` of clap in `commands`, and a line of `request_of`.
+//!
+//! ```text
+//! read_command_line(alloc, &arguments)?.request    // type table.manifest a b
+//! Request::Type { table: "table.manifest", keys: ["a", "b"] }
+//! ```
 #![tactic(auto)]
 
 mod client_commands;

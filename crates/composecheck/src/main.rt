@@ -1,4 +1,8 @@
-//! The program `composecheck`: the commands of `compose_commands` over the packed form of a table.
+//! The program `composecheck`: the commands of `compose_commands` on the packed form of a table.
+//!
+//! ```text
+//! composecheck type table.manifest Multi_key apostrophe e
+//! ```
 #![tactic(auto)]
 
 use compose_commands::run;

@@ -1,5 +1,9 @@
-//! The commands of `compose_commands` over the plain form of a table. Tests run it beside `composecheck`, which has to answer alike;
+//! The commands of `compose_commands` on the plain form of a table. Tests run it beside `composecheck`, and it has to answer alike;
 //! it is not installed.
+//!
+//! ```text
+//! python3 tests/run.py crates/composecheck_plain/out/composecheck_plain
+//! ```
 #![tactic(auto)]
 
 use compose_commands::run;
