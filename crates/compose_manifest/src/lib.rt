@@ -4,8 +4,7 @@
 //! line of a manifest can hold is refused. [`file_path`] says where the file of an entry lies.
 //!
 //! ```text
-//! /home/ada/.XCompose	/home/ada/.XCompose
-//! %L	/usr/share/X11/locale/en_US.UTF-8/Compose
+//! manifest_text(alloc, &[root, english])?    // two lines: "root\troot.compose", "%L\t/usr/share/X11/locale/en_US.UTF-8/Compose"
 //! ```
 #![tactic(auto)]
 
