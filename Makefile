@@ -60,6 +60,7 @@ real: composecheck compose_bench
 bench: composecheck compose_bench
 	python3 bench/run.py ./composecheck ./compose_bench
 	python3 bench/service.py ./composecheck
+	python3 bench/at_once.py ./composecheck
 
 clean:
 	rm -rf composecheck compose_bench packages crates/*/out

@@ -39,8 +39,8 @@ def started(processor, command, folder):
     return process
 
 
-def figures(folder, socket, kind):
-    ran = subprocess.run([f"{folder}/client", socket, str(KEYS), kind], cwd=folder, capture_output=True, text=True, check=True)
+def figures(folder, socket, kind, keys=KEYS):
+    ran = subprocess.run([f"{folder}/client", socket, str(keys), kind], cwd=folder, capture_output=True, text=True, check=True)
     return {name: float(number) for name, number in (line.split("\t") for line in ran.stdout.splitlines())}
 
 

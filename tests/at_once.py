@@ -1,17 +1,26 @@
 #!/usr/bin/env python3
 """at_once.py PROGRAM: serves many connections at once with PROGRAM over real sockets, and compares what each gets with what is written down
 here, or with a second reading of sessions. The last line is `N passed, M failed`."""
+import array
+import contextlib
+import fcntl
 import os
 import random
 import socket
 import sys
+import termios
 import threading
+import time
 
 import service as one
-from service import ACUTE, DROPPED, E, GRAVE, MALFORMED, NEW, OLD, OPEN_7, OPENED_7, X, Results, Serving, fed, frame, key, load, loaded, refused, state
+from service import ACUTE, DROPPED, E, GRAVE, ITSELF, MALFORMED, NEW, OLD, OPEN_7, OPENED_7, X, Results, Serving, fed, frame, key, load, loaded, refused, state
 
 SEED = 28
 CLIENTS = 64
+# So many connections may hold a large part of a load, and so large is a load of which others hold a part alone.
+LARGE_AT_ONCE, LARGE = 8, 100_000
+# So many loads are accepted beside the many clients.
+LOADS = 40
 # A client that reads nothing sends so many requests; their replies are more than sockets hold.
 UNREAD = 200_000
 TABLE = {(GRAVE, ACUTE, E): b"x", (ACUTE, E): b"x"}
@@ -41,6 +50,30 @@ class Peer:
         while len(got) < size and (piece := self.connection.recv(size - len(got))):
             got += piece
         return bytes(got)
+
+    def waits(self, seconds=0.3):
+        """Whether nothing comes for a while."""
+        self.connection.settimeout(seconds)
+        try:
+            self.connection.recv(1, socket.MSG_PEEK)
+            return False
+        except TimeoutError:
+            return True
+        finally:
+            self.connection.settimeout(60)
+
+    def is_taken(self):
+        """Whether the service has read all that was sent."""
+        unread = array.array("i", [0])
+        fcntl.ioctl(self.connection, termios.TIOCOUTQ, unread)
+        return unread[0] == 0
+
+    def send_until_taken(self, sent):
+        self.send(sent)
+        end = time.monotonic() + 60
+        while not self.is_taken() and time.monotonic() < end:
+            time.sleep(0.001)
+        return self.is_taken()
 
     def ask(self, sent, wanted):
         """Sends a request and reads as many bytes as are wanted."""
@@ -120,17 +153,40 @@ def check_waiting(program, results):
             third.send(frame(1, 9))
             results.expect("the first", first.ask(frame(1, 1), frame(0x81, 1)), frame(0x81, 1))
             results.expect("the second", second.ask(frame(1, 2), frame(0x81, 2)), frame(0x81, 2))
-            third.connection.settimeout(0.3)
-            try:
-                waited = third.read(1)
-            except TimeoutError:
-                waited = None
-            third.connection.settimeout(60)
-            results.expect("the third waits", waited, None)
+            results.expect("the third waits", third.waits(), True)
             results.expect("the end of the first", first.finish(), b"")
             results.expect("the third is served", third.read(9), frame(0x81, 9))
             results.expect("the other ends", (second.finish(), third.finish()), (b"", b""))
         results.expect("all ended", (len(service.ended()[0].splitlines()), service.process.returncode), (4, 0))
+
+
+def large_load():
+    """A load of the table that is there, with a long comment."""
+    return load(OLD + b"#" * LARGE + b"\n", ITSELF)
+
+
+def check_large_loads(program, results):
+    """So many connections may hold a large part of a load and stay. A further large load waits until one of them is answered or leaves, and
+    neither a key nor a small load waits."""
+    sent, count = large_load(), LARGE_AT_ONCE + 3
+    with Serving(program, connections=count, options=at_once(count)) as service, contextlib.ExitStack() as stack:
+        *stalled, further, small, typing = (stack.enter_context(Peer(service)) for _ in range(count))
+        results.expect("a large part of each", [it.send_until_taken(sent[:-1]) for it in stalled], [True] * LARGE_AT_ONCE)
+        further.send(sent)
+        results.expect("a key beside stalled loads", typing.ask(OPEN_7 + key(7, GRAVE), OPENED_7 + fed(7, 1)), OPENED_7 + fed(7, 1))
+        results.expect("a small load beside them", small.ask(load(OLD, ITSELF), loaded(1)), loaded(1))
+        results.expect("a further large load waits", (further.waits(), further.is_taken()), (True, False))
+        results.expect("the rest of a large load", stalled[0].ask(sent[-1:], loaded(2)), loaded(2))
+        results.expect("it waited until then", further.read(len(loaded(3))), loaded(3))
+        results.expect("a large part again", stalled[0].send_until_taken(sent[:-1]), True)
+        further.send(sent)
+        results.expect("it waits again", (further.waits(), further.is_taken()), (True, False))
+        results.expect("a connection leaves with its part", stalled[1].finish(), b"")
+        results.expect("it waited until then, too", further.read(len(loaded(4))), loaded(4))
+        results.expect("a key after all loads", typing.ask(key(7, ACUTE) + key(7, E), fed(7, 1) + fed(7, 2, b"x")), fed(7, 1) + fed(7, 2, b"x"))
+        results.expect("nothing else comes", [it.finish() for it in (stalled[0], *stalled[2:], further, small, typing)], [b""] * (count - 1))
+        ends = [f"connection {it}: {'fault 3 Cut' if it <= LARGE_AT_ONCE else 'ended'}" for it in range(1, count + 1)]
+        results.expect("their ends", sorted(service.ended()[0].splitlines()), sorted(["listening", *ends]))
 
 
 # ---- many clients, each with sessions of its own
@@ -191,25 +247,27 @@ def check_many(program, results, unsent):
     streams = [stream_of(chance, 2 * it) for it in range(CLIENTS)]
     cuts = [[0, *sorted(chance.sample(range(1, len(sent)), 20)), len(sent)] for sent, _ in streams]
     got = [None] * CLIENTS
-    with Serving(program, connections=CLIENTS, options=at_once(CLIENTS, "--unsent", str(unsent))) as service:
+    with Serving(program, connections=CLIENTS + 1, options=at_once(CLIENTS + 1, "--unsent", str(unsent))) as service, Peer(service) as loading:
         def converse(it):
             sent = streams[it][0]
             got[it] = service.exchange(*(sent[a:b] for a, b in zip(cuts[it], cuts[it][1:])))
         clients = [threading.Thread(target=converse, args=(it,)) for it in range(CLIENTS)]
         for it in clients:
             it.start()
+        answers = [loading.ask(load(OLD, ITSELF), loaded(it)) for it in range(1, LOADS + 1)]
+        results.expect(f"loads beside {CLIENTS} clients, {unsent}", (answers, loading.finish()), ([loaded(it) for it in range(1, LOADS + 1)], b""))
         for it in clients:
             it.join()
         for number, (_, wanted) in enumerate(streams):
             results.expect(f"client {number} of {CLIENTS}, {unsent}", got[number], wanted)
         printed, complained, status = service.ended()
-        results.expect("their ends", (sorted(printed.splitlines()), complained, status), (sorted(["listening", *(f"connection {it}: ended" for it in range(1, CLIENTS + 1))]), "", 0))
+        results.expect("their ends", (sorted(printed.splitlines()), complained, status), (sorted(["listening", *(f"connection {it}: ended" for it in range(1, CLIENTS + 2))]), "", 0))
 
 
 def main():
     program, results = os.path.abspath(sys.argv[1]), Results()
     assert OLD.count(b"\n") == len(TABLE)
-    for check in (check_worked, check_load_beside, check_faults_beside, check_waiting):
+    for check in (check_worked, check_load_beside, check_faults_beside, check_waiting, check_large_loads):
         check(program, results)
     for unsent in (65_536, 1):
         check_unread(program, results, unsent)
