@@ -17,7 +17,7 @@ _composecheck() {
         type) options="--names --help" ;;
         check) options="--names --fresh --help" ;;
         explain) options="--names --fresh --all --help" ;;
-        make) options="--names --fresh --output --help" ;;
+        make) options="--names --fresh --all --output --help" ;;
         manifest) options="--system --locale --help" ;;
         serve) options="--names --at-once --unsent --mode --replace --unlink --help" ;;
         load) options="--help" ;;

@@ -13,6 +13,7 @@ complete -c composecheck -n "__fish_seen_subcommand_from type check explain make
 complete -c composecheck -n "__fish_seen_subcommand_from check explain make" -l fresh -x -d "Keys for which nothing is promised"
 complete -c composecheck -n "__fish_seen_subcommand_from make" -s o -l output -r -F -d "The file of the certificate"
 complete -c composecheck -n "__fish_seen_subcommand_from explain" -l all -d "All differences"
+complete -c composecheck -n "__fish_seen_subcommand_from make" -l all -d "All characters that cannot be typed"
 complete -c composecheck -n "__fish_seen_subcommand_from serve" -l at-once -x -d "Serve so many connections at once"
 complete -c composecheck -n "__fish_seen_subcommand_from serve" -l unsent -x -d "Bytes of replies that may be unsent on a connection"
 complete -c composecheck -n "__fish_seen_subcommand_from manifest" -l system -x -a "(__fish_complete_directories)" -d "Folder of the tables of the system"

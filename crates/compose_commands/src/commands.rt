@@ -8,7 +8,7 @@ use crate::serving::serve_files;
 use compose_check::CheckInput;
 use compose_tool::{
     Ended, check_allowed, check_migration, explain_all_migration, explain_migration,
-    make_migration, type_keys,
+    make_all_migration, make_migration, type_keys,
 };
 use compose_tree::ComposeTable;
 use compose_words::{CommandLine, Request, TablePaths};
@@ -42,11 +42,12 @@ pub fn answer<T: ComposeTable>(
         Request::Make {
             tables,
             fresh,
+            all,
             repertoire,
             output,
         } => {
             let files = MoveFiles::read(rt, names, tables, fresh)?;
-            make_files::<T>(rt, &files, *repertoire, *output)
+            make_files::<T>(rt, &files, *all, *repertoire, *output)
         }
         Request::Manifest(words) => manifest_files(rt, words),
         Request::Serve(words) => serve_files::<T>(rt, process_id, names, words),
@@ -147,11 +148,16 @@ fn explain_files<T: ComposeTable>(
 fn make_files<T: ComposeTable>(
     rt: &(impl Files + Print + Eprint + AllocGlobal),
     files: &MoveFiles<'_>,
+    all: bool,
     repertoire: &str,
     output: Option<&str>,
 ) -> Result<Ended, Ended> {
     let repertoire = read_file(rt, repertoire)?;
-    let answered = make_migration::<T>(rt.alloc(), &files.input(), &repertoire);
+    let answered = if all {
+        make_all_migration::<T>(rt.alloc(), &files.input(), &repertoire)
+    } else {
+        make_migration::<T>(rt.alloc(), &files.input(), &repertoire)
+    };
     match output {
         Some(path) => Ok(report_into(rt, path, &answered, &files.words)),
         None => Ok(report(rt, &answered, &files.words)),

@@ -4,6 +4,7 @@ ghost use Rattle.compose_commands.specs.Headers.{ended};
 
 use crate::report::{no_memory, refused};
 use builtin_names::builtin_names;
+use compose_manifest::file_path;
 use compose_migration::{MigrationInput, TableInput};
 use compose_model::Rule;
 use compose_read::{SourceFault, Sources};
@@ -74,7 +75,7 @@ impl TableFiles {
         path: &str,
     ) -> Result<TableFiles, Ended> {
         let manifest = read_listing(rt, path)?;
-        let sources = read_sources(rt, part, manifest.entries())?;
+        let sources = read_sources(rt, part, path, &manifest)?;
         Ok(TableFiles {
             sources,
             rule: manifest.rule(),
@@ -106,15 +107,16 @@ fn read_listing(rt: &(impl Files + Eprint + AllocGlobal), path: &str) -> Result<
     }
 }
 
-/// Reads the files of these entries.
+/// Reads the files of a manifest, which lies at the path `at`.
 fn read_sources(
     rt: &(impl Files + Eprint + AllocGlobal),
     part: &str,
-    entries: &[Entry],
+    at: &str,
+    manifest: &Manifest,
 ) -> Result<Sources, Ended> {
     let mut sources = Sources::new(rt.alloc());
-    for entry in entries {
-        let bytes = read_file(rt, &entry.path)?;
+    for entry in manifest.entries() {
+        let bytes = read_entry(rt, at, manifest, entry)?;
         match sources.add(&entry.name, bytes) {
             Ok(()) => {}
             Err(SourceFault::NoMemory) => return Err(no_memory(rt)),
@@ -122,6 +124,19 @@ fn read_sources(
         }
     }
     Ok(sources)
+}
+
+/// Reads the file of an entry.
+fn read_entry(
+    rt: &(impl Files + Eprint + AllocGlobal),
+    at: &str,
+    manifest: &Manifest,
+    entry: &Entry,
+) -> Result<Vec<u8>, Ended> {
+    match file_path(rt.alloc(), manifest, at, entry) {
+        Ok(path) => read_file(rt, &path),
+        Err(_) => Err(no_memory(rt)),
+    }
 }
 
 /// The files of a move from an old table to a new one, and the words that are to name keysyms.

@@ -2,7 +2,7 @@
 use crate::report::{no_memory, refused, written};
 use compose_find::{FindFault, Meanings, Met, find_sources, locale_file};
 use compose_manifest::{WriteFault, manifest_text};
-use compose_tool::Ended;
+use compose_tool::{Ended, Shown};
 use compose_words::ManifestWords;
 use std::env::VarError;
 use std::rt::{Env, Files};
@@ -25,7 +25,7 @@ pub fn manifest_files(
         locale: locale.as_deref(),
         home: home.as_deref(),
     };
-    let sources = find_files(rt, meanings, words.table)?;
+    let sources = find_files(rt, meanings, words.file)?;
     match manifest_text(rt.alloc(), &sources) {
         Ok(text) => Ok(written(rt, print!(rt; "{text}"), Ended::Yes)),
         Err(WriteFault::NoMemory) => Err(no_memory(rt)),
@@ -133,11 +133,17 @@ fn look_for(
         .map_err(|_| no_memory(rt))
 }
 
-/// Tells why not all sources are found.
-fn tell_fault(rt: &impl Eprint, fault: &FindFault) -> Ended {
+/// Tells why not all sources are found. A path may come from a stranger's file.
+fn tell_fault(rt: &(impl Eprint + AllocGlobal), fault: &FindFault) -> Ended {
     match fault {
         FindFault::NoMemory => no_memory(rt),
-        FindFault::MissingRoot { path } => refused(eprintln!(rt; "refused: file: {path}")),
-        fault => refused(eprintln!(rt; "refused: find: {fault}")),
+        FindFault::MissingRoot { path } => refused(eprintln!(rt;
+            "refused: file: {path}",
+            path = Shown(path)
+        )),
+        fault => match format!(in rt.alloc(); "{fault}") {
+            Ok(text) => refused(eprintln!(rt; "refused: find: {text}", text = Shown(&text))),
+            Err(_) => no_memory(rt),
+        },
     }
 }

@@ -48,6 +48,14 @@ fn answer_words<T: ComposeTable>(
 ) -> Ended {
     match read_command_line(rt.alloc(), words) {
         Ok(said) => answer::<T>(rt, process_id, &said).unwrap_or_else(|ended| ended),
-        Err(error) => report_words(rt, &error),
+        Err(error) => report_error(rt, &error),
+    }
+}
+
+/// Prints the help that the words ask for, or why they are refused.
+fn report_error(rt: &(impl Print + Eprint + AllocGlobal), error: &clap::Error) -> Ended {
+    match format!(in rt.alloc(); "{error}") {
+        Ok(text) => report_words(rt, error.kind(), &text),
+        Err(_) => no_memory(rt),
     }
 }

@@ -1,11 +1,10 @@
 //! What is printed, and how a run then ends.
 ghost use Rattle.std.specs.Prelude.{◌≡◌};
-ghost use Rattle.clap.specs.Words.{kind_of};
 ghost use Rattle.compose_tool.specs.Ends.{end_of};
 ghost use Rattle.compose_commands.specs.Ends.{EndsPrinted, words_end, written_end};
 
 use clap::error::ErrorKind;
-use compose_tool::{Answer, Ended, Refusal, Shown};
+use compose_tool::{Answer, Ended, Refusal, Shown, ShownLines};
 use std::rt::Files;
 use std::{fs, io};
 
@@ -101,18 +100,19 @@ pub fn no_memory(rt: &impl Eprint) -> Ended
     Ended::NoMemory
 }
 
-/// Prints the help that the words ask for, or why they are refused.
-pub fn report_words(rt: &(impl Print + Eprint), error: &clap::Error) -> Ended
-    ensures { EndsPrinted (words_end (kind_of error.now)) result }
+/// Prints this text of clap, which is of this kind: the help that the words ask for, or why they are refused.
+pub fn report_words(rt: &(impl Print + Eprint), kind: ErrorKind, text: &str) -> Ended
+    ensures { EndsPrinted (words_end kind) result }
 {
-    written(rt, tell_words(rt, error), end_of_words(error.kind()))
+    written(rt, tell_words(rt, kind, text), end_of_words(kind))
 }
 
 /// Prints what clap says of the words: help to standard output, and why they are refused to standard error.
-fn tell_words(rt: &(impl Print + Eprint), error: &clap::Error) -> io::Result<()> {
-    match error.kind() {
+fn tell_words(rt: &(impl Print + Eprint), kind: ErrorKind, text: &str) -> io::Result<()> {
+    match kind {
         ErrorKind::OutOfMemory => eprintln!(rt; "out of memory"),
-        _ => error.print(rt),
+        ErrorKind::DisplayHelp | ErrorKind::DisplayVersion => print!(rt; "{text}"),
+        _ => eprint!(rt; "{text}", text = ShownLines(text)),
     }
 }
 

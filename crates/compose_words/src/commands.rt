@@ -47,11 +47,11 @@ fn type_command<'a>(alloc: Global) -> Result<Command<'a>, AllocError> {
         )
 }
 
-/// The option for all differences.
-fn all_option<'a>(alloc: Global) -> Arg<'a> {
+/// The option for all that there is to tell, in place of the first.
+fn all_option<'a>(alloc: Global, help: &'a str) -> Arg<'a> {
     Arg::new(alloc, "all")
         .long("all")
-        .help("Print every shortest difference, and count them")
+        .help(help)
         .action(ArgAction::SetTrue)
 }
 
@@ -103,6 +103,10 @@ fn make_command<'a>(alloc: Global) -> Result<Command<'a>, AllocError> {
             "Exit status: 0 made, 1 none, 2 input refused, 3 out of memory\nExample: composecheck make -o certificate old.manifest new.manifest repertoire",
         );
     add_tables(alloc, command)?
+        .arg(all_option(
+            alloc,
+            "Print every character that can't be typed, and count them",
+        ))?
         .arg(output_option(alloc))?
         .arg(repertoire_file(alloc))
 }
@@ -114,7 +118,10 @@ fn explain_command<'a>(alloc: Global) -> Result<Command<'a>, AllocError> {
         .after_help(
             "Exit status: 0 no difference, 1 a difference, 2 input refused, 3 out of memory\nExample: composecheck explain --all old.manifest new.manifest",
         );
-    add_tables(alloc, command)?.arg(all_option(alloc))
+    add_tables(alloc, command)?.arg(all_option(
+        alloc,
+        "Print every shortest difference, and count them",
+    ))
 }
 
 /// Adds the commands on an old table and a new one.

@@ -11,7 +11,7 @@ pub struct ManifestWords<'a> {
     /// The name of a locale.
     pub locale: Option<&'a str>,
     /// The path of the Compose file.
-    pub table: &'a str,
+    pub file: &'a str,
 }
 
 /// The option for the folder of the system's tables.
@@ -41,7 +41,7 @@ pub fn manifest_command<'a>(alloc: Global) -> Result<Command<'a>, AllocError> {
         )
         .arg(system_option(alloc))?
         .arg(locale_option(alloc))?
-        .arg(file(alloc, "TABLE", "The path of the Compose file"))
+        .arg(file(alloc, "FILE", "The Compose file"))
 }
 
 /// The words of `manifest`, if they are all there.
@@ -49,6 +49,6 @@ pub fn manifest_words<'a>(given: &ArgMatches<'a>) -> Option<ManifestWords<'a>> {
     Some(ManifestWords {
         system: given.get_str("system"),
         locale: given.get_str("locale"),
-        table: given.get_str("TABLE")?,
+        file: given.get_str("FILE")?,
     })
 }

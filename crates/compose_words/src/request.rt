@@ -1,6 +1,7 @@
 //! What the command line asks for.
 ghost use Rattle.std.specs.Prelude.{◌≡◌, ◌==◌, map, IfOk};
 ghost use Rattle.std.specs.List.{slice_split};
+ghost use Rattle.compose_words.specs.Commas.{words_between};
 
 use crate::client_words::{LoadWords, SessionWords, load_words, session_words};
 use crate::commands::command_line;
@@ -41,6 +42,8 @@ pub enum Request<'a> {
         tables: TablePaths<'a>,
         /// The words of `--fresh` between commas.
         fresh: Vec<&'a str>,
+        /// Whether all characters that can't be typed are asked for.
+        all: bool,
         repertoire: &'a str,
         /// The path of the file that is written, where it is given.
         output: Option<&'a str>,
@@ -187,6 +190,7 @@ fn make_request<'a>(
     Ok(Some(Request::Make {
         tables,
         fresh: fresh_words(alloc, given)?,
+        all: given.get_flag("all"),
         repertoire,
         output: given.get_str("output"),
     }))
@@ -208,8 +212,18 @@ fn fresh_words<'a>(alloc: Global, given: &ArgMatches<'a>) -> Result<Vec<&'a str>
     }
 }
 
-/// The words between commas. Nothing between two commas is a word too.
+/// The words between commas, none of an empty text. Nothing between two commas is a word too.
 fn words_between<'a>(alloc: Global, text: &'a str) -> Result<Vec<&'a str>, AllocError>
+    ensures { IfOk result (λ words. map (λ word. word.now) words.items ≡ words_between text.now) }
+{
+    if text.is_empty() {
+        return Ok(Vec::new(alloc));
+    }
+    split_words(alloc, text)
+}
+
+/// The parts of a text between commas.
+fn split_words<'a>(alloc: Global, text: &'a str) -> Result<Vec<&'a str>, AllocError>
     ensures { IfOk result (λ words. map (λ word. word.now) words.items ≡ slice_split (λ b. b == 44) text.now) }
 {
     let words: Vec<&'a str> = text.split(',').collect(alloc)?;
