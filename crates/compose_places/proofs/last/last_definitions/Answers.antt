@@ -22,7 +22,7 @@ index_mut-requires g c =
 pub loop-index-preserved : goal.loop-index-preserved
 loop-index-preserved g c =
     let table = g.T.ComposeTable.definitions c.args.table.now in let definitions = c.args.definitions.now in let index = c.loop-index.index in elim c.match-leaf_of.branch [
-      in-Some w ↦ ap (λ v. v.items) w.last-is ∙ ap (λ xs. set xs w.in-Some.leaf.0 (Some index)) c.loop-index.invariant
+      | in-Some w ↦ ap (λ v. v.items) w.last-is ∙ ap (λ xs. set xs w.in-Some.leaf.0 (Some index)) c.loop-index.invariant
           ∙ ap (λ n. set (map (last_with (take index definitions)) (leaves table)) n (Some index)) (sym w.in-Some.ensures.1)
           ∙ sym (one_leaf table definitions index c.sequence.result.now (omega (arith, c.loop-index-test.true, c.len-index-end.ensures.count)) c.sequence.ensures w.in-Some.ensures.0)
       | in_default w ↦ ap (λ v. v.items) w.last-is ∙ c.loop-index.invariant ∙ sym (no_leaf table definitions index c.sequence.result.now (omega (arith, c.loop-index-test.true, c.len-index-end.ensures.count)) c.sequence.ensures w.in_default.ensures)
