@@ -1,11 +1,11 @@
 -- A line that does not begin with the word `include` is no include.
-use Rattle.std.proofs.Common.{◌≡◌, ℕ, List, [], ◌∷◌, Bool, true, false, cond, ◌&&◌, not, length, drop, nat_eq, refl, sym, ◌∙◌, ap}
-use Rattle.std.specs.Prelude.{◌==◌, Option, Some, None, Result, Ok, Err, codes}
+use Rattle.std.proofs.Common.{◌≡◌, ℕ, List, [], ◌∷◌, Bool, true, false, cond, ◌&&◌, not, length, drop, nat_eq, refl, sym}
+use Rattle.std.specs.Prelude.{◌==◌, Option, None, Result, Ok, Err, codes}
 use Rattle.std.specs.List.{starts_with}
 use Rattle.std.specs.Str.{is_utf8}
 use Rattle.compose_text.specs.Results.{◌>>=◌}
 use Rattle.compose_text.specs.Bytes.{begins, is_name_byte}
-use Rattle.compose_lex.specs.Line.{Reading, blank, include, production}
+use Rattle.compose_lex.specs.Line.{blank, production}
 use Rattle.compose_lex.specs.Fault.{skip_blanks, event_at, events_at, event_fault, result_at, end_at, production_at, include_at, reading_at}
 use Rattle.compose_lex.specs.declared.LexFault.{LexFault}
 use Rattle.compose_read.specs.Visits.{said_include, raw_include}

@@ -8,7 +8,7 @@ use Rattle.compose_text.specs.Lines.{lines_of}
 use Rattle.compose_lex.specs.Line.{Reading, blank, include, production}
 use Rattle.compose_lex.specs.Fault.{reading_of}
 use Rattle.compose_lex.specs.declared.LexFault.{LexFault}
-use Rattle.compose_read.specs.Lines.{Source, Visit, included, included_by, numbered, source_lines, visits_below, max_depth}
+use Rattle.compose_read.specs.Lines.{Source, Visit, included, included_by, numbered, source_lines, visits_below}
 use Rattle.compose_read.specs.Visits.{said_include, raw_include, below, left_to_visit, left_in, left_from}
 use Rattle.compose_read.proofs.ReadLines.{visits_are, next_line, plain_line, include_below}
 use Rattle.compose_read.specs.declared.open_source.OpenSource.{OpenSource}

@@ -1,5 +1,4 @@
-use Rattle.std.proofs.Common.{◌≡◌, ◌∙◌, ◌-◌, ◌+◌, ◌∷◌, [], ap, length, take, length-append, refl, sym, arith, rules}
-use Rattle.std.specs.Prelude.{Some, None}
+use Rattle.std.proofs.Common.{◌≡◌, ◌∙◌, ◌-◌, ◌+◌, ◌∷◌, [], ap, length, take, length-append, sym, arith}
 use Rattle.std.specs.List.{filter_map}
 use Rattle.compose_read.specs.Faults.{fault_of}
 use Rattle.compose_read.specs.Visits.{visit_of}

@@ -1,4 +1,4 @@
-use Rattle.std.proofs.Common.{◌≡◌, ◌∙◌, Some, None}
+use Rattle.std.proofs.Common.{◌∙◌, Some}
 use Rattle.compose_read.proofs.OpenSources.{included_is}
 use Rattle.compose_read.proofs.visits.included.Goals as goal
 

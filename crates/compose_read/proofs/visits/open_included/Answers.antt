@@ -1,4 +1,4 @@
-use Rattle.std.proofs.Common.{◌≡◌, ◌-◌, ◌++◌, refl, sym, arith}
+use Rattle.std.proofs.Common.{◌-◌, ◌++◌, refl, sym, arith}
 use Rattle.compose_read.specs.Visits.{below, left_from, visit_of}
 use Rattle.compose_read.proofs.OpenSources.{include_line}
 use Rattle.compose_read.proofs.visits.open_included.Goals as goal

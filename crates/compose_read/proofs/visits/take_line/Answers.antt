@@ -1,4 +1,4 @@
-use Rattle.std.proofs.Common.{◌≡◌, ◌∙◌, ◌+◌, ◌<◌, ◌≤◌, ◌-◌, [], ◌∷◌, ◌++◌, length, length-append, refl, sym, ap, arith}
+use Rattle.std.proofs.Common.{◌∙◌, ◌+◌, ◌-◌, [], ◌∷◌, ◌++◌, refl, sym, ap, arith}
 use Rattle.compose_read.specs.Visits.{below, left_from}
 use Rattle.compose_read.proofs.OpenSources.{closed, read_further}
 use Rattle.compose_read.proofs.visits.take_line.Goals as goal

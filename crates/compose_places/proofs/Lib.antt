@@ -1,0 +1,5 @@
+pub mod Told
+pub mod LastOnes
+pub mod Walks
+pub mod PlacesSoFar
+pub mod NumberedLines

@@ -1,0 +1,72 @@
+//! Where the definitions of a table stand.
+ghost use Rattle.std.specs.Prelude.{◌≡◌, map, filter, take, IfOk};
+ghost use Rattle.compose_read.specs.Read.{max_lines};
+ghost use Rattle.compose_places.specs.Places.{says_definition, place_of, definition_places};
+
+use arrayvec::ArrayVec;
+use compose_lex::{Said, lex_line_into};
+use compose_read::{Sources, Visits};
+use std::alloc::{AllocError, Global};
+
+/// The most lines that are read, included ones each time.
+const MAX_LINES: usize = 1_000_000;
+
+/// Where a definition stands.
+#[derive(Clone, Copy, Debug, PartialEq, Eq)]
+pub struct DefinitionPlace {
+    /// The place of its source among the sources, from 0.
+    pub source: usize,
+    /// The number of its line in that source, from 1.
+    pub line: usize,
+}
+
+/// Where the definitions stand that are read from the root, in reading order: each line that reads as a production has one, whatever its names
+/// are. There are none where no source has the root's name, and those after the first 1,000,000 lines are left out. O(bytes of the lines that
+/// are visited) time, and memory for the places alone.
+pub fn definition_places(
+    alloc: Global,
+    sources: &Sources,
+    root: &str,
+) -> Result<Vec<DefinitionPlace>, AllocError>
+    ensures { IfOk result (λ places. places.items ≡ definition_places sources.now root.now) }
+{
+    match sources.visits(root) {
+        Some(visits) => places_in(alloc, visits),
+        None => Ok(Vec::new(alloc)),
+    }
+}
+
+/// Where the definitions among these lines stand, of which 1,000,000 are read at most.
+fn places_in(alloc: Global, mut visits: Visits<'_>) -> Result<Vec<DefinitionPlace>, AllocError>
+    ensures { IfOk result (λ places. places.items ≡ map place_of (filter (λ v. says_definition v.bytes) (take max_lines visits.entry))) }
+{
+    let mut places = Vec::new(alloc);
+    let mut lines = 0;
+    while lines < MAX_LINES {
+        let Some(line) = visits.next() else {
+            return Ok(places);
+        };
+        lines += 1;
+        if says_definition(line.bytes) {
+            places.push(DefinitionPlace {
+                source: line.source,
+                line: line.line,
+            })?;
+        }
+    }
+    Ok(places)
+}
+
+/// Whether the line is a definition, or would be if its names were known and its text right. O(bytes).
+fn says_definition(bytes: &[u8]) -> bool
+    ensures { result ≡ says_definition bytes.now }
+{
+    let Ok(text) = str::from_utf8(bytes) else {
+        return false;
+    };
+    let mut events = ArrayVec::new();
+    matches!(
+        lex_line_into(text, &mut events),
+        Ok(Said::Production { .. })
+    )
+}
