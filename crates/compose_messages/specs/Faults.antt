@@ -6,6 +6,12 @@ use Rattle.compose_cert.specs.declared.CertFault.{CertFault}
 use Rattle.compose_cert.specs.declared.CertFault.TheVariants as certificates
 use Rattle.compose_cert.specs.declared.RepertoireFault.{RepertoireFault}
 use Rattle.compose_cert.specs.declared.RepertoireFault.TheVariants as repertoires
+use Rattle.compose_read.specs.declared.sources.SourceFault.{SourceFault}
+use Rattle.compose_read.specs.declared.sources.SourceFault.TheVariants.{NameTaken, TooManySources, NoMemory}
+use Rattle.compose_tool.specs.declared.manifest.ManifestFault.{ManifestFault}
+use Rattle.compose_tool.specs.declared.manifest.ManifestFault.TheVariants as manifests
+use Rattle.std.specs.declared.io.ErrorKind.{ErrorKind}
+use Rattle.std.specs.declared.io.ErrorKind.TheVariants.{NotFound, PermissionDenied, IsADirectory}
 
 -- ---- a header of names
 
@@ -47,3 +53,27 @@ repertoire_said (repertoires.BadLine line) = codes "expected a character as U+00
 repertoire_said (repertoires.NotRising line) = codes "the line is not above the one before it"
 repertoire_said repertoires.TooMany = codes "more than 65,536 characters, or ranges of keys"
 repertoire_said repertoires.NoMemory = codes "out of memory"
+
+-- ---- a manifest, and the files that it lists
+
+abbrev pub manifest_line : ManifestFault → Option ℕ
+manifest_line (manifests.BadLine line) = Some line
+manifest_line fault = None
+
+abbrev pub manifest_said : ManifestFault → List ℕ
+manifest_said (manifests.BadLine line) = codes "expected a name, a tab and a path, or once before these `overlap longest` or `overlap refuse`"
+manifest_said manifests.Empty = codes "the manifest lists no file"
+manifest_said manifests.NoMemory = codes "out of memory"
+
+abbrev pub source_said : SourceFault → List ℕ
+source_said NameTaken = codes "two entries have the same name"
+source_said TooManySources = codes "more than 64 entries"
+source_said NoMemory = codes "out of memory"
+
+-- ---- a file that can't be opened
+
+abbrev pub open_said : ErrorKind → List ℕ
+open_said NotFound = codes "no such file"
+open_said PermissionDenied = codes "permission denied"
+open_said IsADirectory = codes "is a directory"
+open_said kind = codes "can't be read"

@@ -1,9 +1,12 @@
-//! The faults of headers of names, certificates and repertoires, in words.
+//! The faults of headers of names, manifests, certificates and repertoires, in words, and why a file can't be opened.
 ghost use Rattle.std.specs.Prelude.{◌≡◌};
 ghost use Rattle.compose_messages.specs.Faults as faults;
 
 use compose_cert::{CertFault, RepertoireFault};
+use compose_read::SourceFault;
+use compose_tool::ManifestFault;
 use keysym_core::NameFault;
+use std::io;
 
 /// What is said of a fault that the file has, and the number of the line in which it stands, if it stands in one.
 #[derive(Clone, Copy, Debug)]
@@ -69,4 +72,43 @@ pub fn repertoire_words(fault: &RepertoireFault) -> FaultWords
         RepertoireFault::NoMemory => (None, "out of memory"),
     };
     FaultWords { line, words }
+}
+
+/// The words for a fault of a manifest.
+pub fn manifest_words(fault: &ManifestFault) -> FaultWords
+    ensures line { result.line ≡ faults.manifest_line fault.now }
+    ensures words { result.words.now ≡ faults.manifest_said fault.now }
+{
+    let (line, words) = match fault {
+        ManifestFault::BadLine { line } => (
+            Some(*line),
+            "expected a name, a tab and a path, or once before these `overlap longest` or `overlap refuse`",
+        ),
+        ManifestFault::Empty => (None, "the manifest lists no file"),
+        ManifestFault::NoMemory => (None, "out of memory"),
+    };
+    FaultWords { line, words }
+}
+
+/// The words for why a file that a manifest lists is not among the sources of its table.
+pub fn source_words(fault: SourceFault) -> &'static str
+    ensures { result.now ≡ faults.source_said fault }
+{
+    match fault {
+        SourceFault::NameTaken => "two entries have the same name",
+        SourceFault::TooManySources => "more than 64 entries",
+        SourceFault::NoMemory => "out of memory",
+    }
+}
+
+/// The words for why a file can't be opened.
+pub fn open_words(kind: io::ErrorKind) -> &'static str
+    ensures { result.now ≡ faults.open_said kind }
+{
+    match kind {
+        io::ErrorKind::NotFound => "no such file",
+        io::ErrorKind::PermissionDenied => "permission denied",
+        io::ErrorKind::IsADirectory => "is a directory",
+        _ => "can't be read",
+    }
 }

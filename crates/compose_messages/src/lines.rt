@@ -18,7 +18,7 @@ pub(crate) fn source_line(sources: &Sources, source: usize, line: usize) -> &[u8
 }
 
 /// The line with this index, if there are so many.
-fn nth_line(bytes: &[u8], index: usize) -> &[u8]
+pub(crate) fn nth_line(bytes: &[u8], index: usize) -> &[u8]
     ensures { result.now ≡ get_or (lines_of bytes.now) index [] }
 {
     let mut rest = bytes;

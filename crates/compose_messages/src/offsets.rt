@@ -24,7 +24,7 @@ pub(crate) fn column_at(line: &[u8], offset: usize) -> usize
 }
 
 /// Whether the byte begins a character of UTF-8.
-fn begins_character(byte: u8) -> bool
+pub(crate) fn begins_character(byte: u8) -> bool
     ensures { result ≡ places.begins_character byte }
 {
     !matches!(byte, 0x80..=0xbf)

@@ -37,7 +37,7 @@ pub fn fault_position(sources: &Sources, fault: &ReadFault) -> Option<(usize, Po
 }
 
 /// The source and the line of a fault, if it stands in one.
-fn line_of(fault: &ReadFault) -> Option<(usize, usize)>
+pub(crate) fn line_of(fault: &ReadFault) -> Option<(usize, usize)>
     ensures { result ≡ line_of fault.now }
 {
     match fault {
