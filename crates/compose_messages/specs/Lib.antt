@@ -1,0 +1,6 @@
+pub mod Places
+pub mod Tokens
+pub mod Messages
+pub mod Faults
+pub mod Overlaps
+pub mod Hints

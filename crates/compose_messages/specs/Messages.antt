@@ -1,0 +1,81 @@
+-- What is said of a fault (this project's profile), and how it is printed.
+use Rattle.std.specs.Prelude.{ℕ, Bool, true, false, not, ◌-◌, ◌||◌, nat_eq, if◌then◌else◌, List, [], ◌∷◌, ◌++◌, take, drop, Option, Some, None, Result, Ok, Err, get_or, codes}
+use Rattle.std.specs.Option.{option_map_or}
+use Rattle.std.specs.Fmt.{decimal}
+use Rattle.compose_lex.specs.declared.LexFault.{LexFault}
+use Rattle.compose_lex.specs.declared.LexFault.TheVariants.{BadToken, ModifierList, UnclosedString, UnknownEscape, BadCode, NoResult, TooManyKeysyms, EmptyText, TextTooLong, TextNotUtf8}
+use Rattle.compose_read.specs.Lines.{Source}
+use Rattle.compose_read.specs.declared.ReadFault.{ReadFault}
+use Rattle.compose_read.specs.declared.ReadFault.TheVariants.{MissingRoot, NotUtf8, Lex, UnknownKeysym, IgnoredKeysym, MissingInclude, IncludeDepth, TooManyLines, TooManyDefinitions}
+use Rattle.compose_tool.specs.Shown.{shown_text}
+use Rattle.compose_messages.specs.Places.{line_at, line_of}
+use Rattle.compose_messages.specs.Tokens.{named, expected_after, found_at}
+use Rattle.compose_messages.specs.declared.position.Position.{Position}
+use Rattle.compose_messages.specs.declared.message.Message.{Message}
+use Rattle.compose_messages.specs.declared.message.Message.TheVariants.{Plain, Quoting, Expected}
+use Rattle.compose_messages.specs.declared.message.FileMessage.{FileMessage}
+
+-- ---- how a message is printed
+
+-- as it may be printed to a terminal, between quotes (code 34)
+abbrev pub in_quotes : List ℕ → List ℕ
+in_quotes text = 34 ∷ (shown_text text ++ 34 ∷ [])
+
+abbrev pub found_words : List ℕ → List ℕ
+found_words [] = codes "the end of the line"
+found_words (b ∷ text) = in_quotes (b ∷ text)
+
+abbrev pub quoting : List ℕ → List ℕ → List ℕ
+quoting words text = words ++ in_quotes text
+
+abbrev pub expecting : List ℕ → List ℕ → List ℕ
+expecting expected found = codes "expected " ++ expected ++ codes ", found " ++ found_words found
+
+abbrev pub message_text : Message → List ℕ
+message_text (Plain words) = words.now
+message_text (Quoting words text) = quoting words.now text.now
+message_text (Expected expected found) = expecting expected.now found.now
+
+-- `:LINE:COLUMN` (code 58), where there is a position
+abbrev pub position_text : Option Position → List ℕ
+position_text None = []
+position_text (Some p) = 58 ∷ (decimal p.line ++ 58 ∷ decimal p.column)
+
+-- the path, the position and the message
+abbrev pub file_text : FileMessage → List ℕ
+file_text told = codes "composecheck: " ++ shown_text told.path.now ++ position_text told.position ++ codes ": " ++ message_text told.message
+
+-- ---- what is said of a fault of a source
+
+abbrev pub lex_said : List ℕ → LexFault → List ℕ
+lex_said line (BadToken at) = expecting (expected_after (take at line)) (found_at line at)
+lex_said line (ModifierList at) = codes "a modifier list stands here, which is not supported"
+lex_said line (UnclosedString at) = codes "the string is not closed"
+lex_said line (UnknownEscape at) = codes "the backslash begins no escape"
+lex_said line (BadCode at) = codes "the code is that of no byte from 1 to 255"
+lex_said line NoResult = codes "neither a string nor the name of a keysym follows the colon"
+lex_said line TooManyKeysyms = codes "a sequence has at most 32 keysyms"
+lex_said line EmptyText = codes "the string is empty"
+lex_said line TextTooLong = codes "the string has more than 255 bytes"
+lex_said line TextNotUtf8 = codes "the string is not UTF-8"
+lex_said line fault = codes "out of memory"
+
+-- of a fault that stands in this line
+abbrev pub line_said : List ℕ → ReadFault → List ℕ
+line_said line MissingRoot = codes "the manifest lists no file"
+line_said line (NotUtf8 s l) = codes "the line is not UTF-8"
+line_said line (Lex s l fault) = lex_said line fault
+line_said line (UnknownKeysym s l index) = quoting (codes "no keysym has the name ") (named line index)
+line_said line (IgnoredKeysym s l index) = quoting (codes "a sequence can't have an ignored keysym, as ") (named line index)
+line_said line (MissingInclude s l) = quoting (codes "the manifest does not list the included file ") (named line 0)
+line_said line (IncludeDepth s l) = quoting (codes "more than eight includes lead to the file ") (named line 0)
+line_said line (TooManyLines s l) = codes "more than 1,000,000 lines are read"
+line_said line (TooManyDefinitions s l) = codes "more than 100,000 sequences are defined"
+line_said line fault = codes "out of memory"
+
+-- the line in which a fault stands, or nothing
+abbrev pub fault_line : List Source → ReadFault → List ℕ
+fault_line sources fault = option_map_or (λ at. line_at sources at.0 at.1) (line_of fault) []
+
+abbrev pub read_said : List Source → ReadFault → List ℕ
+read_said sources fault = line_said (fault_line sources fault) fault

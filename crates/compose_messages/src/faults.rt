@@ -1,0 +1,114 @@
+//! The faults of headers of names, manifests, certificates and repertoires, in words, and why a file can't be opened.
+ghost use Rattle.std.specs.Prelude.{◌≡◌};
+ghost use Rattle.compose_messages.specs.Faults as faults;
+
+use compose_cert::{CertFault, RepertoireFault};
+use compose_read::SourceFault;
+use compose_tool::ManifestFault;
+use keysym_core::NameFault;
+use std::io;
+
+/// What is said of a fault that the file has, and the number of the line in which it stands, if it stands in one.
+#[derive(Clone, Copy, Debug)]
+pub struct FaultWords {
+    pub line: Option<usize>,
+    pub words: &'static str,
+}
+
+/// The words for a fault of a header of names.
+pub fn name_words(fault: &NameFault) -> FaultWords
+    ensures line { result.line ≡ faults.name_line fault.now }
+    ensures words { result.words.now ≡ faults.name_said fault.now }
+{
+    let (line, words) = match fault {
+        NameFault::NotUtf8 { line } => (Some(*line), "the line is not UTF-8"),
+        NameFault::BadLine { line } => (
+            Some(*line),
+            "expected \"#define XK_\", a name, and 0x with one to eight hexadecimal digits",
+        ),
+        NameFault::ValueTooLarge { line } => (
+            Some(*line),
+            "the number is above 0x1fffffff, the greatest keysym",
+        ),
+        NameFault::NameConflict { line } => {
+            (Some(*line), "the name is that of another keysym already")
+        }
+        NameFault::TooManyNames => (None, "more than 16,384 names"),
+        NameFault::NoMemory => (None, "out of memory"),
+    };
+    FaultWords { line, words }
+}
+
+/// The words for a fault of a certificate's text.
+pub fn certificate_words(fault: &CertFault) -> FaultWords
+    ensures line { result.line ≡ faults.certificate_line fault.now }
+    ensures words { result.words.now ≡ faults.certificate_said fault.now }
+{
+    let (line, words) = match fault {
+        CertFault::NotText { line } => (
+            Some(*line),
+            "the line is missing, or not of the form of a certificate",
+        ),
+        CertFault::TooLarge => (None, "a count is above 1,048,576"),
+        CertFault::NoMemory => (None, "out of memory"),
+    };
+    FaultWords { line, words }
+}
+
+/// The words for a fault of a repertoire.
+pub fn repertoire_words(fault: &RepertoireFault) -> FaultWords
+    ensures line { result.line ≡ faults.repertoire_line fault.now }
+    ensures words { result.words.now ≡ faults.repertoire_said fault.now }
+{
+    let (line, words) = match fault {
+        RepertoireFault::BadLine { line } => (
+            Some(*line),
+            "expected a character as U+00E9, or before all characters the word keys and two keysyms as 0x20 0x7e",
+        ),
+        RepertoireFault::NotRising { line } => {
+            (Some(*line), "the line is not above the one before it")
+        }
+        RepertoireFault::TooMany => (None, "more than 65,536 characters, or ranges of keys"),
+        RepertoireFault::NoMemory => (None, "out of memory"),
+    };
+    FaultWords { line, words }
+}
+
+/// The words for a fault of a manifest.
+pub fn manifest_words(fault: &ManifestFault) -> FaultWords
+    ensures line { result.line ≡ faults.manifest_line fault.now }
+    ensures words { result.words.now ≡ faults.manifest_said fault.now }
+{
+    let (line, words) = match fault {
+        ManifestFault::BadLine { line } => (
+            Some(*line),
+            "expected a name, a tab and a path, or once before these `overlap longest` or `overlap refuse`",
+        ),
+        ManifestFault::Empty => (None, "the manifest lists no file"),
+        ManifestFault::NoMemory => (None, "out of memory"),
+    };
+    FaultWords { line, words }
+}
+
+/// The words for why a file that a manifest lists is not among the sources of its table.
+pub fn source_words(fault: SourceFault) -> &'static str
+    ensures { result.now ≡ faults.source_said fault }
+{
+    match fault {
+        SourceFault::NameTaken => "two entries have the same name",
+        SourceFault::TooManySources => "more than 64 entries",
+        SourceFault::NoMemory => "out of memory",
+    }
+}
+
+/// The words for why a file can't be opened.
+pub fn open_words(kind: io::ErrorKind) -> &'static str
+    ensures { result.now ≡ faults.open_said kind }
+{
+    match kind {
+        io::ErrorKind::NotFound => "no such file",
+        io::ErrorKind::PermissionDenied => "permission denied",
+        io::ErrorKind::IsADirectory => "is a directory",
+        _ => "can't be read",
+    }
+}

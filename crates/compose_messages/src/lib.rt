@@ -1,0 +1,33 @@
+//! What is wrong with what a command is given, in words and with its place.
+//!
+//! [`fault_position`] finds the line and the column of a fault of a table, [`read_message`] says what is missing or expected there and
+//! what stands there, and [`FileMessage`] prints both with the file's path:
+//!
+//! ```text
+//! composecheck: fi_FI.UTF-8/Compose:400:1: no keysym has the name "Multi_kei"
+//! composecheck: table.compose:1:5: expected ":" or "<", found "5"
+//! ```
+//!
+//! The faults of the other files have words of their own ([`FaultWords`]), an overlap is told by the names of its keysyms
+//! ([`overlap_words`]), and a [`Hint`] stands below where one helps.
+#![tactic(auto)]
+
+mod faults;
+mod hints;
+mod lines;
+mod message;
+mod offsets;
+mod overlap;
+mod position;
+mod reading;
+mod tokens;
+
+pub use faults::{
+    FaultWords, certificate_words, manifest_words, name_words, open_words, repertoire_words,
+    source_words,
+};
+pub use hints::{Hint, manifest_hint, table_hint};
+pub use message::{FileMessage, Message};
+pub use overlap::overlap_words;
+pub use position::{Position, fault_position};
+pub use reading::read_message;

@@ -1,0 +1,83 @@
+//! A message, and the place in a file that it is about.
+use crate::position::Position;
+use compose_tool::Shown;
+use std::fmt;
+
+/// What is wrong, in words.
+#[derive(Clone, Copy, Debug)]
+pub enum Message<'a> {
+    /// These words.
+    Plain(&'a str),
+    /// Words, and then what a file says, in quotes.
+    Quoting(&'a str, &'a str),
+    /// What may stand in a line, and what stands there; nothing at its end.
+    Expected(&'a str, &'a str),
+}
+
+impl fmt::Display for Message<'_> {
+    ghost use Rattle.std.specs.Prelude.{Some};
+    ghost use Rattle.compose_messages.specs.Messages.{message_text};
+
+    ghost output = { λ message. Some (message_text message) };
+
+    fn fmt<W: fmt::Write>(&self, f: &mut fmt::Formatter<W>) -> fmt::Result {
+        match self {
+            Message::Plain(words) => f.write_str(words),
+            Message::Quoting(words, text) => {
+                let text = Shown(text);
+                write!(f, "{words}\"{text}\"")
+            }
+            Message::Expected(expected, found) => {
+                let found = Found(found);
+                write!(f, "expected {expected}, found {found}")
+            }
+        }
+    }
+}
+
+/// What stands in a line, printed in quotes, or the end of the line.
+#[derive(Clone, Copy, Debug)]
+struct Found<'a>(&'a str);
+
+impl fmt::Display for Found<'_> {
+    ghost use Rattle.std.specs.Prelude.{Some};
+    ghost use Rattle.compose_messages.specs.Messages.{found_words};
+
+    ghost output = { λ found. Some (found_words found.0.now) };
+
+    fn fmt<W: fmt::Write>(&self, f: &mut fmt::Formatter<W>) -> fmt::Result {
+        match self.0.as_bytes().first() {
+            None => f.write_str("the end of the line"),
+            Some(_) => {
+                let found = Shown(self.0);
+                write!(f, "\"{found}\"")
+            }
+        }
+    }
+}
+
+/// A message about a file, printed as `composecheck: PATH:LINE:COLUMN: MESSAGE`, or without the position.
+#[derive(Clone, Copy, Debug)]
+pub struct FileMessage<'a> {
+    /// The file's path, as it was given.
+    pub path: &'a str,
+    /// The place in the file, where the message is about one.
+    pub position: Option<Position>,
+    /// What is wrong there.
+    pub message: Message<'a>,
+}
+
+impl fmt::Display for FileMessage<'_> {
+    ghost use Rattle.std.specs.Prelude.{Some};
+    ghost use Rattle.compose_messages.specs.Messages.{file_text};
+
+    ghost output = { λ told. Some (file_text told) };
+
+    fn fmt<W: fmt::Write>(&self, f: &mut fmt::Formatter<W>) -> fmt::Result {
+        let (path, message) = (Shown(self.path), self.message);
+        match self.position {
+            Some(position) => write!(f, "composecheck: {path}:{position}: {message}"),
+            None => write!(f, "composecheck: {path}: {message}"),
+        }
+    }
+}

@@ -1,0 +1,78 @@
+//! The faults of sources, in words.
+ghost use Rattle.std.specs.Prelude.{◌≡◌};
+ghost use Rattle.compose_messages.specs.Messages.{message_text, lex_said, read_said, fault_line};
+
+use crate::lines::source_line;
+use crate::message::Message;
+use crate::position::line_of;
+use crate::tokens::{expected_after, found_at, named};
+use compose_lex::LexFault;
+use compose_read::{ReadFault, Sources};
+
+/// What is said of a fault of these sources: what is wrong, or what may stand there and what does. O(bytes of its source).
+pub fn read_message<'a>(sources: &'a Sources, fault: &ReadFault) -> Message<'a>
+    ensures { message_text result ≡ read_said sources.now fault.now }
+{
+    let line = fault_line(sources, fault);
+    match fault {
+        ReadFault::MissingRoot => Message::Plain("the manifest lists no file"),
+        ReadFault::NotUtf8 { .. } => Message::Plain("the line is not UTF-8"),
+        ReadFault::Lex { fault, .. } => lex_message(line, fault),
+        ReadFault::UnknownKeysym { index, .. } => {
+            Message::Quoting("no keysym has the name ", named(line, *index))
+        }
+        ReadFault::IgnoredKeysym { index, .. } => Message::Quoting(
+            "a sequence can't have an ignored keysym, as ",
+            named(line, *index),
+        ),
+        ReadFault::MissingInclude { .. } => Message::Quoting(
+            "the manifest does not list the included file ",
+            named(line, 0),
+        ),
+        ReadFault::IncludeDepth { .. } => {
+            Message::Quoting("more than eight includes lead to the file ", named(line, 0))
+        }
+        ReadFault::TooManyLines { .. } => Message::Plain("more than 1,000,000 lines are read"),
+        ReadFault::TooManyDefinitions { .. } => {
+            Message::Plain("more than 100,000 sequences are defined")
+        }
+        ReadFault::NoMemory => Message::Plain("out of memory"),
+    }
+}
+
+/// The line in which a fault stands, or nothing.
+fn fault_line<'a>(sources: &'a Sources, fault: &ReadFault) -> &'a [u8]
+    ensures { result.now ≡ fault_line sources.now fault.now }
+{
+    match line_of(fault) {
+        Some((source, line)) => source_line(sources, source, line),
+        None => &[],
+    }
+}
+
+#[tactic(auto, using(std::proofs::lemmas::List::take_min))]
+/// What is said of the fault of a line.
+fn lex_message<'a>(line: &'a [u8], fault: &LexFault) -> Message<'a>
+    ensures { message_text result ≡ lex_said line.now fault.now }
+{
+    match fault {
+        LexFault::BadToken { at } => Message::Expected(
+            expected_after(&line[..(*at).min(line.len())]),
+            found_at(line, *at),
+        ),
+        LexFault::ModifierList { .. } => {
+            Message::Plain("a modifier list stands here, which is not supported")
+        }
+        LexFault::UnclosedString { .. } => Message::Plain("the string is not closed"),
+        LexFault::UnknownEscape { .. } => Message::Plain("the backslash begins no escape"),
+        LexFault::BadCode { .. } => Message::Plain("the code is that of no byte from 1 to 255"),
+        LexFault::NoResult => {
+            Message::Plain("neither a string nor the name of a keysym follows the colon")
+        }
+        LexFault::TooManyKeysyms => Message::Plain("a sequence has at most 32 keysyms"),
+        LexFault::EmptyText => Message::Plain("the string is empty"),
+        LexFault::TextTooLong => Message::Plain("the string has more than 255 bytes"),
+        LexFault::TextNotUtf8 => Message::Plain("the string is not UTF-8"),
+        LexFault::NoMemory => Message::Plain("out of memory"),
+    }
+}

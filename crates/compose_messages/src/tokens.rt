@@ -1,0 +1,135 @@
+//! What a line has at a fault: a name, or the token that stands where another one is expected.
+ghost use Rattle.std.specs.Prelude.{◌≡◌, ◌≤◌, ◌<◌, ◌==◌, None, IfSome, length};
+ghost use Rattle.std.specs.List.{list_any, position};
+ghost use Rattle.std.specs.Option.{unwrap_or};
+ghost use Rattle.compose_text.specs.Bytes.{begins, is_blank, is_name_byte};
+ghost use Rattle.compose_messages.specs.Places.{begins_character};
+ghost use Rattle.compose_messages.specs.Tokens as tokens;
+
+use crate::lines::text_or_nothing;
+use crate::offsets::begins_character;
+use arrayvec::ArrayVec;
+use compose_lex::{Said, lex_line_into};
+use compose_text::name_len;
+
+/// The name of the event with this index, or of the result keysym; of an include the raw text.
+pub(crate) fn named(line: &[u8], index: usize) -> &str
+    ensures { result.now ≡ tokens.named line.now index }
+{
+    let mut events = ArrayVec::new();
+    match lex_line_into(text_or_nothing(line), &mut events) {
+        Ok(Said::Include(raw)) => raw,
+        Ok(Said::Production { result_name, .. }) => {
+            if index < events.len() {
+                events[index]
+            } else {
+                result_name.unwrap_or("")
+            }
+        }
+        _ => "",
+    }
+}
+
+/// What may follow these bytes of a line, in words.
+pub(crate) fn expected_after(before: &[u8]) -> &'static str
+    ensures { result.now ≡ tokens.expected_after before.now }
+{
+    match last_solid(before) {
+        None => "\"<\" or the word include",
+        Some(b'<') => "the name of a keysym",
+        Some(b'>') => "\":\" or \"<\"",
+        Some(b':') => "a string or the name of a keysym",
+        Some(b'"') => "the end of the line",
+        Some(_) => expected_after_name(before),
+    }
+}
+
+/// What may follow a name or the word `include`.
+fn expected_after_name(before: &[u8]) -> &'static str
+    ensures { result.now ≡ tokens.expected_after_name before.now }
+{
+    if contains(before, b':') {
+        "the end of the line"
+    } else if contains(before, b'<') {
+        "\">\""
+    } else {
+        "a string"
+    }
+}
+
+/// Whether the byte is one of these.
+fn contains(bytes: &[u8], byte: u8) -> bool
+    ensures { result ≡ list_any (λ b. b == byte) bytes.now }
+{
+    bytes.iter().any(|other| *other == byte)
+}
+
+/// The last byte that is no blank.
+fn last_solid(bytes: &[u8]) -> Option<u8>
+    ensures { result ≡ tokens.last_solid None bytes.now }
+{
+    let mut last = None;
+    for byte in bytes {
+        if !is_blank(*byte) {
+            last = Some(*byte);
+        }
+    }
+    last
+}
+
+/// Whether the byte is a blank.
+fn is_blank(byte: u8) -> bool
+    ensures { result ≡ is_blank byte }
+{
+    byte == b' ' || byte == b'\t' || byte == b'\r'
+}
+
+/// The token at this offset, if it is a text; nothing at the end.
+pub(crate) fn found_at(line: &[u8], at: usize) -> &str
+    ensures { result.now ≡ tokens.found_at line.now at }
+{
+    if at >= line.len() {
+        return "";
+    }
+    text_or_nothing(first_token(&line[at..]))
+}
+
+/// The name at the front, or else the first character.
+fn first_token(rest: &[u8]) -> &[u8]
+    ensures { result.now ≡ tokens.first_token rest.now }
+{
+    let Some((_, others)) = rest.split_first() else {
+        return rest;
+    };
+    if begins_name(rest) {
+        &rest[..name_len(rest)]
+    } else {
+        &rest[..1 + character_rest(others)]
+    }
+}
+
+/// Whether a name stands at the front.
+fn begins_name(rest: &[u8]) -> bool
+    ensures { result ≡ begins is_name_byte rest.now }
+{
+    match rest.first() {
+        Some(byte) => byte.is_ascii_alphanumeric() || *byte == b'_',
+        None => false,
+    }
+}
+
+/// How many bytes stand before the first that begins a character.
+fn character_rest(bytes: &[u8]) -> usize
+    ensures value { result ≡ unwrap_or (position begins_character bytes.now) (length bytes.now) }
+    ensures within { result ≤ length bytes.now }
+{
+    next_character(bytes).unwrap_or(bytes.len())
+}
+
+/// Where the first byte stands that begins a character.
+fn next_character(bytes: &[u8]) -> Option<usize>
+    ensures value { result ≡ position begins_character bytes.now }
+    ensures within { IfSome result (λ at. at < length bytes.now) }
+{
+    bytes.iter().position(|byte| begins_character(*byte))
+}
