@@ -1,5 +1,5 @@
 -- How often each thing happens, and the line that says so (this project's profile).
-use Rattle.std.specs.Prelude.{ℕ, Bool, true, false, List, ◌∷◌, ◌++◌, [], length, filter, codes}
+use Rattle.std.specs.Prelude.{ℕ, Bool, true, false, List, ◌++◌, length, filter, codes}
 use Rattle.std.specs.Fmt.{decimal}
 use Rattle.std.specs.List.{list_all}
 use Rattle.compose_compare.specs.declared.Change.{Change}

@@ -1,9 +1,9 @@
 -- Told rows as lines, and long runs of alike ones as one line each (this project's profile).
-use Rattle.std.specs.Prelude.{◌≡◌, ℕ, Bool, true, false, not, ◌-◌, ◌&&◌, ◌==◌, nat_le, nat_lt, if◌then◌else◌, List, [], ◌∷◌, ◌++◌, length, take, min, filter, flat_map, bytes_eq, codes}
+use Rattle.std.specs.Prelude.{ℕ, Bool, true, false, not, ◌-◌, ◌&&◌, nat_lt, if◌then◌else◌, List, [], ◌∷◌, ◌++◌, length, take, min, filter, flat_map, bytes_eq, codes}
 use Rattle.std.specs.Fmt.{decimal}
 use Rattle.std.specs.Cmp.Lexicographic.{pointwise}
 use Rattle.compose_compare.specs.declared.Change.{Change}
-use Rattle.compose_compare.specs.declared.Change.TheVariants.{Kept, Changed, Waiting, Removed, Added, NewStart}
+use Rattle.compose_compare.specs.declared.Change.TheVariants.{Kept, Removed, Added}
 use Rattle.compose_diff.specs.declared.row.DiffRow.{DiffRow}
 use Rattle.compose_diff.specs.Line.{keys_text, key_names, text_part, places_text, row_line}
 use Rattle.compose_diff.specs.Counts.{is_same}

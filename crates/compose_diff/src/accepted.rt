@@ -1,10 +1,9 @@
 //! The changes that are meant.
-ghost use Rattle.std.specs.Prelude.{◌≡◌, ◌<◌, ◌++◌, not, length, map, filter, is_some, IfSome, IfOk, OnOk, string_bytes};
+ghost use Rattle.std.specs.Prelude.{◌≡◌, ◌<◌, not, length, map, filter, is_some, IfSome, IfOk, string_bytes};
 ghost use Rattle.std.specs.List.{find, list_any};
 ghost use Rattle.std.specs.Option.{option_map};
 ghost use Rattle.compose_text.specs.Lines.{lines_of};
-ghost use Rattle.compose_compare.specs.Change.{is_harmless};
-ghost use Rattle.compose_diff.specs.Line.{row_text, change_word};
+ghost use Rattle.compose_diff.specs.Line.{row_text};
 ghost use Rattle.compose_diff.specs.Accepted as words;
 ghost use Rattle.compose_diff.specs.Accepted.{Gives, accepted_of, left_of};
 

@@ -1,9 +1,6 @@
 //! Told rows as lines, and long runs of alike ones as one line each.
-ghost use Rattle.std.specs.Prelude.{◌≡◌, ◌<◌, ◌≤◌, ◌-◌, ◌++◌, ◌∷◌, not, length, take, drop, map, filter, bytes_eq, IfOk, OnOk, string_bytes};
+ghost use Rattle.std.specs.Prelude.{◌≡◌, ◌<◌, ◌≤◌, ◌++◌, ◌∷◌, length, take, drop, map, bytes_eq, IfOk, OnOk, string_bytes};
 ghost use Rattle.std.specs.Cmp.Lexicographic.{pointwise};
-ghost use Rattle.compose_compare.specs.declared.Change.TheVariants.{Kept};
-ghost use Rattle.compose_diff.specs.Counts.{is_same};
-ghost use Rattle.compose_diff.specs.Line.{key_names};
 ghost use Rattle.compose_diff.specs.Folds as words;
 
 use crate::line::{push_keys, push_places, push_quoted, push_row_line};

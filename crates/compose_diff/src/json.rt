@@ -1,5 +1,5 @@
 //! Rows as JSON.
-ghost use Rattle.std.specs.Prelude.{◌≡◌, ◌++◌, ◌==◌, ◌||◌, map, flat_map, IfOk, OnOk, string_bytes};
+ghost use Rattle.std.specs.Prelude.{◌≡◌, ◌++◌, map, IfOk, OnOk, string_bytes};
 ghost use Rattle.compose_tool.specs.Shown as shown;
 ghost use Rattle.compose_diff.specs.Json as words;
 

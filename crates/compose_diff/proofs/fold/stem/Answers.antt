@@ -1,4 +1,4 @@
-use Rattle.std.proofs.Common.{List, ℕ, Bor, sym, ◌∙◌, ap, map, take, min, ◌-◌, length}
+use Rattle.std.proofs.Common.{List, ℕ, Bor, sym, ◌∙◌, ap, map, take, min}
 use Rattle.std.proofs.lemmas.List.{take-map}
 use Rattle.compose_diff.proofs.fold.stem.Goals as goal
 
