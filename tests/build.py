@@ -34,7 +34,7 @@ class Build:
             chains[it.name] = below + self.seconds[it.name] * (it.name in self.left)
         return max(*chains.values(), sum(self.seconds[it] for it in self.left) / self.rt.processors())
 
-    def guess(self):
+    def estimate(self):
         """Returns what the time left is likely to be, by how long what is done took."""
         left = self.work_left()
         done = self.work - left
@@ -43,7 +43,7 @@ class Build:
 
     def say(self, crate):
         place = [it.name for it in self.every].index(crate.name) + 1
-        print(f"crate {place} of {len(self.every)}: {crate.name}, {self.guess()}", flush=True)
+        print(f"crate {place} of {len(self.every)}: {crate.name}, {self.estimate()}", flush=True)
 
     def prove(self, crate, given, jobs):
         """Proves a library over what is kept of it, and returns whether it and all below it is proved."""
@@ -81,7 +81,7 @@ def main():
     held = rt.rtlib.lock([*libraries, program])
     build = Build(rt, libraries, program)
     if len(build.left) > 1:
-        print(f"{len(build.left)} crates are to be proved before {name} is built, {build.guess()}: nothing is built that is not proved", flush=True)
+        print(f"{len(build.left)} crates are to be proved before {name} is built, {build.estimate()}: nothing is built that is not proved", flush=True)
     if not build.prove_all():
         return 1
     # (the command takes the lock itself)

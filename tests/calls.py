@@ -11,7 +11,7 @@ At the end come calls that are wrong on purpose, each of which has to be told. T
 
 Where each public call that takes memory is called with ample memory, and its answer compared:
 
-  Names::core, look_up_keys                          compose_text_tests/keysyms, compose_rows/tables
+  Names::core, look_up_keys                          compose_text_tests/keysyms, compose_examples/tables
   Names::read                                        here; tests/cases/names-*
   Names::print, quote, unescape, push_text           compose_text_tests/keysyms, compose_text_tests/lines; tests/cases/prints-*, text-*
   Sources::add                                       here; compose_text_tests/sources
@@ -20,9 +20,9 @@ Where each public call that takes memory is called with ample memory, and its an
   Certificate::read, write_text; Repertoire::read    compose_text_tests/certificates; tests/cases/check-*, repertoire-*
   Migration::read, Named::read                       tests/cases/check-*, explain-*
   check_bytes                                        here; devices.py
-  walk, differences                                  compose_rows/explaining, compose_rows/differing
-  find_typings                                       compose_rows/typings
-  make                                               here; compose_rows/making
+  walk, differences                                  compose_examples/explaining, compose_examples/differing
+  find_typings                                       compose_examples/typings
+  make                                               here; compose_examples/making
   explain, explain_all                               here; tests/cases/explain-*
   compare                                            nowhere: nothing calls it yet
   write_bundle, read_bundle                          here (read_bundle by the loads)
@@ -143,20 +143,20 @@ def opened(others):
     """An Open behind other sessions, made again, and then a key."""
     before = [frame(1, it) for it in others] + [OPEN_7, key(7, GRAVE)]
     after = [ASK_7, ASK_9, OPEN_9, ASK_9, key(9, 0x61), key(7, ACUTE)]
-    front = [frame(0x81, it) for it in others] + [OPENED_7, service.fed(7, 1)]
+    first = [frame(0x81, it) for it in others] + [OPENED_7, service.fed(7, 1)]
     rest = [REST(9, 0), service.fed(9, 0, b"a"), service.fed(7, 1)]
-    own = [*front, OPENED_9, REST(7, 1, GRAVE), REST(9, 0), REFUSED(9, 1), *rest]
-    refused = [*front, REFUSED(9, 9), REST(7, 1, GRAVE), REFUSED(9, 2), OPENED_9, *rest]
+    own = [*first, OPENED_9, REST(7, 1, GRAVE), REST(9, 0), REFUSED(9, 1), *rest]
+    refused = [*first, REFUSED(9, 9), REST(7, 1, GRAVE), REFUSED(9, 2), OPENED_9, *rest]
     return requested(f"Open, behind {len(others) + 1} sessions", before, OPEN_9, after, own, [refused])
 
 
 def loading(name, sent, answer, again, state_7, behind):
     """A Load in the middle of a sequence, made again, and the keys behind it. `again` is the answer where the first one was accepted."""
-    before, front = [OPEN_7, key(7, GRAVE), OPEN_9], [OPENED_7, service.fed(7, 1), OPENED_9]
+    before, first = [OPEN_7, key(7, GRAVE), OPEN_9], [OPENED_7, service.fed(7, 1), OPENED_9]
     after = [ASK_7, ASK_9, sent, ASK_7, ASK_9, key(7, ACUTE), key(7, E)]
     rest = [state_7, REST(9, 0), *behind]
-    own = [*front, answer, state_7, REST(9, 0), again, *rest]
-    refused = [*front, REFUSED(0, 9), REST(7, 1, GRAVE), REST(9, 0), answer, *rest]
+    own = [*first, answer, state_7, REST(9, 0), again, *rest]
+    refused = [*first, REFUSED(0, 9), REST(7, 1, GRAVE), REST(9, 0), answer, *rest]
     return requested(name, before, sent, after, own, [refused])
 
 

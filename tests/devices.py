@@ -213,14 +213,14 @@ def check_endless(path, results):
 
 
 def check_certificates(path, results):
-    """A front of a certificate is no certificate, and of all changes of a byte only those of the bound to 3 to 9 are valid."""
+    """A prefix of a certificate is no certificate, and of all changes of a byte only those of the bound to 3 to 9 are valid."""
     files = {"header": "", "old": calls.ENGLISH, "new": calls.WITH_A, "repertoire": calls.PEOPLE, "certificate": calls.TYPED}
     with tempfile.TemporaryDirectory(prefix="devices-") as folder:
         got = Program(path, folder, files).run("certificates")
     text = calls.TYPED
     bound = text.index("bound ") + len("bound ")
-    fronts = [f"5 Certificate: 1 NotText line={1 + text[:end].count(chr(10))}" for end in range(len(text))]
-    results.expect("each front of a certificate", got[: len(text)], fronts)
+    prefixes = [f"5 Certificate: 1 NotText line={1 + text[:end].count(chr(10))}" for end in range(len(text))]
+    results.expect("each prefix of a certificate", got[: len(text)], prefixes)
     changes = [str(it) for byte in b"3456789" for it in (bound, byte)]
     results.expect("each byte of a certificate replaced by every other", got[len(text):], changes)
 

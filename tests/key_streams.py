@@ -51,7 +51,7 @@ def sequences(path, values):
 
 
 def first_keys(parts, count):
-    """So many keys from the front of endless parts."""
+    """So many keys from the beginning of endless parts."""
     return array.array("I", itertools.islice(itertools.chain.from_iterable(parts), count))
 
 
@@ -71,7 +71,7 @@ def typed_parts(keys_of, chance):
 
 
 def stream(keys_of, count, seed):
-    """60 % whole sequences, 25 % plain keys, 10 % the front of a sequence and a key that ends it, 5 % a sequence with Shift inside."""
+    """60 % whole sequences, 25 % plain keys, 10 % a prefix of a sequence and a key that ends it, 5 % a sequence with Shift inside."""
     return first_keys(typed_parts(keys_of, random.Random(seed)), count)
 
 
@@ -90,7 +90,7 @@ def random_parts(keys_of, chance):
 
 
 def random_keys(keys_of, count, seed):
-    """Keys of sequences, of fronts of them, and any keysyms of the table in any order, with modifiers among them."""
+    """Keys of sequences, of prefixes of them, and any keysyms of the table in any order, with modifiers among them."""
     return first_keys(random_parts(keys_of, random.Random(seed)), count)
 
 

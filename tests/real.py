@@ -133,7 +133,7 @@ def check_header(program, folder, results):
 
 
 def is_whole(first, every):
-    """Whether these are all differences with their count, the first one in front; or both say that the new table follows."""
+    """Whether these are all differences with their count, the first one at the beginning; or both say that the new table follows."""
     if first == "follows\n":
         return every == first
     *differences, counted = every.split("\n\n")

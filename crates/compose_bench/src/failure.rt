@@ -3,8 +3,8 @@
 /// Why nothing is measured, in the order of the exit statuses.
 #[derive(Clone, Copy, Debug, PartialEq, Eq, Drop)]
 pub enum Failure {
-    /// The words name no measurement.
-    Words,
+    /// The arguments name no measurement.
+    Arguments,
     /// A file can't be read.
     File,
     /// A file is not what it should be.
@@ -19,7 +19,7 @@ impl Failure {
     /// The exit status, 1 to 5.
     pub fn status(self) -> u8 {
         match self {
-            Failure::Words => 1,
+            Failure::Arguments => 1,
             Failure::File => 2,
             Failure::Input => 3,
             Failure::System => 4,

@@ -21,9 +21,9 @@ use compose_tree::PackedTable;
 use failure::Failure;
 use std::process::ExitCode;
 
-/// Measures what the words say.
-fn run(rt: &HostRuntime, words: &[&str]) -> Result<(), Failure> {
-    match words {
+/// Measures what the arguments say.
+fn run(rt: &HostRuntime, arguments: &[&str]) -> Result<(), Failure> {
+    match arguments {
         ["lex", table] => reading::lex(rt, table),
         ["names", header] => reading::read_names(rt, header),
         ["certificate", certificate] => reading::read_certificate(rt, certificate),
@@ -42,32 +42,32 @@ fn run(rt: &HostRuntime, words: &[&str]) -> Result<(), Failure> {
                 sessions,
             )
         }
-        _ => Err(Failure::Words),
+        _ => Err(Failure::Arguments),
     }
 }
 
-/// The words behind the program's name.
-fn words_given(rt: &HostRuntime) -> Result<Vec<String>, Failure> {
-    let Ok(words) = std::env::args(rt) else {
-        return Err(Failure::Words);
+/// The arguments after the program's name.
+fn arguments_given(rt: &HostRuntime) -> Result<Vec<String>, Failure> {
+    let Ok(arguments) = std::env::args(rt) else {
+        return Err(Failure::Arguments);
     };
-    let Ok(words) = words.skip(1).collect(rt.alloc()) else {
+    let Ok(arguments) = arguments.skip(1).collect(rt.alloc()) else {
         return Err(Failure::NoMemory);
     };
-    Ok(words)
+    Ok(arguments)
 }
 
-/// Runs with the words behind the program's name.
+/// Runs with the arguments after the program's name.
 fn run_given(rt: &HostRuntime) -> Result<(), Failure> {
-    let given = words_given(rt)?;
-    let Ok(words) = given
+    let given = arguments_given(rt)?;
+    let Ok(arguments) = given
         .iter()
-        .map(|word| word.as_str())
+        .map(|argument| argument.as_str())
         .collect::<Vec<&str>>(rt.alloc())
     else {
         return Err(Failure::NoMemory);
     };
-    run(rt, &words)
+    run(rt, &arguments)
 }
 
 fn main(rt: HostRuntime) -> ExitCode {

@@ -51,10 +51,10 @@ fn no_repertoire(rt: &HostRuntime) -> Result<Repertoire, Failure> {
 }
 
 /// A number of sessions.
-pub fn read_count(word: &str) -> Result<u32, Failure> {
-    match word.parse::<u32>() {
+pub fn read_count(argument: &str) -> Result<u32, Failure> {
+    match argument.parse::<u32>() {
         Ok(count) => Ok(count),
-        Err(_) => Err(Failure::Words),
+        Err(_) => Err(Failure::Arguments),
     }
 }
 

@@ -106,9 +106,9 @@ fn read_presses(rt: &HostRuntime, path: &str, count: u32) -> Result<Vec<Press>, 
 /// The keys in the order in which they are typed.
 fn presses_of(rt: &HostRuntime, keys: &[Keysym], count: u32) -> Result<Vec<Press>, Failure> {
     let mut presses = Vec::new(rt.alloc());
-    for place in 0..keys.len() {
-        let Some(press) = press_at(keys, count as usize, place) else {
-            return Err(Failure::Words);
+    for index in 0..keys.len() {
+        let Some(press) = press_at(keys, count as usize, index) else {
+            return Err(Failure::Arguments);
         };
         if presses.push(press).is_err() {
             return Err(Failure::NoMemory);
@@ -117,10 +117,10 @@ fn presses_of(rt: &HostRuntime, keys: &[Keysym], count: u32) -> Result<Vec<Press
     Ok(presses)
 }
 
-/// The key at this place of the order; none where there are no sessions.
-fn press_at(keys: &[Keysym], count: usize, place: usize) -> Option<Press> {
-    let session = place.checked_rem(count)?;
-    let round = place.checked_div(count)?;
+/// The key at this index of the order; none where there are no sessions.
+fn press_at(keys: &[Keysym], count: usize, index: usize) -> Option<Press> {
+    let session = index.checked_rem(count)?;
+    let round = index.checked_div(count)?;
     let from = session.wrapping_mul(APART).wrapping_add(round);
     let keysym = keys.get(from.checked_rem(keys.len())?)?;
     Some(Press {

@@ -95,8 +95,8 @@ pub fn read_keys(rt: &HostRuntime, path: &str) -> Result<Vec<Keysym>, Failure> {
 /// The keysyms of these bytes.
 fn keysyms_in(rt: &HostRuntime, bytes: &[u8]) -> Result<Vec<Keysym>, Failure> {
     let mut keys = Vec::new(rt.alloc());
-    for place in 0..bytes.len() / 4 {
-        let Some(keysym) = keysym_at(bytes, place * 4) else {
+    for index in 0..bytes.len() / 4 {
+        let Some(keysym) = keysym_at(bytes, index * 4) else {
             return Err(Failure::Input);
         };
         if keys.push(keysym).is_err() {
@@ -106,9 +106,9 @@ fn keysyms_in(rt: &HostRuntime, bytes: &[u8]) -> Result<Vec<Keysym>, Failure> {
     Ok(keys)
 }
 
-/// The keysym of the four bytes at this place.
-fn keysym_at(bytes: &[u8], place: usize) -> Option<Keysym> {
-    let four = bytes.get(place..)?.first_chunk::<4>()?;
+/// The keysym of the four bytes at this index.
+fn keysym_at(bytes: &[u8], index: usize) -> Option<Keysym> {
+    let four = bytes.get(index..)?.first_chunk::<4>()?;
     Keysym::new(u32::from_le_bytes(*four))
 }
 

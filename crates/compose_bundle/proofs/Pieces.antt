@@ -25,10 +25,10 @@ all_push : (P : Source → Type 0) (sources : List Source) (s : Source) → AllB
 all_push P [] s a p = (p, tt)
 all_push P (x ∷ sources) s a p = (a.0, all_push P sources s a.1 p)
 
-at_place : (P : Source → Type 0) (sources : List Source) (place : ℕ) (s : Source) → AllByRecursion P sources → slice_get sources place ≡ Some s → P s
-at_place P [] place s a e = cc
-at_place P (x ∷ sources) zero s a e = subst P (same_Some x s e) a.0
-at_place P (x ∷ sources) (suc place) s a e = at_place P sources place s a.1 e
+at_index : (P : Source → Type 0) (sources : List Source) (index : ℕ) (s : Source) → AllByRecursion P sources → slice_get sources index ≡ Some s → P s
+at_index P [] index s a e = cc
+at_index P (x ∷ sources) zero s a e = subst P (same_Some x s e) a.0
+at_index P (x ∷ sources) (suc index) s a e = at_index P sources index s a.1 e
 
 pub lengths_of : (s : Source) → SourceFits s → HasLengths s
 lengths_of s f = record { name = f.name; content = f.content }
@@ -37,41 +37,41 @@ all_fit : (sources : List Source) → AllByRecursion HasLengths sources → AllB
 all_fit [] h t = tt
 all_fit (s ∷ sources) h t = (record { name = h.0.name; text = t.0; content = h.0.content }, all_fit sources h.1 t.1)
 
-take_more : (sources : List Source) (place : ℕ) (s : Source) → slice_get sources place ≡ Some s → take (place + 1) sources ≡ take place sources ++ s ∷ []
-take_more sources place s e =
-    let l = slice_get_within sources place s e in
-    ap (λ n. take n sources) (add-one place) ∙ take-suc sources place s l ∙ ap (λ (y : Source). take place sources ++ y ∷ []) (get_or_from_slice_get sources place s s e)
+take_more : (sources : List Source) (index : ℕ) (s : Source) → slice_get sources index ≡ Some s → take (index + 1) sources ≡ take index sources ++ s ∷ []
+take_more sources index s e =
+    let l = slice_get_within sources index s e in
+    ap (λ n. take n sources) (add-one index) ∙ take-suc sources index s l ∙ ap (λ (y : Source). take index sources ++ y ∷ []) (get_or_from_slice_get sources index s s e)
 
-pub lengths_more : (sources : List Source) (place : ℕ) (s : Source) → slice_get sources place ≡ Some s → AllByRecursion HasLengths (take place sources) → HasLengths s → AllByRecursion HasLengths (take (place + 1) sources)
-lengths_more sources place s e a h = subst (λ (ss : List Source). AllByRecursion HasLengths ss) (sym (take_more sources place s e)) (all_push HasLengths (take place sources) s a h)
+pub lengths_more : (sources : List Source) (index : ℕ) (s : Source) → slice_get sources index ≡ Some s → AllByRecursion HasLengths (take index sources) → HasLengths s → AllByRecursion HasLengths (take (index + 1) sources)
+lengths_more sources index s e a h = subst (λ (ss : List Source). AllByRecursion HasLengths ss) (sym (take_more sources index s e)) (all_push HasLengths (take index sources) s a h)
 
 pub start : (sources : List Source) (items : List ℕ) → items ≡ [] ++ to_be_bytes w16 (length sources) → items ≡ so_far sources 0
 start sources items e = e ∙ sym (append-nil (to_be_bytes w16 (length sources)))
 
-pub bytes_more : (sources : List Source) (place : ℕ) (s : Source) → slice_get sources place ≡ Some s → so_far sources place ++ source_bytes s ≡ so_far sources (place + 1)
-bytes_more sources place s e =
+pub bytes_more : (sources : List Source) (index : ℕ) (s : Source) → slice_get sources index ≡ Some s → so_far sources index ++ source_bytes s ≡ so_far sources (index + 1)
+bytes_more sources index s e =
     let head = to_be_bytes w16 (length sources) in
-    append_assoc head (flat_map source_bytes (take place sources)) (source_bytes s)
+    append_assoc head (flat_map source_bytes (take index sources)) (source_bytes s)
     ∙ ap (λ (y : List ℕ). head ++ y)
-    (sym (ap (flat_map source_bytes) (take_more sources place s e) ∙ flat_map-append source_bytes (take place sources) (s ∷ [])
-    ∙ ap (λ (y : List ℕ). flat_map source_bytes (take place sources) ++ y) (flat_map-cons source_bytes s [] ∙ append-nil (source_bytes s))))
+    (sym (ap (flat_map source_bytes) (take_more sources index s e) ∙ flat_map-append source_bytes (take index sources) (s ∷ [])
+    ∙ ap (λ (y : List ℕ). flat_map source_bytes (take index sources) ++ y) (flat_map-cons source_bytes s [] ∙ append-nil (source_bytes s))))
 
 module _ (sources : List Source) (certificate : List ℕ) where
   abbrev whole : Bundle
   whole = record { sources = sources; certificate = certificate }
 
   -- a source that is too large makes the bundle too large
-  pub source_fails : (place : ℕ) (s : Source) (fault : BundleFault) (old new : List ℕ) → slice_get sources place ≡ Some s → old ≡ so_far sources place → Appends (HasLengths s) old (source_bytes s) (Err fault) new → Writes (Err fault) whole
-  source_fails place s bundle_faults.Form old new e o h = absurd h
-  source_fails place s bundle_faults.NoMemory old new e o h = tt
-  source_fails place s bundle_faults.TooLarge old new e o h = λ f.
+  pub source_fails : (index : ℕ) (s : Source) (fault : BundleFault) (old new : List ℕ) → slice_get sources index ≡ Some s → old ≡ so_far sources index → Appends (HasLengths s) old (source_bytes s) (Err fault) new → Writes (Err fault) whole
+  source_fails index s bundle_faults.Form old new e o h = absurd h
+  source_fails index s bundle_faults.NoMemory old new e o h = tt
+  source_fails index s bundle_faults.TooLarge old new e o h = λ f.
       let head = to_be_bytes w16 (length sources) in
       let last = to_be_bytes w32 (length certificate) in
-      let before = flat_map source_bytes (take place sources) in
+      let before = flat_map source_bytes (take index sources) in
       let all = flat_map source_bytes sources in
-      let l = slice_get_within sources place s e in
-      let too : max_payload < length ((head ++ before) ++ source_bytes s) = subst (λ (y : List ℕ). max_payload < length (y ++ source_bytes s)) o (h (lengths_of s (at_place SourceFits sources place s f.sources e))) in
-      let among : length before + length (source_bytes s) ≤ length all = subst (λ (y : Source). length before + length (source_bytes y) ≤ length all) (get_or_from_slice_get sources place s s e) (length-flat_map-take source_bytes sources place s l) in
+      let l = slice_get_within sources index s e in
+      let too : max_payload < length ((head ++ before) ++ source_bytes s) = subst (λ (y : List ℕ). max_payload < length (y ++ source_bytes s)) o (h (lengths_of s (at_index SourceFits sources index s f.sources e))) in
+      let among : length before + length (source_bytes s) ≤ length all = subst (λ (y : Source). length before + length (source_bytes y) ≤ length all) (get_or_from_slice_get sources index s s e) (length-flat_map-take source_bytes sources index s l) in
       let e1 = length-append (head ++ before) (source_bytes s) in
       let e2 = length-append head before in
       let e3 = length-append ((head ++ all) ++ last) certificate in

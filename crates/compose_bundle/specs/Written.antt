@@ -42,7 +42,7 @@ pub record HasLengths (s : Source) : Type 0 where
 
 -- the number of sources, and as many of the sources as this
 abbrev pub so_far : List Source → ℕ → List ℕ
-so_far sources place = to_be_bytes w16 (length sources) ++ flat_map source_bytes (take place sources)
+so_far sources index = to_be_bytes w16 (length sources) ++ flat_map source_bytes (take index sources)
 
 -- the payload is the bundle; or no load can carry it; or memory was refused
 abbrev pub Writes : Result (Vec ℕ Global) BundleFault → Bundle → Type 0

@@ -31,8 +31,8 @@ pub fn write_bundle(
     if let Err(fault) = put(&mut payload, &(count as u16).to_be_bytes()) {
         return Err(fault);
     }
-    for place in 0..count {
-        if let Err(fault) = put_source(&mut payload, sources, place) {
+    for index in 0..count {
+        if let Err(fault) = put_source(&mut payload, sources, index) {
             return Err(fault);
         }
     }
@@ -42,13 +42,13 @@ pub fn write_bundle(
     Ok(payload)
 }
 
-/// Appends the source at this place.
-fn put_source(payload: &mut Vec<u8>, sources: &Sources, place: usize) -> Result<(), BundleFault>
-    requires { place < length sources.now }
-    ensures { (s : Source) × (slice_get sources.now place ≡ Some s) × Appends (HasLengths s) payload.old.items (source_bytes s) result payload.new.items }
+/// Appends the source at this index.
+fn put_source(payload: &mut Vec<u8>, sources: &Sources, index: usize) -> Result<(), BundleFault>
+    requires { index < length sources.now }
+    ensures { (s : Source) × (slice_get sources.now index ≡ Some s) × Appends (HasLengths s) payload.old.items (source_bytes s) result payload.new.items }
 {
-    let name = sources.name(place).unwrap();
-    let content = sources.bytes(place);
+    let name = sources.name(index).unwrap();
+    let content = sources.bytes(index);
     if let Err(fault) = put_sized_by_2(payload, name.as_bytes()) {
         return Err(fault);
     }

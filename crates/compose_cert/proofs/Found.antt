@@ -17,7 +17,7 @@ use Rattle.compose_cert.specs.declared.CertFault.{CertFault}
 use Rattle.compose_cert.specs.declared.CertFault.TheVariants.{NotText, TooLarge}
 use Rattle.compose_cert.specs.Spelling.{counted, character_text, keysym_text, pair_text, typing_text, version_line, fresh_lines, lines_of_text, ended, max_count, is_number, are_numbers, is_character, is_spelled, is_typing, is_typed, are_counted, is_counted, is_certificate, Spells}
 use Rattle.compose_cert.specs.Reading.{number_of, keysym_of, character_of, number_behind, both, pair_of, pair_of_words, keysyms_of, typing_of, typing_of_words, version_of, line_at, if_few, count_at, typing_at, times, if_some, end_at, some_fresh_at, fresh_at, certificate_of}
-use Rattle.compose_cert.specs.Given.{CertificateGives}
+use Rattle.compose_cert.specs.CertificateGives.{CertificateGives}
 use Rattle.compose_cert.proofs.LineRead.{join, join_divide, written_was}
 use Rattle.compose_cert.proofs.TextRead.{spelled_is_read, typing_parts, certificate_parts, after_fresh, after_typings, after_typing_count, after_pairs, after_count, after_bound, after_version}
 

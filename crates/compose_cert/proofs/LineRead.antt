@@ -109,7 +109,7 @@ typing_read line word words character keys n d c k =
     let some = some_from_ok (keysyms_of (divide 32 words)) (NotText n) keys k in
     rw (told, ← c, some) refl
 
--- ---- a line in front of others
+-- ---- a line before others
 
 pub line_read : {A : Type 0} (form : List ℕ → Option A) (n : ℕ) (bytes line rest : List ℕ) (x : A) → divide 10 bytes ≡ line ∷ divide 10 rest → form line ≡ Some x → line_at form n (divide 10 bytes) ≡ Ok (x, divide 10 rest)
 line_read form n bytes line rest x d e =

@@ -109,17 +109,17 @@ onto_first upper (suc k) n acc h s = go (n / 16 == 0) refl (λ l. onto_first upp
 
 -- ---- what is written of the value of digits
 
-last_digit : (c : ℕ) (cs : List ℕ) → (front : List ℕ) × (d : ℕ) × (c ∷ cs ≡ front ++ d ∷ [])
+last_digit : (c : ℕ) (cs : List ℕ) → (prefix : List ℕ) × (d : ℕ) × (c ∷ cs ≡ prefix ++ d ∷ [])
 last_digit c [] = ([], c, refl)
 last_digit c (d ∷ cs) = let r = last_digit d cs in (c ∷ r.0, r.1, ap (λ ds. c ∷ ds) r.2)
 
-value_push : (base n : ℕ) (front : List ℕ) (d : ℕ) → digits_value_after base n (front ++ d ∷ []) ≡ digits_value_after base n front * base + digit_value d
+value_push : (base n : ℕ) (prefix : List ℕ) (d : ℕ) → digits_value_after base n (prefix ++ d ∷ []) ≡ digits_value_after base n prefix * base + digit_value d
 value_push base n [] d = refl
-value_push base n (c ∷ front) d = value_push base (n * base + digit_value c) front d
+value_push base n (c ∷ prefix) d = value_push base (n * base + digit_value c) prefix d
 
-all_push : (p : ℕ → Bool) (front : List ℕ) (d : ℕ) → list_all p (front ++ d ∷ []) ≡ true → (list_all p front ≡ true) × (p d ≡ true)
+all_push : (p : ℕ → Bool) (prefix : List ℕ) (d : ℕ) → list_all p (prefix ++ d ∷ []) ≡ true → (list_all p prefix ≡ true) × (p d ≡ true)
 all_push p [] d h = (refl, (and_parts (p d) true h).0)
-all_push p (c ∷ front) d h = let parts = and_parts (p c) (list_all p (front ++ d ∷ [])) h in let rest = all_push p front d parts.1 in (and_from (p c) (list_all p front) parts.0 rest.0, rest.1)
+all_push p (c ∷ prefix) d h = let parts = and_parts (p c) (list_all p (prefix ++ d ∷ [])) h in let rest = all_push p prefix d parts.1 in (and_from (p c) (list_all p prefix) parts.0 rest.0, rest.1)
 
 -- a value is at least what it starts from
 pub value_grows : (k : Notation) (n : ℕ) (ds : List ℕ) → n ≤ digits_value_after (radix k) n ds
@@ -152,8 +152,8 @@ value_positive upper c cs h l =
     glyph_zero false = refl
     glyph_zero true = refl
 
-written_onto : (upper : Bool) (k : ℕ) (front : List ℕ) (d : ℕ) (acc : List ℕ) → list_all (is_hex upper) front ≡ true → is_hex upper d ≡ true → (0 < length front → 48 < get_or front 0 0)
-    → digits_value 16 (front ++ d ∷ []) < 16 ^ suc k → digits_onto (suc k) 16 upper (digits_value 16 (front ++ d ∷ [])) acc ≡ front ++ d ∷ acc
+written_onto : (upper : Bool) (k : ℕ) (prefix : List ℕ) (d : ℕ) (acc : List ℕ) → list_all (is_hex upper) prefix ≡ true → is_hex upper d ≡ true → (0 < length prefix → 48 < get_or prefix 0 0)
+    → digits_value 16 (prefix ++ d ∷ []) < 16 ^ suc k → digits_onto (suc k) 16 upper (digits_value 16 (prefix ++ d ∷ [])) acc ≡ prefix ++ d ∷ acc
 written_onto upper k [] d acc a h f l =
     let w = hex_writes_itself upper d h in
     let e : digits_value 16 ([] ++ d ∷ []) ≡ digit_value d = omega arith in
@@ -262,7 +262,7 @@ written_again UpperHexadecimal ds o a s f l = hex_again true ds a s f l
 abbrev pub value_up_to : Notation → ℕ → List ℕ → Option ℕ
 value_up_to k most word = if list_all (is_digit k) word && nat_le (digits_value (radix k) word) most then Some (digits_value (radix k) word) else None
 
--- a digit taken from the front of what is left
+-- a digit taken from the beginning of what is left
 pub digit_taken : (k : Notation) (value digit i : ℕ) (word : List ℕ) → i < length word → Some digit ≡ (if is_digit k (get_or word i 0) then Some (digit_value (get_or word i 0)) else None)
     → list_all (is_digit k) (drop i word) ≡ list_all (is_digit k) word → digits_value_after (radix k) value (drop i word) ≡ digits_value (radix k) word
     → (list_all (is_digit k) (drop (i + 1) word) ≡ list_all (is_digit k) word) × (digits_value_after (radix k) (value * radix k + digit) (drop (i + 1) word) ≡ digits_value (radix k) word)

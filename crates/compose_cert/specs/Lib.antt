@@ -1,6 +1,6 @@
 pub mod Spelling
 pub mod Reading
 pub mod Repertoire
-pub mod Given
+pub mod CertificateGives
 pub mod Numerals
-pub mod Said
+pub mod Says

@@ -2,7 +2,7 @@
 ghost use Rattle.std.specs.Prelude.{◌≡◌, ◌<◌, ◌≤◌, [], length, map, Some, None, slice_get, if◌then◌else◌, nat_le, Ok, IfOk, IfErr, string_bytes, IsTrue};
 ghost use Rattle.std.specs.List.{list_all};
 ghost use Rattle.compose_model.specs.Certificate as model;
-ghost use Rattle.compose_cert.specs.Given.{CertificateGives};
+ghost use Rattle.compose_cert.specs.CertificateGives.{CertificateGives};
 ghost use Rattle.compose_cert.specs.Reading.{certificate_of};
 ghost use Rattle.compose_cert.specs.Spelling.{max_count, are_counted, is_typed, is_counted, Spells};
 
@@ -127,7 +127,7 @@ impl Certificate {
         self.pairs.len()
     }
 
-    /// The old node's and the new node's number at this place. O(1).
+    /// The old node's and the new node's number at this index. O(1).
     pub fn pair(&self, index: usize) -> (u32, u32)
         requires { index < length self.now.pairs }
         ensures { slice_get self.now.pairs index ≡ Some result }
@@ -149,7 +149,7 @@ impl Certificate {
         self.typings.len()
     }
 
-    /// The typing at this place. O(1).
+    /// The typing at this index. O(1).
     pub fn typing(&self, index: usize) -> &Typing
         requires { index < length self.now.typings }
         ensures { slice_get self.now.typings index ≡ Some result.now }
@@ -164,7 +164,7 @@ impl Certificate {
         self.fresh.len()
     }
 
-    /// The fresh keysym at this place. O(1).
+    /// The fresh keysym at this index. O(1).
     pub fn fresh(&self, index: usize) -> Keysym
         requires { index < length self.now.fresh }
         ensures { slice_get self.now.fresh index ≡ Some result }

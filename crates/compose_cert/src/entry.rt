@@ -4,7 +4,7 @@ ghost use Rattle.std.specs.Str.{is_utf8};
 ghost use Rattle.keysym_core.specs.Names.{number_form};
 ghost use Rattle.compose_cert.specs.Repertoire as repertoire;
 
-use crate::form::{before_comment, character_form, first_word, number_form};
+use crate::repertoire_words::{before_comment, character_form, first_word, number_form};
 use keysym_core::Keysym;
 use std::str;
 

@@ -18,13 +18,13 @@ ghost use Rattle.compose_cert.specs.Spelling.{Spells};
 ghost use Rattle.compose_cert.specs.Reading.{certificate_of};
 
 mod certificate;
+mod certificate_lines;
+mod certificate_words;
 mod entry;
-mod form;
-mod line;
 mod numeral;
 mod read;
 mod repertoire;
-mod word;
+mod repertoire_words;
 mod write;
 
 pub use certificate::{Certificate, Typing};

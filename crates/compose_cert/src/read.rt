@@ -1,14 +1,14 @@
 //! A certificate read line by line, where the first faulty line decides.
 ghost use Rattle.std.specs.Prelude.{◌≡◌, ◌≢◌, ◌+◌, ◌<◌, ◌≤◌, ◌++◌, ◌∷◌, [], ℕ, List, Ok, Err, length, IfOk, IfErr, ◌^◌};
 ghost use Rattle.compose_text.specs.Lines.{divide};
-ghost use Rattle.compose_cert.specs.Said.{Says};
+ghost use Rattle.compose_cert.specs.Says.{Says};
 ghost use Rattle.compose_cert.specs.Spelling.{max_count};
 ghost use Rattle.compose_cert.specs.Reading as reading;
 
 use crate::CertFault;
 use crate::certificate::{MOST, Typing};
-use crate::line::{number_behind, pair_of, take_line, typing_of, version_of};
-use crate::word::keysym_of;
+use crate::certificate_lines::{number_behind, pair_of, take_line, typing_of, version_of};
+use crate::certificate_words::keysym_of;
 use keysym_core::Keysym;
 use std::alloc::Global;
 

@@ -5,7 +5,7 @@ ghost use Rattle.compose_text.specs.Numbers.{is_between};
 ghost use Rattle.compose_model.specs.Certificate as model;
 ghost use Rattle.compose_model.specs.Certificate.{keys_rise};
 ghost use Rattle.compose_cert.specs.Repertoire.{IsRepertoire, IsOrdered, ranges_rise, with_entry, repertoire_of};
-ghost use Rattle.compose_cert.specs.Given.{RepertoireGives};
+ghost use Rattle.compose_cert.specs.CertificateGives.{RepertoireGives};
 
 use crate::RepertoireFault;
 use crate::entry::{Entry, line_entry};
@@ -69,7 +69,7 @@ impl Repertoire {
         self.characters.len()
     }
 
-    /// The character at this place. O(1).
+    /// The character at this index. O(1).
     pub fn char_at(&self, index: usize) -> char
         requires { index < length self.now.characters }
         ensures { slice_get self.now.characters index ≡ Some result }

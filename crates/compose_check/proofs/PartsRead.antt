@@ -7,7 +7,7 @@ use Rattle.keysym_core.specs.Names.{KeysymNames}
 use Rattle.keysym_core.specs.Header.{names_of}
 use Rattle.keysym_core.specs.declared.fault.NameFault.{NameFault}
 use Rattle.compose_model.specs.Table.{Definition}
-use Rattle.compose_tree.specs.Given.{NoTable, first_table}
+use Rattle.compose_tree.specs.TableGives.{NoTable, first_table}
 use Rattle.compose_migration.specs.Keys.{keys_of}
 use Rattle.compose_migration.specs.declared.fault.Side.TheVariants as sides
 use Rattle.compose_migration.specs.Migration as migrations
@@ -19,7 +19,7 @@ use Rattle.compose_cert.specs.Repertoire.{repertoire_of}
 use Rattle.compose_cert.specs.declared.CertFault.TheVariants as cert_faults
 use Rattle.compose_cert.specs.declared.RepertoireFault.TheVariants as repertoire_faults
 use Rattle.compose_check.specs.Input.{Input, Parts, Unread, no_migration, no_repertoire, no_certificate, parts_of}
-use Rattle.compose_check.specs.Gives.{InputRefused, CheckGives}
+use Rattle.compose_check.specs.CheckGives.{InputRefused, CheckGives}
 use Rattle.compose_check.specs.declared.verdict.Verdict.{Verdict}
 use Rattle.compose_check.specs.declared.input.InputFault.{InputFault}
 use Rattle.compose_check.specs.declared.input.InputFault.TheVariants as faults
@@ -31,7 +31,7 @@ same_parts input p q e f = injected p q (sym e ∙ f)
     injected : (p q : Parts) → ◌≡◌ {A = Result Parts Unread} (Ok p) (Ok q) → p ≡ q
     injected p q g = cc
 
--- a migration without words is not refused for a word
+-- a migration without key names is not refused for a key name
 module _ (old new : migrations.TableSources) (index : ℕ) where
   abbrev read_names : KeysymNames → Result migrations.NamedParts NoMigration
   read_names names = or_because no_key (keys_of names []) >>= (λ keys. Ok (record { names = names; keys = keys }))
@@ -54,8 +54,8 @@ module _ (old new : migrations.TableSources) (index : ℕ) where
   names_is (Ok names) e = old_is (record { names = names; keys = [] }) (first_table names old.sources old.rule) e
   names_is (Err fault) e = cc
 
-pub no_word : (header : List ℕ) (old new : migrations.TableSources) (index : ℕ) → migration_of (record { header = header; words = []; old = old; new = new }) ≡ Err (no_key index) → ⊥
-no_word header old new index e = names_is old new index (names_of header) e
+pub no_key_name : (header : List ℕ) (old new : migrations.TableSources) (index : ℕ) → migration_of (record { header = header; key_names = []; old = old; new = new }) ≡ Err (no_key index) → ⊥
+no_key_name header old new index e = names_is old new index (names_of header) e
 
 -- ---- the parts in their order
 

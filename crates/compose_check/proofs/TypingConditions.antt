@@ -1,4 +1,4 @@
--- The conditions on typings, place by place.
+-- The conditions on typings, index by index.
 use Rattle.std.proofs.Common.{◌≡◌, ℕ, suc, ◌+◌, ◌-◌, ◌<◌, ◌≤◌, List, [], ◌∷◌, ◌++◌, Bool, true, false, cond, ◌&&◌, length, get_or, drop, map, replicate, refl, sym, ◌∙◌, ap, arith}
 use Rattle.std.specs.Prelude.{nat_lt, slice_get, Option, Some, None, encode_utf8}
 use Rattle.std.specs.Option.{option_or}
@@ -104,7 +104,7 @@ character_not_none c = go (encode_utf8 c) (omega (arith, length-encode c, len_ut
     go [] h = absurd (omega arith)
     go (b ∷ s) h = refl
 
--- at a place before the last key
+-- at an index before the last key
 pub types_at : (names : KeysymNames) (table : List Definition) (u earlier : List ℕ) (i k last c : ℕ) → i < length earlier → k ≡ get_or earlier i k
     → types_from names table u (drop i earlier ++ last ∷ []) c ≡ is_empty (step names table u k).text && types_from names table (pending_after table u k) (drop (i + 1) earlier ++ last ∷ []) c
 types_at names table u earlier i k last c h at =

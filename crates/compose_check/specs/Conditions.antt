@@ -35,7 +35,7 @@ one_edge_conditions names old new pairs index u v k =
     condition (not (is_cancel b.effect)) (Cancels index k) ∷ condition (same b.text a.text) (TextDiffers index k) ∷
     condition (has_pair pairs (number_of old a.pending) (number_of new b.pending)) (PairMissing index k) ∷ []
 
--- those of the pairs from this one on, whose place is `index`
+-- those of the pairs from this one on, which has the index `index`
 abbrev pub edge_conditions_from : KeysymNames → List Definition → List Definition → List (ℕ × ℕ) → ℕ → List (ℕ × ℕ) → List Condition
 edge_conditions_from names old new pairs index [] = []
 edge_conditions_from names old new pairs index (p ∷ ps) =

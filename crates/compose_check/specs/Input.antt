@@ -13,7 +13,7 @@ use Rattle.compose_check.specs.Conditions.{fault_of}
 use Rattle.compose_check.specs.Verdict.{verdict_of}
 use Rattle.compose_check.specs.declared.verdict.Verdict.{Verdict}
 
--- what is handed in: a migration without words, and two files
+-- what is handed in: a migration without key names, and two files
 pub record Input : Type 0 where
   pub migration : GivenMigration
   pub repertoire : List ℕ

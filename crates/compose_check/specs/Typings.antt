@@ -1,4 +1,4 @@
--- A typing beside the character that is asked for at its place. Words for private functions.
+-- A typing beside the character that is asked for at its index. Words for private functions.
 use Rattle.std.specs.Prelude.{ℕ, nat_lt, if◌then◌else◌, List, Option, Some, None}
 use Rattle.keysym_core.specs.Names.{KeysymNames}
 use Rattle.compose_model.specs.Table.{Definition}

@@ -5,9 +5,9 @@ ghost use Rattle.compose_model.specs.Certificate.{IsValid, TypesAll};
 ghost use Rattle.compose_cert.specs.Reading.{certificate_of};
 ghost use Rattle.compose_cert.specs.Repertoire.{repertoire_of};
 ghost use Rattle.compose_migration.specs.Migration.{Parts as GivenParts, NoMigration, or_because, migration_of};
-ghost use Rattle.compose_migration.specs.Given.{MigrationRefused, parts};
+ghost use Rattle.compose_migration.specs.MigrationGives.{MigrationRefused, parts};
 ghost use Rattle.compose_check.specs.Input.{Parts, parts_of, no_migration, no_repertoire, no_certificate};
-ghost use Rattle.compose_check.specs.Gives.{CheckGives, InputGives, InputRefused, input_of};
+ghost use Rattle.compose_check.specs.CheckGives.{CheckGives, InputGives, InputRefused, input_of};
 
 use crate::verdict::{Verdict, check};
 use compose_cert::{CertFault, Certificate, Repertoire, RepertoireFault};
@@ -97,7 +97,7 @@ fn read_migration<T: ComposeTable>(
 {
     let given = MigrationInput {
         header: input.header,
-        words: &[],
+        key_names: &[],
         old: TableInput {
             sources: input.old,
             rule: input.old_rule,
@@ -113,7 +113,7 @@ fn read_migration<T: ComposeTable>(
     }
 }
 
-/// The fault of a migration without words.
+/// The fault of a migration without key names.
 fn input_fault(fault: MigrationFault) -> InputFault
     requires { (index : ℕ) → fault ≢ MigrationFault.Key index }
     ensures { (said : Result GivenParts NoMigration) → MigrationRefused fault said → InputRefused result (or_because no_migration said) }

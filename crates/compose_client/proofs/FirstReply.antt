@@ -19,7 +19,7 @@ pub record IsRead (bytes : List ℕ) : Type 0 where
   pub fits : ReplyFits (reply_at bytes)
   pub kind : answer_kind (reply_at bytes).answer ≡ get_or bytes 0 0
   pub payload : answer_payload (reply_at bytes).answer ≡ take (size_said bytes) (drop 9 bytes)
-  pub front : reply_bytes (reply_at bytes) ≡ take (9 + size_said bytes) bytes
+  pub prefix : reply_bytes (reply_at bytes) ≡ take (9 + size_said bytes) bytes
   pub long : 9 + size_said bytes ≤ length bytes
 
 module _ (r : Reply) (more : List ℕ) (f : ReplyFits r) where
@@ -38,8 +38,8 @@ module _ (r : Reply) (more : List ℕ) (f : ReplyFits r) where
   frame_long : 9 + size_said (reply_bytes r ++ more) ≡ length (reply_bytes r)
   frame_long = let e = size_again in omega arith
 
-  front_again : take (9 + size_said (reply_bytes r ++ more)) (reply_bytes r ++ more) ≡ reply_bytes r
-  front_again = ap (λ n. take n (reply_bytes r ++ more)) frame_long ∙ take-append_seam (reply_bytes r) more
+  prefix_again : take (9 + size_said (reply_bytes r ++ more)) (reply_bytes r ++ more) ≡ reply_bytes r
+  prefix_again = ap (λ n. take n (reply_bytes r ++ more)) frame_long ∙ take-append_seam (reply_bytes r) more
 
   within : 9 + size_said (reply_bytes r ++ more) ≤ length (reply_bytes r ++ more)
   within =
@@ -52,7 +52,7 @@ module _ (r : Reply) (more : List ℕ) (f : ReplyFits r) where
     fits = subst (λ (q : Reply). ReplyFits q) (sym reply_again) f;
     kind = ap (λ (q : Reply). answer_kind q.answer) reply_again;
     payload = ap (λ (q : Reply). answer_payload q.answer) reply_again ∙ sym payload_again;
-    front = ap (λ (q : Reply). reply_bytes q) reply_again ∙ sym front_again;
+    prefix = ap (λ (q : Reply). reply_bytes q) reply_again ∙ sym prefix_again;
     long = within;
   }
 
@@ -79,8 +79,8 @@ session_small h f session reads =
 
 -- where the head of a frame says that so many bytes of payload stand, and they do
 module _ (h : List ℕ) (n : ℕ) (sized : IsSize (Ok (Some n)) h) where
-  front_said : (BeginsWithReply h) → reply_bytes (reply_at h) ≡ take (9 + n) h
-  front_said b = (is_read h b).front ∙ ap (λ m. take (9 + m) h) (sym sized.1)
+  prefix_said : (BeginsWithReply h) → reply_bytes (reply_at h) ≡ take (9 + n) h
+  prefix_said b = (is_read h b).prefix ∙ ap (λ m. take (9 + m) h) (sym sized.1)
 
   pub bad_payload : (BeginsWithReply h → ⊥) → HasBadPayload h
   bad_payload none =
@@ -110,7 +110,7 @@ module _ (h : List ℕ) (n : ℕ) (sized : IsSize (Ok (Some n)) h) where
 
       -- what was read has another frame than these bytes
       pub other_frame : (reply_bytes (reply_at h) ≡ take (9 + n) h → ⊥) → HasBadPayload h
-      other_frame other = bad_payload (λ b. other (front_said b))
+      other_frame other = bad_payload (λ b. other (prefix_said b))
 
       -- what was read has this frame
       pub given : session < 2 ^ 32 → reply_bytes (reply_at h) ≡ take (9 + n) h → GivesOut (record { session = session; answer = answer }) h (drop (9 + n) h)

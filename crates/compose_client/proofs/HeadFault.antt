@@ -103,8 +103,8 @@ cut_back held more whole said b =
     let r = is_read (held ++ more) b in
     let size : size_said (held ++ more) ≡ size_said held = ap (from_be_bytes w32) (four_stay 5 held more whole) in
     let n = 9 + size_said held in
-    let front : reply_bytes (reply_at (held ++ more)) ≡ take n held = r.front ∙ ap (λ m. take (9 + m) (held ++ more)) size ∙ take-append-le n held more said in
-    (reply_at (held ++ more), drop n held, r.fits, sym (take-append-drop n held) ∙ ap (λ y. y ++ drop n held) (sym front))
+    let prefix : reply_bytes (reply_at (held ++ more)) ≡ take n held = r.prefix ∙ ap (λ m. take (9 + m) (held ++ more)) size ∙ take-append-le n held more said in
+    (reply_at (held ++ more), drop n held, r.fits, sym (take-append-drop n held) ∙ ap (λ y. y ++ drop n held) (sym prefix))
 
 pub payload_stays : (held more : List ℕ) → HasBadPayload held → HasBadPayload (held ++ more)
 payload_stays held more b =

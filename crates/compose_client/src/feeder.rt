@@ -17,7 +17,7 @@ const SPARE: usize = 16_384;
 /// The bytes of a stream that were taken in and not yet given out as replies.
 ///
 /// They stand in one buffer, behind those that were given out and are not yet dropped; there are never more of these than are held.
-/// When half of the buffer is given out, the rest moves to the front, and a buffer four times as large as that needs is made smaller.
+/// When half of the buffer is given out, the rest moves to the beginning, and a buffer four times as large as that needs is made smaller.
 /// So each byte is moved a bounded number of times on the average, however small the pieces are, and the memory is at most some
 /// eight times what is held, but for 64 KiB.
 #[derive(Debug, Drop)]
@@ -95,7 +95,7 @@ impl ReplyFeeder {
     }
 }
 
-/// Drops the bytes before the start where they are at least half of all, and gives the place where the others stand now.
+/// Drops the bytes before the start where they are at least half of all, and gives the index at which the others begin now.
 ///
 /// It moves no more bytes than it drops.
 fn drop_given(buffer: &mut Vec<u8>, start: usize) -> usize
@@ -107,7 +107,7 @@ fn drop_given(buffer: &mut Vec<u8>, start: usize) -> usize
     if start < held {
         return start;
     }
-    remove_front(buffer, start);
+    remove_prefix(buffer, start);
     let room = held.max(SPARE);
     if buffer.capacity() / 4 > room {
         buffer.shrink_to(room * 2);
@@ -115,8 +115,8 @@ fn drop_given(buffer: &mut Vec<u8>, start: usize) -> usize
     0
 }
 
-/// Moves the bytes behind the first ones to the front.
-fn remove_front(buffer: &mut Vec<u8>, count: usize)
+/// Moves the bytes behind the first ones to the beginning.
+fn remove_prefix(buffer: &mut Vec<u8>, count: usize)
     requires { count ≤ vec_len buffer.old }
     ensures { buffer.new.items ≡ drop count buffer.old.items }
 {

@@ -4,7 +4,7 @@ ghost use Rattle.compose_wire.specs.Messages.{Reply};
 ghost use Rattle.compose_wire.specs.Frames.{reply_bytes, Fault, size_said};
 ghost use Rattle.compose_client.specs.Replies.{ReplyFits, BeginsWithReply, head_fault, HasBadPayload};
 
-/// No reply's frame begins another one, so bytes begin with this reply and no other.
+/// No reply's frame is a prefix of another one, so bytes begin with this reply and no other.
 pub fn law_one_reply()
     ensures { (r s : Reply) (x y : List ℕ) → ReplyFits r → ReplyFits s → reply_bytes r ++ x ≡ reply_bytes s ++ y → (r ≡ s) × (x ≡ y) }
 {}

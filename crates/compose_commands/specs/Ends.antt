@@ -19,12 +19,12 @@ abbrev pub written_end : {E : Type 0} → Result (Unit {0}) E → Ended → Ende
 written_end (Ok done) ended = ended
 written_end (Err fault) ended = unwritten_end ended
 
--- words that are no command: yes where they ask for help or the version
-abbrev pub words_end : ErrorKind → Ended
-words_end kinds.DisplayHelp = Yes
-words_end kinds.DisplayVersion = Yes
-words_end kinds.OutOfMemory = NoMemory
-words_end kind = Refused
+-- arguments that are no command: yes where they ask for help or the version
+abbrev pub arguments_end : ErrorKind → Ended
+arguments_end kinds.DisplayHelp = Yes
+arguments_end kinds.DisplayVersion = Yes
+arguments_end kinds.OutOfMemory = NoMemory
+arguments_end kind = Refused
 
 -- as it does where it is written, or where it can't be: the stream decides
 abbrev pub EndsPrinted : Ended → Ended → Type 0

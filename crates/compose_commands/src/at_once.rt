@@ -1,10 +1,10 @@
 //! `serve --at-once`: many connections to one service.
 use crate::report::{no_memory, refused, written};
+use compose_arguments::ServeArguments;
 use compose_hub::{Limits, Report, serve_at_once};
 use compose_serve::{Answer, Ended as ConnectionEnded, ServeFault};
 use compose_serving::connection_line;
 use compose_tool::{Ended, Shown};
-use compose_words::ServeWords;
 use mio::net::UnixListener as PolledListener;
 use std::io;
 use std::net::Net;
@@ -44,7 +44,7 @@ pub fn serve_many<S: Answer>(
     rt: &(impl Net + Print + Eprint + AllocGlobal),
     listener: UnixListener,
     service: &mut S,
-    words: &ServeWords<'_>,
+    arguments: &ServeArguments<'_>,
     at_once: u16,
 ) -> Result<Ended, Ended> {
     let mut lines = Lines {
@@ -53,12 +53,12 @@ pub fn serve_many<S: Answer>(
     };
     let limits = Limits {
         at_once: usize::from(at_once),
-        connections: u32::from(words.connections),
-        unsent: words.unsent as usize,
+        connections: u32::from(arguments.connections),
+        unsent: arguments.unsent as usize,
     };
     let served = poll_all(rt, listener, service, limits, &mut lines);
     match (lines.ended, served) {
-        (Ended::Yes, Err(error)) => Err(tell_unserved(rt, words.socket, error.kind())),
+        (Ended::Yes, Err(error)) => Err(tell_unserved(rt, arguments.socket, error.kind())),
         (ended, _) => Ok(ended),
     }
 }

@@ -4,13 +4,13 @@ ghost use Rattle.compose_commands.specs.Ends.{exchange_end};
 
 use crate::files::{TableFiles, read_file, read_header};
 use crate::report::{no_memory, refused, report, written};
+use compose_arguments::{LoadArguments, SessionArguments};
 use compose_bundle::BundleFault;
 use compose_client::{ReplyFeeder, RequestFault, put_request};
 use compose_migration::Named;
 use compose_session::{Asked, End, Report, load_request, report_replies, session_requests};
 use compose_tool::{Ended, Refusal, Shown};
 use compose_wire::{Answer, Reply, Request};
-use compose_words::{LoadWords, SessionWords};
 use keysym_core::Names;
 use std::io::{Read, Write};
 use std::net::Net;
@@ -23,13 +23,13 @@ const PIECE: usize = 4096;
 /// Loads a new table into a running service.
 pub fn load_files(
     rt: &(impl Files + Net + Print + Eprint + AllocGlobal),
-    words: &LoadWords<'_>,
+    arguments: &LoadArguments<'_>,
 ) -> Result<Ended, Ended> {
-    let (sources, rule) = TableFiles::read(rt, "new", words.new)?.into_parts();
-    let certificate = read_file(rt, words.certificate)?;
+    let (sources, rule) = TableFiles::read(rt, "new", arguments.new)?.into_parts();
+    let certificate = read_file(rt, arguments.certificate)?;
     let names = read_names(rt, &[], &[])?.names;
     match load_request(rt.alloc(), &sources, rule, &certificate) {
-        Ok(request) => exchange(rt, words.socket, &names, &[request]),
+        Ok(request) => exchange(rt, arguments.socket, &names, &[request]),
         Err(BundleFault::NoMemory) => Err(no_memory(rt)),
         Err(fault) => Err(refused(eprintln!(rt; "refused: load: {fault}"))),
     }
@@ -39,33 +39,33 @@ pub fn load_files(
 pub fn session_files(
     rt: &(impl Files + Net + Print + Eprint + AllocGlobal),
     names: &[&str],
-    words: &SessionWords<'_>,
+    arguments: &SessionArguments<'_>,
 ) -> Result<Ended, Ended> {
     let header = read_header(rt, names)?;
-    let named = read_names(rt, &header, &words.keys)?;
+    let named = read_names(rt, &header, &arguments.keys)?;
     let asked = Asked {
-        session: words.session,
-        open: words.open,
-        reset: words.reset,
+        session: arguments.session,
+        open: arguments.open,
+        reset: arguments.reset,
         keys: &named.keys,
-        ask: words.ask,
-        close: words.close,
+        ask: arguments.ask,
+        close: arguments.close,
     };
     match session_requests(rt.alloc(), &asked) {
-        Ok(requests) => exchange(rt, words.socket, &named.names, &requests),
+        Ok(requests) => exchange(rt, arguments.socket, &named.names, &requests),
         Err(_) => Err(no_memory(rt)),
     }
 }
 
-/// The names of a header, and the keysyms of the words.
+/// The names of a header, and the keysyms of the arguments.
 fn read_names(
     rt: &(impl Print + Eprint + AllocGlobal),
     header: &[u8],
-    words: &[&str],
+    arguments: &[&str],
 ) -> Result<Named, Ended> {
-    match Named::read(rt.alloc(), header, words) {
+    match Named::read(rt.alloc(), header, arguments) {
         Ok(named) => Ok(named),
-        Err(fault) => Err(report(rt, &Err(Refusal::from(fault)), words)),
+        Err(fault) => Err(report(rt, &Err(Refusal::from(fault)), arguments)),
     }
 }
 

@@ -5,13 +5,13 @@ use crate::files::{MoveFiles, TableFiles, read_file, read_header};
 use crate::manifest::manifest_files;
 use crate::report::{report, report_into};
 use crate::serving::serve_files;
+use compose_arguments::{CommandLine, Request, TablePaths};
 use compose_check::CheckInput;
 use compose_tool::{
     Ended, check_allowed, check_migration, explain_all_migration, explain_migration,
     make_all_migration, make_migration, type_keys,
 };
 use compose_tree::ComposeTable;
-use compose_words::{CommandLine, Request, TablePaths};
 use std::net::Net;
 use std::rt::{Env, Files};
 
@@ -19,10 +19,10 @@ use std::rt::{Env, Files};
 pub fn answer<T: ComposeTable>(
     rt: &(impl Env + Files + Net + Print + Eprint + AllocGlobal),
     process_id: u32,
-    words: &CommandLine<'_>,
+    arguments: &CommandLine<'_>,
 ) -> Result<Ended, Ended> {
-    let names = words.names.as_slice();
-    match &words.request {
+    let names = arguments.names.as_slice();
+    match &arguments.request {
         Request::Type { table, keys } => type_files::<T>(rt, names, *table, keys),
         Request::Check {
             tables,
@@ -49,10 +49,10 @@ pub fn answer<T: ComposeTable>(
             let files = MoveFiles::read(rt, names, tables, fresh)?;
             make_files::<T>(rt, &files, *all, *repertoire, *output)
         }
-        Request::Manifest(words) => manifest_files(rt, words),
-        Request::Serve(words) => serve_files::<T>(rt, process_id, names, words),
-        Request::Load(words) => load_files(rt, words),
-        Request::Session(words) => session_files(rt, names, words),
+        Request::Manifest(arguments) => manifest_files(rt, arguments),
+        Request::Serve(arguments) => serve_files::<T>(rt, process_id, names, arguments),
+        Request::Load(arguments) => load_files(rt, arguments),
+        Request::Session(arguments) => session_files(rt, names, arguments),
     }
 }
 
@@ -159,7 +159,7 @@ fn make_files<T: ComposeTable>(
         make_migration::<T>(rt.alloc(), &files.input(), &repertoire)
     };
     match output {
-        Some(path) => Ok(report_into(rt, path, &answered, &files.words)),
-        None => Ok(report(rt, &answered, &files.words)),
+        Some(path) => Ok(report_into(rt, path, &answered, &files.arguments)),
+        None => Ok(report(rt, &answered, &files.arguments)),
     }
 }

@@ -4,12 +4,12 @@ ghost use Rattle.compose_commands.specs.Headers.{ended};
 
 use crate::report::{no_memory, refused};
 use builtin_names::builtin_names;
+use compose_arguments::TablePaths;
 use compose_manifest::file_path;
 use compose_migration::{MigrationInput, TableInput};
 use compose_model::Rule;
 use compose_read::{SourceFault, Sources};
 use compose_tool::{Ended, Entry, Manifest, ManifestFault, Shown, read_manifest};
-use compose_words::TablePaths;
 use std::alloc::AllocError;
 use std::rt::Files;
 use std::{fs, io};
@@ -139,13 +139,13 @@ fn read_entry(
     }
 }
 
-/// The files of a move from an old table to a new one, and the words that are to name keysyms.
+/// The files of a move from an old table to a new one, and the arguments that are to name keysyms.
 #[derive(Drop)]
 pub struct MoveFiles<'w> {
     pub header: Vec<u8>,
     pub old: TableFiles,
     pub new: TableFiles,
-    pub words: Vec<&'w str>,
+    pub arguments: Vec<&'w str>,
 }
 
 impl<'w> MoveFiles<'w> {
@@ -154,19 +154,19 @@ impl<'w> MoveFiles<'w> {
         rt: &(impl Files + Eprint + AllocGlobal),
         names: &[&str],
         paths: &TablePaths<'_>,
-        words: &[&'w str],
+        arguments: &[&'w str],
     ) -> Result<MoveFiles<'w>, Ended> {
         let header = read_header(rt, names)?;
         let old = TableFiles::read(rt, "old", paths.old)?;
         let new = TableFiles::read(rt, "new", paths.new)?;
-        let Ok(words) = Vec::from_slice(rt.alloc(), words) else {
+        let Ok(arguments) = Vec::from_slice(rt.alloc(), arguments) else {
             return Err(no_memory(rt));
         };
         Ok(MoveFiles {
             header,
             old,
             new,
-            words,
+            arguments,
         })
     }
 
@@ -174,7 +174,7 @@ impl<'w> MoveFiles<'w> {
     pub fn input(&self) -> MigrationInput<'_, 'w> {
         MigrationInput {
             header: &self.header,
-            words: &self.words,
+            key_names: &self.arguments,
             old: self.old.input(),
             new: self.new.input(),
         }

@@ -1,5 +1,5 @@
-//! The commands of `composecheck` over any form of a table: files, printing and exit statuses. The words of the command line stand in
-//! `compose_words`, what a command answers on the bytes that it is given in `compose_tool`.
+//! The commands of `composecheck` over any form of a table: files, printing and exit statuses. The arguments of the command line stand in
+//! `compose_arguments`, what a command answers on the bytes that it is given in `compose_tool`.
 //!
 //! ```text
 //! fn main(rt: HostRuntime) -> ExitCode {

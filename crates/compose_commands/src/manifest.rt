@@ -1,31 +1,31 @@
 //! `manifest`: finds the sources of a Compose file on the system. An error is the end of a run whose refusal was told.
 use crate::report::{no_memory, refused, written};
-use compose_find::{FindFault, Meanings, Met, find_sources, locale_file};
+use compose_arguments::ManifestArguments;
+use compose_find::{FindFault, FoundSource, Meanings, find_sources, locale_file};
 use compose_manifest::{WriteFault, manifest_text};
 use compose_tool::{Ended, Shown};
-use compose_words::ManifestWords;
 use std::env::VarError;
 use std::rt::{Env, Files};
 use std::{env, fs, io};
 
-/// Where the system's tables lie, if neither the words nor the environment say it.
+/// Where the system's tables lie, if neither the arguments nor the environment say it.
 const SYSTEM_FOLDER: &str = "/usr/share/X11/locale";
 
 /// Prints the manifest of a Compose file.
 pub fn manifest_files(
     rt: &(impl Env + Files + Print + Eprint + AllocGlobal),
-    words: &ManifestWords<'_>,
+    arguments: &ManifestArguments<'_>,
 ) -> Result<Ended, Ended> {
     let folder = system_folder(rt)?;
-    let system = words.system.unwrap_or(&folder);
-    let locale = locale_table(rt, system, words.locale)?;
+    let system = arguments.system.unwrap_or(&folder);
+    let locale = locale_table(rt, system, arguments.locale)?;
     let home = variable(rt, "HOME")?;
     let meanings = Meanings {
         system,
         locale: locale.as_deref(),
         home: home.as_deref(),
     };
-    let sources = find_files(rt, meanings, words.file)?;
+    let sources = find_files(rt, meanings, arguments.file)?;
     match manifest_text(rt.alloc(), &sources) {
         Ok(text) => Ok(written(rt, print!(rt; "{text}"), Ended::Yes)),
         Err(WriteFault::NoMemory) => Err(no_memory(rt)),
@@ -66,10 +66,10 @@ fn locale_name(rt: &(impl Env + Eprint + AllocGlobal)) -> Result<Option<String>,
 fn locale_table(
     rt: &(impl Env + Files + Eprint + AllocGlobal),
     system: &str,
-    word: Option<&str>,
+    argument: Option<&str>,
 ) -> Result<Option<String>, Ended> {
     let named = locale_name(rt)?;
-    let Some(locale) = word.or(named.as_deref()) else {
+    let Some(locale) = argument.or(named.as_deref()) else {
         return Ok(None);
     };
     let compose_dir = listing(rt, system, "compose.dir")?;
@@ -109,7 +109,7 @@ fn find_files(
     rt: &(impl Files + Eprint + AllocGlobal),
     meanings: Meanings<'_>,
     root: &str,
-) -> Result<Vec<Met>, Ended> {
+) -> Result<Vec<FoundSource>, Ended> {
     let mut files = compose_find::Files::new(rt.alloc());
     for _ in 0..u64::MAX {
         match find_sources(rt.alloc(), &files, meanings, root) {

@@ -3,17 +3,17 @@ ghost use Rattle.std.specs.Prelude.{◌≤◌};
 ghost use Rattle.std.specs.Process.{exit_status};
 
 use crate::commands::answer;
-use crate::report::{no_memory, refused, report_words};
+use crate::report::{no_memory, refused, report_arguments};
+use compose_arguments::read_command_line;
 use compose_tool::Ended;
 use compose_tree::ComposeTable;
-use compose_words::read_command_line;
 use std::net::Net;
 use std::process::ExitCode;
 use std::rt::{Env, Files};
 use std::{env, io};
 
-/// Does what the words of the command line say, with tables in the form `T`, and gives the exit status: 0 where the answer is yes,
-/// made, follows, typed or served, 1 where it is no, differs or unreachable, 2 where the words or the input are refused or the output can't
+/// Does what the arguments of the command line say, with tables in the form `T`, and gives the exit status: 0 where the answer is yes,
+/// made, follows, typed or served, 1 where it is no, differs or unreachable, 2 where the arguments or the input are refused or the output can't
 /// be written, 3 where memory was refused. The answer goes to standard output, why there is none to standard error. At the cost of the
 /// command over its files.
 pub fn run<T: ComposeTable>(
@@ -22,17 +22,17 @@ pub fn run<T: ComposeTable>(
 ) -> ExitCode
     ensures { exit_status result ≤ 3 }
 {
-    let ended = match read_words(rt) {
-        Ok(words) => answer_words::<T>(rt, process_id, &words),
+    let ended = match read_arguments(rt) {
+        Ok(arguments) => answer_arguments::<T>(rt, process_id, &arguments),
         Err(ended) => ended,
     };
     ExitCode::from(ended.status())
 }
 
-/// The words of the command line, the program's name among them.
-fn read_words(rt: &(impl Env + Eprint + AllocGlobal)) -> Result<Vec<String>, Ended> {
+/// The arguments of the command line, the program's name among them.
+fn read_arguments(rt: &(impl Env + Eprint + AllocGlobal)) -> Result<Vec<String>, Ended> {
     match env::args(rt) {
-        Ok(words) => words.collect(rt.alloc()).map_err(|_| no_memory(rt)),
+        Ok(arguments) => arguments.collect(rt.alloc()).map_err(|_| no_memory(rt)),
         Err(error) if error.kind() == io::ErrorKind::InvalidData => {
             Err(refused(eprintln!(rt; "refused: word: not UTF-8")))
         }
@@ -40,22 +40,22 @@ fn read_words(rt: &(impl Env + Eprint + AllocGlobal)) -> Result<Vec<String>, End
     }
 }
 
-/// Does what the words of the command line say.
-fn answer_words<T: ComposeTable>(
+/// Does what the arguments of the command line say.
+fn answer_arguments<T: ComposeTable>(
     rt: &(impl Env + Files + Net + Print + Eprint + AllocGlobal),
     process_id: u32,
-    words: &[String],
+    arguments: &[String],
 ) -> Ended {
-    match read_command_line(rt.alloc(), words) {
+    match read_command_line(rt.alloc(), arguments) {
         Ok(said) => answer::<T>(rt, process_id, &said).unwrap_or_else(|ended| ended),
         Err(error) => report_error(rt, &error),
     }
 }
 
-/// Prints the help that the words ask for, or why they are refused.
+/// Prints the help that the arguments ask for, or why they are refused.
 fn report_error(rt: &(impl Print + Eprint + AllocGlobal), error: &clap::Error) -> Ended {
     match format!(in rt.alloc(); "{error}") {
-        Ok(text) => report_words(rt, error.kind(), &text),
+        Ok(text) => report_arguments(rt, error.kind(), &text),
         Err(_) => no_memory(rt),
     }
 }

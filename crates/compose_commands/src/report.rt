@@ -1,41 +1,41 @@
 //! What is printed, and how a run then ends.
 ghost use Rattle.std.specs.Prelude.{◌≡◌};
 ghost use Rattle.compose_tool.specs.Ends.{end_of};
-ghost use Rattle.compose_commands.specs.Ends.{EndsPrinted, words_end, written_end};
+ghost use Rattle.compose_commands.specs.Ends.{EndsPrinted, arguments_end, written_end};
 
 use clap::error::ErrorKind;
 use compose_tool::{Answer, Ended, Refusal, Shown, ShownLines};
 use std::rt::Files;
 use std::{fs, io};
 
-/// Prints the answer, or why there is none. Of a word that has no keysym the refusal says the index, and `words` has the word.
+/// Prints the answer, or why there is none. Of an argument that has no keysym the refusal says the index, and `arguments` has the argument.
 pub fn report(
     rt: &(impl Print + Eprint),
     answered: &Result<Answer, Refusal>,
-    words: &[&str],
+    arguments: &[&str],
 ) -> Ended
     ensures { EndsPrinted (end_of answered.now) result }
 {
-    written(rt, tell(rt, answered, words), Ended::of(answered))
+    written(rt, tell(rt, answered, arguments), Ended::of(answered))
 }
 
 /// Prints the answer to standard output, or why there is none to standard error.
 fn tell(
     rt: &(impl Print + Eprint),
     answered: &Result<Answer, Refusal>,
-    words: &[&str],
+    arguments: &[&str],
 ) -> io::Result<()> {
     match answered {
         Ok(answer) => print!(rt; "{answer}"),
-        Err(refusal) => tell_refusal(rt, refusal, words),
+        Err(refusal) => tell_refusal(rt, refusal, arguments),
     }
 }
 
 /// Prints why there is no answer.
-fn tell_refusal(rt: &impl Eprint, refusal: &Refusal, words: &[&str]) -> io::Result<()> {
+fn tell_refusal(rt: &impl Eprint, refusal: &Refusal, arguments: &[&str]) -> io::Result<()> {
     if let Refusal::Key { index } = refusal {
-        if let Some(word) = words.get(*index) {
-            return eprintln!(rt; "refused: key: {word}", word = Shown(word));
+        if let Some(argument) = arguments.get(*index) {
+            return eprintln!(rt; "refused: key: {argument}", argument = Shown(argument));
         }
     }
     eprintln!(rt; "{refusal}")
@@ -46,11 +46,11 @@ pub fn report_into(
     rt: &(impl Files + Print + Eprint + AllocGlobal),
     path: &str,
     answered: &Result<Answer, Refusal>,
-    words: &[&str],
+    arguments: &[&str],
 ) -> Ended {
     match answered {
         Ok(Answer::Yes(text)) => write_whole(rt, path, text),
-        _ => report(rt, answered, words),
+        _ => report(rt, answered, arguments),
     }
 }
 
@@ -100,15 +100,15 @@ pub fn no_memory(rt: &impl Eprint) -> Ended
     Ended::NoMemory
 }
 
-/// Prints this text of clap, which is of this kind: the help that the words ask for, or why they are refused.
-pub fn report_words(rt: &(impl Print + Eprint), kind: ErrorKind, text: &str) -> Ended
-    ensures { EndsPrinted (words_end kind) result }
+/// Prints this text of clap, which is of this kind: the help that the arguments ask for, or why they are refused.
+pub fn report_arguments(rt: &(impl Print + Eprint), kind: ErrorKind, text: &str) -> Ended
+    ensures { EndsPrinted (arguments_end kind) result }
 {
-    written(rt, tell_words(rt, kind, text), end_of_words(kind))
+    written(rt, tell_arguments(rt, kind, text), end_of_arguments(kind))
 }
 
-/// Prints what clap says of the words: help to standard output, and why they are refused to standard error.
-fn tell_words(rt: &(impl Print + Eprint), kind: ErrorKind, text: &str) -> io::Result<()> {
+/// Prints what clap says of the arguments: help to standard output, and why they are refused to standard error.
+fn tell_arguments(rt: &(impl Print + Eprint), kind: ErrorKind, text: &str) -> io::Result<()> {
     match kind {
         ErrorKind::OutOfMemory => eprintln!(rt; "out of memory"),
         ErrorKind::DisplayHelp | ErrorKind::DisplayVersion => print!(rt; "{text}"),
@@ -116,9 +116,9 @@ fn tell_words(rt: &(impl Print + Eprint), kind: ErrorKind, text: &str) -> io::Re
     }
 }
 
-/// How a run ends whose words are no command: yes where they ask for help or the version.
-fn end_of_words(kind: ErrorKind) -> Ended
-    ensures { result ≡ words_end kind }
+/// How a run ends whose arguments are no command: yes where they ask for help or the version.
+fn end_of_arguments(kind: ErrorKind) -> Ended
+    ensures { result ≡ arguments_end kind }
 {
     match kind {
         ErrorKind::DisplayHelp | ErrorKind::DisplayVersion => Ended::Yes,

@@ -2,13 +2,13 @@
 use crate::at_once::{print_end, serve_many};
 use crate::files::{TableFiles, read_file, read_header};
 use crate::report::{no_memory, refused, report, written};
+use compose_arguments::ServeArguments;
 use compose_serve::{Device, serve};
 use compose_service::Service;
 use compose_serving::{BeginFault, BeginInput, begin};
 use compose_socket::{SocketFault, SocketFile, listener_of_systemd};
 use compose_tool::{Answer, Ended, Shown};
 use compose_tree::ComposeTable;
-use compose_words::ServeWords;
 use std::alloc::Global;
 use std::fs;
 use std::net::Net;
@@ -20,17 +20,17 @@ pub fn serve_files<T: ComposeTable>(
     rt: &(impl Env + Files + Net + Print + Eprint + AllocGlobal),
     process_id: u32,
     names: &[&str],
-    words: &ServeWords<'_>,
+    arguments: &ServeArguments<'_>,
 ) -> Result<Ended, Ended> {
-    let mut service = begin_files::<T>(rt, names, words)?;
-    let listener = bind(rt, process_id, words)?;
+    let mut service = begin_files::<T>(rt, names, arguments)?;
+    let listener = bind(rt, process_id, arguments)?;
     written(rt, println!(rt; "listening"), Ended::Yes);
-    let ended = match words.at_once {
-        Some(at_once) => serve_many(rt, listener, &mut service, words, at_once)?,
-        None => serve_connections(rt, &listener, &mut service, words)?,
+    let ended = match arguments.at_once {
+        Some(at_once) => serve_many(rt, listener, &mut service, arguments, at_once)?,
+        None => serve_connections(rt, &listener, &mut service, arguments)?,
     };
-    if words.unlink {
-        let _ = fs::remove_file(rt, words.socket);
+    if arguments.unlink {
+        let _ = fs::remove_file(rt, arguments.socket);
     }
     Ok(ended)
 }
@@ -49,13 +49,13 @@ impl ServiceFiles {
     fn read(
         rt: &(impl Files + Eprint + AllocGlobal),
         names: &[&str],
-        words: &ServeWords<'_>,
+        arguments: &ServeArguments<'_>,
     ) -> Result<ServiceFiles, Ended> {
         Ok(ServiceFiles {
             header: read_header(rt, names)?,
-            table: TableFiles::read(rt, "table", words.table)?,
-            repertoire: read_file(rt, words.repertoire)?,
-            certificate: read_file(rt, words.certificate)?,
+            table: TableFiles::read(rt, "table", arguments.table)?,
+            repertoire: read_file(rt, arguments.repertoire)?,
+            certificate: read_file(rt, arguments.certificate)?,
         })
     }
 
@@ -76,9 +76,9 @@ impl ServiceFiles {
 fn begin_files<T: ComposeTable>(
     rt: &(impl Files + Print + Eprint + AllocGlobal),
     names: &[&str],
-    words: &ServeWords<'_>,
+    arguments: &ServeArguments<'_>,
 ) -> Result<Service<T>, Ended> {
-    match ServiceFiles::read(rt, names, words)?.begin(rt.alloc()) {
+    match ServiceFiles::read(rt, names, arguments)?.begin(rt.alloc()) {
         Ok(service) => Ok(service),
         Err(fault) => Err(report_fault(rt, fault)),
     }
@@ -96,20 +96,20 @@ fn report_fault(rt: &(impl Print + Eprint), fault: BeginFault) -> Ended {
 fn bind(
     rt: &(impl Env + Files + Net + Eprint + AllocGlobal),
     process_id: u32,
-    words: &ServeWords<'_>,
+    arguments: &ServeArguments<'_>,
 ) -> Result<UnixListener, Ended> {
     if let Some(listener) = listener_of_systemd(rt, process_id) {
         return Ok(listener);
     }
     let file = SocketFile {
-        path: words.socket,
-        mode: words.mode,
-        replace: words.replace,
+        path: arguments.socket,
+        mode: arguments.mode,
+        replace: arguments.replace,
     };
     match file.bind(rt, process_id) {
         Ok(listener) => Ok(listener),
         Err(SocketFault::NoMemory) => Err(no_memory(rt)),
-        Err(_) => Err(refused(eprintln!(rt; "refused: socket: {}", Shown(words.socket)))),
+        Err(_) => Err(refused(eprintln!(rt; "refused: socket: {}", Shown(arguments.socket)))),
     }
 }
 
@@ -118,14 +118,14 @@ fn serve_connections<T: ComposeTable>(
     rt: &(impl Print + Eprint + AllocGlobal),
     listener: &UnixListener,
     service: &mut Service<T>,
-    words: &ServeWords<'_>,
+    arguments: &ServeArguments<'_>,
 ) -> Result<Ended, Ended> {
-    for number in 1..=u32::from(words.connections) {
+    for number in 1..=u32::from(arguments.connections) {
         match listener.accept() {
             Ok((stream, _)) => serve_connection(rt, number, &stream, service)?,
             Err(_) => return Err(refused(eprintln!(rt;
                 "refused: socket: {}",
-                Shown(words.socket)
+                Shown(arguments.socket)
             ))),
         }
     }

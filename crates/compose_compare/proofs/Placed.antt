@@ -22,7 +22,7 @@ use Rattle.compose_walk.specs.Pass.{differs_at}
 use Rattle.compose_walk.specs.Steps.{IsStep, difference_of}
 use Rattle.compose_walk.specs.declared.step.KeyStep.{KeyStep}
 use Rattle.compose_walk.proofs.Candidates.{shorter_node}
-use Rattle.compose_walk.proofs.Places.{number_at_node, node_is_node}
+use Rattle.compose_walk.proofs.NodeNumbers.{number_at_node, node_is_node}
 use Rattle.compose_walk.proofs.Standing.{zero_test, differs_alike}
 use Rattle.compose_compare.specs.declared.Change.{Change}
 use Rattle.compose_compare.specs.declared.Change.TheVariants.{Kept, Changed, Waiting, Removed, Added, NewStart}

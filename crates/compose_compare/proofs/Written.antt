@@ -15,9 +15,9 @@ use Rattle.compose_model.proofs.Lift.{not_extended}
 use Rattle.compose_read.specs.Settle.{IsSettled}
 use Rattle.compose_tree.specs.Targets.{leaf_number}
 use Rattle.compose_tree.proofs.Steps.{leaf_means}
-use Rattle.compose_fresh.proofs.Places.{any_more}
+use Rattle.compose_fresh.proofs.Positions.{any_more}
 use Rattle.compose_fresh.proofs.Used.{same_test}
-use Rattle.compose_walk.proofs.Places.{place_is, any_at}
+use Rattle.compose_walk.proofs.NodeNumbers.{index_is, any_at}
 use Rattle.compose_walk.proofs.Onward.{begins, first_key, goes_behind}
 use Rattle.compose_compare.specs.Passes.{IsWritten}
 use Rattle.compose_compare.proofs.OneKind.{no_empty}
@@ -129,6 +129,6 @@ module _ {X : Type 0} (d : X) (value : List ℕ → X) (table : List Definition)
           at : (s : List ℕ) → get_or (leaves table) i [] ≡ s → get_or after i d ≡ get_or (map value (leaves table)) i d
           at [] e = absurd (no_empty table settled.definitions (sym (leaf_means table []) ∙ ap (λ q. list_any (same q) (leaves table)) (sym e) ∙ any_at (leaves table) i below))
           at (k ∷ s) e =
-              let number : leaf_number table (k ∷ s) ≡ i = ap (leaf_number table) (sym e) ∙ place_is (leaves table) i (rising_sorted nat_list_cmp_total (map (λ (e : Definition). e.sequence) table)) below in
+              let number : leaf_number table (k ∷ s) ≡ i = ap (leaf_number table) (sym e) ∙ index_is (leaves table) i (rising_sorted nat_list_cmp_total (map (λ (e : Definition). e.sequence) table)) below in
               let sequence : is_sequence table (k ∷ s) ≡ true = sym (leaf_means table (k ∷ s)) ∙ ap (λ q. list_any (same q) (leaves table)) (sym e) ∙ any_at (leaves table) i below in
               ap (λ j. get_or after j d) (sym number) ∙ w (k ∷ s) sequence ∙ ap value (sym e) ∙ sym (get_or-map value (leaves table) i [] d below)

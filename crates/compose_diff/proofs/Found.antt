@@ -1,4 +1,4 @@
--- The first element that passes a test, looked for from the front.
+-- The first element that passes a test, looked for from the beginning.
 use Rattle.std.proofs.Common.{◌≡◌, ℕ, ◌+◌, ◌<◌, Bool, true, false, List, ◌∷◌, length, map, drop, get_or, sym, ◌∙◌, ap, refl}
 use Rattle.std.specs.Prelude.{Some}
 use Rattle.std.specs.List.{find, list_any}

@@ -32,7 +32,7 @@ said_from n (line ∷ lines) = if is_skipped line then said_from (1 + n) lines e
 
 -- the text begins with these bytes
 abbrev pub begins_with : List ℕ → List ℕ → Bool
-begins_with text front = bytes_eq (take (length front) text) front
+begins_with text prefix = bytes_eq (take (length prefix) text) prefix
 
 -- the text begins with the word of such a change, a colon, a blank and a bracket
 abbrev pub begins_as : List ℕ → Change → Bool

@@ -3,12 +3,12 @@ use Rattle.std.proofs.Common.{◌≡◌, ℕ, suc, ◌+◌, ◌<◌, ◌≤◌, 
 use Rattle.std.specs.Prelude.{◌==◌, Result, Ok, Err, slice_get}
 use Rattle.std.specs.List.{prefix_len}
 use Rattle.std.specs.Str.{IsUtf8, IsCharBoundary}
-use Rattle.compose_text.specs.Bytes.{front, behind}
+use Rattle.compose_text.specs.Bytes.{leading, behind}
 use Rattle.compose_text.specs.Results.{◌>>=◌}
 use Rattle.compose_find.specs.Expand.{Words, is_plain, path_from, path_of, meaning_at, meaning}
 use Rattle.compose_find.specs.declared.fault.IncludeFault.{IncludeFault}
 use Rattle.compose_find.specs.declared.fault.IncludeFault.TheVariants.{Text, UnknownPercent, NoLocale, NoHome, TwoFiles, TooManySources, IncludeDepth, NoMemory}
-use Rattle.compose_find.specs.Given.{onto, Gives, IsPiece}
+use Rattle.compose_find.specs.FindGives.{onto, Gives, IsPiece}
 
 -- the text ends there, or a percent sign stands there
 stops : (text : List ℕ) → prefix_len is_plain text < length text → get_or text (prefix_len is_plain text) 0 ≡ 37
@@ -40,14 +40,14 @@ one_more : (b : ℕ) (xs : List ℕ) (r : Result (List ℕ) IncludeFault) → on
 one_more b xs (Ok path) = refl
 one_more b xs (Err e) = refl
 
-pub plain_first : (words : Words) (text : List ℕ) → path_of words text ≡ onto (front is_plain text) (path_of words (behind is_plain text))
+pub plain_first : (words : Words) (text : List ℕ) → path_of words text ≡ onto (leading is_plain text) (path_of words (behind is_plain text))
 plain_first words [] = refl
 plain_first words (b ∷ rest) = go (b == 37) refl (plain_first words rest)
   where
-    go : (t : Bool) → b == 37 ≡ t → path_of words rest ≡ onto (front is_plain rest) (path_of words (behind is_plain rest))
-        → cond t (path_from words true rest) (path_from words false rest >>= (λ more. Ok (b ∷ more))) ≡ onto (cond (not t) (b ∷ front is_plain rest) []) (path_of words (cond (not t) (behind is_plain rest) (b ∷ rest)))
+    go : (t : Bool) → b == 37 ≡ t → path_of words rest ≡ onto (leading is_plain rest) (path_of words (behind is_plain rest))
+        → cond t (path_from words true rest) (path_from words false rest >>= (λ more. Ok (b ∷ more))) ≡ onto (cond (not t) (b ∷ leading is_plain rest) []) (path_of words (cond (not t) (behind is_plain rest) (b ∷ rest)))
     go true e h = rw e (sym (onto-none (path_from words true rest)))
-    go false e h = ap (λ r. r >>= (λ more. Ok (b ∷ more))) h ∙ one_more b (front is_plain rest) (path_of words (behind is_plain rest))
+    go false e h = ap (λ r. r >>= (λ more. Ok (b ∷ more))) h ∙ one_more b (leading is_plain rest) (path_of words (behind is_plain rest))
 
 joined : (word : List ℕ) (r : Result (List ℕ) IncludeFault) → r >>= (λ more. Ok (word ++ more)) ≡ onto word r
 joined word (Ok path) = refl
@@ -112,7 +112,7 @@ pub percent_piece : (words : Words) (text : List ℕ) (b : ℕ) (rest : List ℕ
 percent_piece words text b rest r first is left gives =
     subst (λ t. IsPiece words t r) (ap (λ k. k ∷ rest) (sym is) ∙ divided text b rest first left) (percent_first words rest r gives)
 
-pub plain_piece : (words : Words) (text plain rest : List ℕ) → 0 < length text → ((b : ℕ) → Some b ≡ slice_get text 0 → b ≡ 37 → ⊥) → plain ≡ front is_plain text → rest ≡ behind is_plain text
+pub plain_piece : (words : Words) (text plain rest : List ℕ) → 0 < length text → ((b : ℕ) → Some b ≡ slice_get text 0 → b ≡ 37 → ⊥) → plain ≡ leading is_plain text → rest ≡ behind is_plain text
     → (path_of words text ≡ onto plain (path_of words rest)) × (length rest < length text)
 plain_piece words [] plain rest some other p r = absurd (omega arith)
 plain_piece words (b ∷ text) plain rest some other p r = go (b == 37) refl

@@ -3,27 +3,27 @@ use Rattle.std.proofs.Common.{◌≡◌, ℕ, suc, zero, ◌+◌, ◌≤◌, Lis
 use Rattle.std.specs.Prelude.{Result, Ok, Err, slice_get}
 use Rattle.std.proofs.lemmas.Option.{slice_get_past}
 use Rattle.compose_find.specs.Expand.{Words}
-use Rattle.compose_find.specs.Found.{Looked, Met, Stop, wanted, missing_root, missing_file, refused, meet_source, found_on}
-use Rattle.compose_find.specs.Given.{FindGives}
-use Rattle.compose_find.specs.declared.met.FindFault.{FindFault}
-use Rattle.compose_find.specs.declared.met.FindFault.TheVariants.{Wanted, MissingRoot, MissingFile, Include, NoMemory}
+use Rattle.compose_find.specs.Found.{TriedFile, FoundSource, Stop, wanted, missing_root, missing_file, refused, with_includes_of, found_on}
+use Rattle.compose_find.specs.FindGives.{FindGives}
+use Rattle.compose_find.specs.declared.found_source.FindFault.{FindFault}
+use Rattle.compose_find.specs.declared.found_source.FindFault.TheVariants.{Wanted, MissingRoot, MissingFile, Include, NoMemory}
 
 -- no source is left
-pub search_ends : (files : List Looked) (words : Words) (left place : ℕ) (met : List Met) → length met ≤ place → found_on files words left place met ≡ Ok met
+pub search_ends : (files : List TriedFile) (words : Words) (left index : ℕ) (sources : List FoundSource) → length sources ≤ index → found_on files words left index sources ≡ Ok sources
 unfolding found_on
-search_ends files words zero place met past = refl
-search_ends files words (suc left) place met past = rw (slice_get_past met place past) refl
+search_ends files words zero index sources past = refl
+search_ends files words (suc left) index sources past = rw (slice_get_past sources index past) refl
 
 -- one more source
-pub search_goes : (files : List Looked) (words : Words) (left place : ℕ) (met : List Met) (from : Met) (more : List Met) → slice_get met place ≡ Some from → meet_source files words from met ≡ Ok more
-    → found_on files words (suc left) place met ≡ found_on files words left (1 + place) more
+pub search_goes : (files : List TriedFile) (words : Words) (left index : ℕ) (sources : List FoundSource) (from : FoundSource) (more : List FoundSource) → slice_get sources index ≡ Some from → with_includes_of files words from sources ≡ Ok more
+    → found_on files words (suc left) index sources ≡ found_on files words left (1 + index) more
 unfolding found_on
-search_goes files words left place met from more at is = rw (at, is) refl
+search_goes files words left index sources from more at is = rw (at, is) refl
 
-pub search_stops : (files : List Looked) (words : Words) (left place : ℕ) (met : List Met) (from : Met) (stop : Stop) → slice_get met place ≡ Some from → meet_source files words from met ≡ Err stop
-    → found_on files words (suc left) place met ≡ Err stop
+pub search_stops : (files : List TriedFile) (words : Words) (left index : ℕ) (sources : List FoundSource) (from : FoundSource) (stop : Stop) → slice_get sources index ≡ Some from → with_includes_of files words from sources ≡ Err stop
+    → found_on files words (suc left) index sources ≡ Err stop
 unfolding found_on
-search_stops files words left place met from stop at is = rw (at, is) refl
+search_stops files words left index sources from stop at is = rw (at, is) refl
 
 -- a fault of a part is the fault of the whole, also where `?` gives it on
 moved : {X Y Z W : Type 0} (view : X → Z) (other : Y → W) (fault : FindFault) (said : Result Z Stop) (whole : Result W Stop) → ((stop : Stop) → said ≡ Err stop → whole ≡ Err stop) → FindGives view (Err fault) said → FindGives other (Err fault) whole

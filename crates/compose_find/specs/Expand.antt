@@ -38,9 +38,9 @@ path_from words false (b ∷ rest) = if b == 37 then path_from words true rest e
   more ← path_from words false rest
   Ok (b ∷ more))
 path_from words true (b ∷ rest) = do
-  front ← meaning words b
+  prefix ← meaning words b
   more ← path_from words false rest
-  Ok (front ++ more)
+  Ok (prefix ++ more)
 
 abbrev pub path_of : Words → List ℕ → Result (List ℕ) IncludeFault
 path_of words text = path_from words false text
@@ -49,8 +49,8 @@ path_of words text = path_from words false text
 abbrev pub meaning_at : Words → List ℕ → Result (List ℕ × List ℕ) IncludeFault
 meaning_at words [] = Err UnknownPercent
 meaning_at words (b ∷ rest) = do
-  front ← meaning words b
-  Ok (front, rest)
+  prefix ← meaning words b
+  Ok (prefix, rest)
 
 -- ---- the include's string
 

@@ -11,12 +11,12 @@ use Rattle.compose_find.specs.declared.fault.IncludeFault.{IncludeFault}
 use Rattle.compose_find.specs.declared.fault.IncludeFault.TheVariants.{TwoFiles, TooManySources, IncludeDepth}
 
 -- a path that was looked for: the includes of the file, or none where it isn't there
-pub record Looked : Type 0 where
+pub record TriedFile : Type 0 where
   pub path : List ℕ
   pub includes : Option (List Include)
 
 -- a source: the raw text that names it, its path, and how many includes lead to it at least
-pub record Met : Type 0 where
+pub record FoundSource : Type 0 where
   pub name : List ℕ
   pub path : List ℕ
   pub depth : ℕ
@@ -31,12 +31,12 @@ pub data Stop : Type 0 where
 
 -- ---- files
 
-abbrev pub looked_or : List ℕ → Option Looked → Result (Option (List Include)) Stop
+abbrev pub looked_or : List ℕ → Option TriedFile → Result (Option (List Include)) Stop
 looked_or path None = Err (wanted path)
 looked_or path (Some file) = Ok file.includes
 
 -- what was found at a path, which is wanted where it was not looked for
-abbrev pub looked_at : List Looked → List ℕ → Result (Option (List Include)) Stop
+abbrev pub looked_at : List TriedFile → List ℕ → Result (Option (List Include)) Stop
 looked_at files path = looked_or path (find (λ f. bytes_eq path f.path) files)
 
 abbrev pub there_or_missing : List ℕ → Option (List Include) → Result (List Include) Stop
@@ -44,22 +44,22 @@ there_or_missing path None = Err (missing_root path)
 there_or_missing path (Some includes) = Ok includes
 
 -- the includes of the file at a path
-abbrev pub includes_at : List Looked → List ℕ → Result (List Include) Stop
+abbrev pub includes_at : List TriedFile → List ℕ → Result (List Include) Stop
 includes_at files path = do
   found ← looked_at files path
   there_or_missing path found
 
 -- ---- an include, which stands in the file `from`
 
-abbrev pub refusal : Met → Include → IncludeFault → Stop
+abbrev pub refusal : FoundSource → Include → IncludeFault → Stop
 refusal from include fault = refused from.path include.line fault
 
-abbrev pub at_include : {A : Type 0} → Met → Include → Result A IncludeFault → Result A Stop
+abbrev pub at_include : {A : Type 0} → FoundSource → Include → Result A IncludeFault → Result A Stop
 at_include from include (Ok x) = Ok x
 at_include from include (Err fault) = Err (refusal from include fault)
 
 -- the path as the program opens it, else beside the including file
-abbrev pub located : List Looked → Met → Include → List ℕ → Result (List ℕ) Stop
+abbrev pub located : List TriedFile → FoundSource → Include → List ℕ → Result (List ℕ) Stop
 located files from include path = do
   here ← looked_at files path
   if is_some here then Ok path else (do
@@ -67,7 +67,7 @@ located files from include path = do
     if is_some there then Ok (beside from.path path) else Err (missing_file from.path include.line path))
 
 -- the path of the file to which an include leads
-abbrev pub leads_to : List Looked → Words → Met → Include → Result (List ℕ) Stop
+abbrev pub leads_to : List TriedFile → Words → FoundSource → Include → Result (List ℕ) Stop
 leads_to files words from include =
     if nat_le max_depth from.depth then Err (refusal from include IncludeDepth) else (do
       path ← at_include from include (include_path words include.raw)
@@ -76,37 +76,37 @@ leads_to files words from include =
 -- ---- the sources
 
 -- the sources with the one that an include names, which may be among them already, by the same path
-abbrev pub with_source : Met → Include → List ℕ → Option Met → List Met → Result (List Met) Stop
-with_source from include path (Some known) met = if bytes_eq known.path path then Ok met else Err (refusal from include TwoFiles)
-with_source from include path None met =
-    if nat_le max_sources (length met) then Err (refusal from include TooManySources) else
-    Ok (met ++ record { name = include.raw; path = path; depth = 1 + from.depth } ∷ [])
+abbrev pub with_source : FoundSource → Include → List ℕ → Option FoundSource → List FoundSource → Result (List FoundSource) Stop
+with_source from include path (Some known) sources = if bytes_eq known.path path then Ok sources else Err (refusal from include TwoFiles)
+with_source from include path None sources =
+    if nat_le max_sources (length sources) then Err (refusal from include TooManySources) else
+    Ok (sources ++ record { name = include.raw; path = path; depth = 1 + from.depth } ∷ [])
 
-abbrev pub meet : List Looked → Words → Met → Include → List Met → Result (List Met) Stop
-meet files words from include met = do
+abbrev pub with_include : List TriedFile → Words → FoundSource → Include → List FoundSource → Result (List FoundSource) Stop
+with_include files words from include sources = do
   path ← leads_to files words from include
-  with_source from include path (find (λ m. bytes_eq include.raw m.name) met) met
+  with_source from include path (find (λ m. bytes_eq include.raw m.name) sources) sources
 
 -- the sources with those that the file `from` includes
-abbrev pub meet_all : List Looked → Words → Met → List Include → List Met → Result (List Met) Stop
-meet_all files words from [] met = Ok met
-meet_all files words from (include ∷ includes) met = do
-  more ← meet files words from include met
-  meet_all files words from includes more
+abbrev pub with_includes : List TriedFile → Words → FoundSource → List Include → List FoundSource → Result (List FoundSource) Stop
+with_includes files words from [] sources = Ok sources
+with_includes files words from (include ∷ includes) sources = do
+  more ← with_include files words from include sources
+  with_includes files words from includes more
 
 -- the sources with those that one of them includes
-abbrev pub meet_source : List Looked → Words → Met → List Met → Result (List Met) Stop
-meet_source files words from met = do
+abbrev pub with_includes_of : List TriedFile → Words → FoundSource → List FoundSource → Result (List FoundSource) Stop
+with_includes_of files words from sources = do
   includes ← includes_at files from.path
-  meet_all files words from includes met
+  with_includes files words from includes sources
 
--- the sources with those that the sources from this place on include, one source after another, for so many more sources
-unfoldable pub found_on : List Looked → Words → ℕ → ℕ → List Met → Result (List Met) Stop
-found_on files words zero place met = Ok met
-found_on files words (suc left) place met = option_map_or (λ from. do
-  more ← meet_source files words from met
-  found_on files words left (1 + place) more) (slice_get met place) (Ok met)
+-- the sources with those that the sources from this index on include, one source after another, for so many more sources
+unfoldable pub found_on : List TriedFile → Words → ℕ → ℕ → List FoundSource → Result (List FoundSource) Stop
+found_on files words zero index sources = Ok sources
+found_on files words (suc left) index sources = option_map_or (λ from. do
+  more ← with_includes_of files words from sources
+  found_on files words left (1 + index) more) (slice_get sources index) (Ok sources)
 
 -- every source, the root first, which its path names; a source comes where it is met first
-abbrev pub found : List Looked → Words → List ℕ → Result (List Met) Stop
+abbrev pub found : List TriedFile → Words → List ℕ → Result (List FoundSource) Stop
 found files words root = found_on files words max_sources 0 (record { name = root; path = root; depth = 0 } ∷ [])

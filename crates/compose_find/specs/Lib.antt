@@ -2,5 +2,5 @@ pub mod Expand
 pub mod Includes
 pub mod Locales
 pub mod Found
-pub mod Given
+pub mod FindGives
 pub mod Sources

@@ -3,7 +3,7 @@ use Rattle.std.specs.Prelude.{ℕ, Bool, not, ◌&&◌, ◌||◌, ◌==◌, if�
 use Rattle.std.specs.List.{filter_map, find}
 use Rattle.std.specs.Option.{option_map, option_map_or}
 use Rattle.std.specs.Str.{is_utf8}
-use Rattle.compose_text.specs.Bytes.{is_blank, begins, front, behind}
+use Rattle.compose_text.specs.Bytes.{is_blank, begins, leading, behind}
 use Rattle.compose_text.specs.Lines.{lines_of}
 use Rattle.compose_find.specs.Expand.{in_folder}
 
@@ -23,11 +23,11 @@ past_colon [] = []
 past_colon (b ∷ bytes) = if b == 58 then bytes else b ∷ bytes
 
 abbrev pub left_word : List ℕ → List ℕ
-left_word line = front is_left_byte (skip_blanks line)
+left_word line = leading is_left_byte (skip_blanks line)
 
 -- behind the left word come perhaps a colon, and perhaps blanks
 abbrev pub right_word : List ℕ → List ℕ
-right_word line = front is_word_byte (skip_blanks (past_colon (behind is_left_byte (skip_blanks line))))
+right_word line = leading is_word_byte (skip_blanks (past_colon (behind is_left_byte (skip_blanks line))))
 
 -- the two words of a line, `LEFT: RIGHT` or `LEFT RIGHT`; what follows them counts for nothing. A comment (code 35) has none
 abbrev pub pair_of : List ℕ → Option (List ℕ × List ℕ)

@@ -4,26 +4,26 @@ ghost use Rattle.std.specs.List.{find};
 ghost use Rattle.std.specs.Option.{option_map};
 ghost use Rattle.compose_find.specs.Includes.{includes_of};
 ghost use Rattle.compose_find.specs.Found as found;
-ghost use Rattle.compose_find.specs.Given.{FindGives};
+ghost use Rattle.compose_find.specs.FindGives.{FindGives};
 
+use crate::found_source::{FindFault, missing_root, wanted};
 use crate::includes::{Include, includes_of};
-use crate::met::{FindFault, missing_root, wanted};
 use std::alloc::{AllocError, Global};
 use std::marker::Model;
 
 /// A file that was looked for: its includes, if it is there.
 #[derive(Drop)]
-pub(crate) struct Looked {
+pub(crate) struct TriedFile {
     pub(crate) path: String,
     pub(crate) includes: Option<Vec<Include>>,
 }
 
-impl Model for Looked {
+impl Model for TriedFile {
     ghost use Rattle.std.specs.Prelude.{string_bytes};
     ghost use Rattle.std.specs.Option.{option_map};
     ghost use Rattle.compose_find.specs.Found as found;
 
-    ghost Value = { found.Looked };
+    ghost Value = { found.TriedFile };
 
     ghost view = { λ f. record { path = string_bytes f.path; includes = option_map (λ i. i.items) f.includes } };
 }
@@ -31,14 +31,14 @@ impl Model for Looked {
 /// The files that were looked for, and what each includes.
 #[derive(Drop)]
 pub struct Files {
-    files: Vec<Looked>,
+    files: Vec<TriedFile>,
 }
 
 impl Model for Files {
     ghost use Rattle.std.specs.Prelude.{List};
     ghost use Rattle.compose_find.specs.Found as found;
 
-    ghost Value = { List found.Looked };
+    ghost Value = { List found.TriedFile };
 
     ghost view = { λ f. f.files.items };
 }
@@ -69,7 +69,7 @@ impl Files {
             Some(source) => Some(includes_of(alloc, source)?),
             None => None,
         };
-        self.files.push(Looked { path, includes })?;
+        self.files.push(TriedFile { path, includes })?;
         Ok(())
     }
 
@@ -98,7 +98,7 @@ impl Files {
     }
 
     /// The file that was looked for at this path.
-    fn looked(&self, path: &str) -> Option<&Looked>
+    fn looked(&self, path: &str) -> Option<&TriedFile>
         ensures { option_copied result ≡ find (λ f. bytes_eq path.now f.path) self.now }
     {
         self.files.iter().find(|file| has_path(file, path))
@@ -106,7 +106,7 @@ impl Files {
 }
 
 /// Whether this is the file's path.
-fn has_path(file: &Looked, path: &str) -> bool
+fn has_path(file: &TriedFile, path: &str) -> bool
     ensures { result ≡ bytes_eq path.now file.now.path }
 {
     path == file.path.as_str()

@@ -49,7 +49,7 @@ pub fn includes_of(alloc: Global, source: &[u8]) -> Result<Vec<Include>, AllocEr
     Ok(found)
 }
 
-/// The bytes without a UTF-8 byte order mark at their front.
+/// The bytes without a UTF-8 byte order mark at their beginning.
 fn without_mark(bytes: &[u8]) -> &[u8]
     ensures { result.now ≡ without_mark bytes.now }
 {

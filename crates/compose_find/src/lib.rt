@@ -12,20 +12,20 @@
 
 mod fault;
 mod files;
+mod found_source;
 mod includes;
 mod law;
 mod locales;
-mod met;
 mod paths;
 mod percent;
 mod search;
 
 pub use fault::IncludeFault;
 pub use files::Files;
+pub use found_source::{FindFault, FoundSource};
 pub use includes::{Include, includes_of};
 pub use law::law_found;
 pub use locales::locale_file;
-pub use met::{FindFault, Met};
 pub use paths::beside;
 pub use percent::{Meanings, expand};
 pub use search::find_sources;

@@ -1,7 +1,7 @@
 //! The files `compose.dir` and `locale.alias`, whose lines put a file or a locale beside another locale.
 ghost use Rattle.std.specs.Prelude.{◌≡◌, Some, None, option_copied, string_bytes, MatchOption, IfOk};
 ghost use Rattle.std.specs.Option.{option_map};
-ghost use Rattle.compose_text.specs.Bytes.{front, behind};
+ghost use Rattle.compose_text.specs.Bytes.{leading, behind};
 ghost use Rattle.compose_find.specs.Locales as locales;
 
 use crate::paths::in_folder;
@@ -123,15 +123,15 @@ fn locale_alias<'a>(locale_alias: &'a [u8], alias: &[u8]) -> Option<&'a [u8]>
 fn pair_of(line: &[u8]) -> Option<(&[u8], &[u8])>
     ensures { MatchOption result (locales.pair_of line.now ≡ None) (λ pair. locales.pair_of line.now ≡ Some (pair.0.now, pair.1.now)) }
 {
-    let (left, behind) = split_front::<LeftByte>(skip_blanks(line));
-    let (right, _) = split_front::<WordByte>(skip_blanks(past_colon(behind)));
+    let (left, behind) = split_prefix::<LeftByte>(skip_blanks(line));
+    let (right, _) = split_prefix::<WordByte>(skip_blanks(past_colon(behind)));
     if left.is_empty() || right.is_empty() || left[0] == b'#' {
         return None;
     }
     Some((left, right))
 }
 
-/// What follows the blanks at the front.
+/// What follows the blanks at the beginning.
 fn skip_blanks(bytes: &[u8]) -> &[u8]
     ensures { result.now ≡ locales.skip_blanks bytes.now }
 {
@@ -139,15 +139,15 @@ fn skip_blanks(bytes: &[u8]) -> &[u8]
 }
 
 /// The bytes of the class that come first, and what follows them.
-fn split_front<C: ByteClass>(bytes: &[u8]) -> (&[u8], &[u8])
-    ensures front { result.0.now ≡ front C.has bytes.now }
+fn split_prefix<C: ByteClass>(bytes: &[u8]) -> (&[u8], &[u8])
+    ensures leading { result.0.now ≡ leading C.has bytes.now }
     ensures rest { result.1.now ≡ behind C.has bytes.now }
 {
     let len = leading_len::<C>(bytes);
     (&bytes[..len], &bytes[len..])
 }
 
-/// What follows the colon at the front, if one stands there.
+/// What follows the colon at the beginning, if one stands there.
 fn past_colon(bytes: &[u8]) -> &[u8]
     ensures { result.now ≡ locales.past_colon bytes.now }
 {

@@ -1,7 +1,7 @@
 //! The paths to which an include may lead.
 ghost use Rattle.std.specs.Prelude.{◌≡◌, IfOk, string_bytes};
 ghost use Rattle.compose_find.specs.Expand as paths;
-ghost use Rattle.compose_find.specs.Given.{words, Gives};
+ghost use Rattle.compose_find.specs.FindGives.{words, Gives};
 
 use crate::IncludeFault;
 use crate::percent::{Meanings, expand};

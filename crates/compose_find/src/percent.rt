@@ -1,9 +1,9 @@
 //! The path that the text of an include stands for.
 ghost use Rattle.std.specs.Prelude.{◌≡◌, ◌<◌, length, string_bytes, option_copied};
 ghost use Rattle.std.specs.List.{prefix_len};
-ghost use Rattle.compose_text.specs.Bytes.{front, behind};
+ghost use Rattle.compose_text.specs.Bytes.{leading, behind};
 ghost use Rattle.compose_find.specs.Expand.{is_plain, meaning_at, path_of};
-ghost use Rattle.compose_find.specs.Given.{words, Gives, IsPiece};
+ghost use Rattle.compose_find.specs.FindGives.{words, Gives, IsPiece};
 
 use crate::IncludeFault;
 use compose_text::{ByteClass, leading_len};
@@ -53,7 +53,7 @@ pub fn expand(alloc: Global, meanings: Meanings<'_>, text: &str) -> Result<Strin
     Ok(path)
 }
 
-/// What the front of the text stands for, up to its first percent sign or by the percent sign there; and what follows.
+/// What the beginning of the text stands for, up to its first percent sign or by the percent sign there; and what follows.
 fn piece_at<'a>(meanings: Meanings<'a>, text: &'a str) -> Result<(&'a str, &'a str), IncludeFault>
     requires { 0 < length text.now }
     ensures { IsPiece (words meanings.entry) text.now result }
@@ -66,7 +66,7 @@ fn piece_at<'a>(meanings: Meanings<'a>, text: &'a str) -> Result<(&'a str, &'a s
 
 /// What stands before the first percent sign, and what follows from there.
 fn split_plain(text: &str) -> (&str, &str)
-    ensures plain { result.0.now ≡ front is_plain text.now }
+    ensures plain { result.0.now ≡ leading is_plain text.now }
     ensures rest { result.1.now ≡ behind is_plain text.now }
 {
     let len = leading_len::<Plain>(text.as_bytes());

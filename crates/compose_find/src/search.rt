@@ -2,11 +2,11 @@
 ghost use Rattle.std.specs.Prelude.{◌≡◌, ◌≤◌, ◌<◌, length, string_bytes, bytes_eq, slice_get, OnOk, Ok, Some};
 ghost use Rattle.std.specs.List.{find};
 ghost use Rattle.compose_find.specs.Found as found;
-ghost use Rattle.compose_find.specs.Given.{words, FindGives};
+ghost use Rattle.compose_find.specs.FindGives.{words, FindGives};
 
 use crate::files::Files;
+use crate::found_source::{FindFault, FoundSource, known, missing_file, refused};
 use crate::includes::Include;
-use crate::met::{FindFault, Met, known, missing_file, refused};
 use crate::paths::{beside, include_path};
 use crate::{IncludeFault, Meanings};
 use compose_read::Sources;
@@ -24,107 +24,107 @@ pub fn find_sources(
     files: &Files,
     meanings: Meanings<'_>,
     root: &str,
-) -> Result<Vec<Met>, FindFault>
-    ensures { FindGives (λ met. met.items) result (found.found files.now (words meanings.entry) root.now) }
+) -> Result<Vec<FoundSource>, FindFault>
+    ensures { FindGives (λ sources. sources.items) result (found.found files.now (words meanings.entry) root.now) }
 {
-    let mut met = Vec::new(alloc);
-    met.push(root_source(alloc, root)?)?;
-    let mut place = 0;
-    while place < met.len() {
-        meet_source(alloc, files, meanings, place, &mut met)?;
-        place += 1;
+    let mut sources = Vec::new(alloc);
+    sources.push(root_source(alloc, root)?)?;
+    let mut index = 0;
+    while index < sources.len() {
+        add_includes_of(alloc, files, meanings, index, &mut sources)?;
+        index += 1;
     }
-    Ok(met)
+    Ok(sources)
 }
 
 /// The root, which its path names.
-fn root_source(alloc: Global, root: &str) -> Result<Met, FindFault>
+fn root_source(alloc: Global, root: &str) -> Result<FoundSource, FindFault>
     ensures { FindGives (λ m. m) result (Ok (record { name = root.now; path = root.now; depth = 0 })) }
 {
-    Ok(Met {
+    Ok(FoundSource {
         name: String::from_str(alloc, root)?,
         path: String::from_str(alloc, root)?,
         depth: 0,
     })
 }
 
-/// Adds the sources that the one at this place includes.
-fn meet_source(
+/// Adds the sources that the one at this index includes.
+fn add_includes_of(
     alloc: Global,
     files: &Files,
     meanings: Meanings<'_>,
-    place: usize,
-    met: &mut Vec<Met>,
+    index: usize,
+    sources: &mut Vec<FoundSource>,
 ) -> Result<(), FindFault>
-    requires within { place < length met.old.items }
-    requires few { length met.old.items ≤ 64 }
-    ensures meets { (from : found.Met) → slice_get met.old.items place ≡ Some from → FindGives (λ _. met.new.items) result (found.meet_source files.now (words meanings.entry) from met.old.items) }
-    ensures few { OnOk result (length met.new.items ≤ 64) }
+    requires within { index < length sources.old.items }
+    requires few { length sources.old.items ≤ 64 }
+    ensures adds { (from : found.FoundSource) → slice_get sources.old.items index ≡ Some from → FindGives (λ _. sources.new.items) result (found.with_includes_of files.now (words meanings.entry) from sources.old.items) }
+    ensures few { OnOk result (length sources.new.items ≤ 64) }
 {
-    let from = met[place].copy(alloc)?;
+    let from = sources[index].copy(alloc)?;
     let includes = files.includes_at(alloc, &from.path)?;
-    meet_all(alloc, files, meanings, &from, includes, met)
+    add_includes(alloc, files, meanings, &from, includes, sources)
 }
 
 /// Adds the sources to which these includes lead.
-fn meet_all(
+fn add_includes(
     alloc: Global,
     files: &Files,
     meanings: Meanings<'_>,
-    from: &Met,
+    from: &FoundSource,
     includes: &[Include],
-    met: &mut Vec<Met>,
+    sources: &mut Vec<FoundSource>,
 ) -> Result<(), FindFault>
-    requires { length met.old.items ≤ 64 }
-    ensures meets { FindGives (λ _. met.new.items) result (found.meet_all files.now (words meanings.entry) from.now includes.now met.old.items) }
-    ensures few { OnOk result (length met.new.items ≤ 64) }
+    requires { length sources.old.items ≤ 64 }
+    ensures adds { FindGives (λ _. sources.new.items) result (found.with_includes files.now (words meanings.entry) from.now includes.now sources.old.items) }
+    ensures few { OnOk result (length sources.new.items ≤ 64) }
 {
     for include in includes {
-        meet(alloc, files, meanings, from, include, met)?;
+        add_include(alloc, files, meanings, from, include, sources)?;
     }
     Ok(())
 }
 
 /// Adds the source to which an include leads, if it wasn't met.
-fn meet(
+fn add_include(
     alloc: Global,
     files: &Files,
     meanings: Meanings<'_>,
-    from: &Met,
+    from: &FoundSource,
     include: &Include,
-    met: &mut Vec<Met>,
+    sources: &mut Vec<FoundSource>,
 ) -> Result<(), FindFault>
-    requires { length met.old.items ≤ 64 }
-    ensures meets { FindGives (λ _. met.new.items) result (found.meet files.now (words meanings.entry) from.now include.now met.old.items) }
-    ensures few { OnOk result (length met.new.items ≤ 64) }
+    requires { length sources.old.items ≤ 64 }
+    ensures adds { FindGives (λ _. sources.new.items) result (found.with_include files.now (words meanings.entry) from.now include.now sources.old.items) }
+    ensures few { OnOk result (length sources.new.items ≤ 64) }
 {
     let path = lead(alloc, files, meanings, from, include)?;
-    add_source(alloc, from, include, path, met)
+    add_source(alloc, from, include, path, sources)
 }
 
 /// Adds the source at this path, if it wasn't met.
 fn add_source(
     alloc: Global,
-    from: &Met,
+    from: &FoundSource,
     include: &Include,
     path: String,
-    met: &mut Vec<Met>,
+    sources: &mut Vec<FoundSource>,
 ) -> Result<(), FindFault>
-    requires few { length met.old.items ≤ 64 }
+    requires few { length sources.old.items ≤ 64 }
     requires level { from.now.depth < 8 }
-    ensures meets { FindGives (λ _. met.new.items) result (found.with_source from.now include.now (string_bytes path) (find (λ m. bytes_eq include.now.raw m.name) met.old.items) met.old.items) }
-    ensures few { OnOk result (length met.new.items ≤ 64) }
+    ensures adds { FindGives (λ _. sources.new.items) result (found.with_source from.now include.now (string_bytes path) (find (λ m. bytes_eq include.now.raw m.name) sources.old.items) sources.old.items) }
+    ensures few { OnOk result (length sources.new.items ≤ 64) }
 {
-    if let Some(source) = known(met, &include.raw) {
+    if let Some(source) = known(sources, &include.raw) {
         if source.path.as_str() == path.as_str() {
             return Ok(());
         }
         return Err(refused(alloc, from, include, IncludeFault::TwoFiles));
     }
-    if met.len() >= Sources::MOST {
+    if sources.len() >= Sources::MOST {
         return Err(refused(alloc, from, include, IncludeFault::TooManySources));
     }
-    met.push(Met {
+    sources.push(FoundSource {
         name: String::from_str(alloc, &include.raw)?,
         path,
         depth: from.depth + 1,
@@ -137,7 +137,7 @@ fn lead(
     alloc: Global,
     files: &Files,
     meanings: Meanings<'_>,
-    from: &Met,
+    from: &FoundSource,
     include: &Include,
 ) -> Result<String, FindFault>
     ensures leads { FindGives string_bytes result (found.leads_to files.now (words meanings.entry) from.now include.now) }
@@ -157,7 +157,7 @@ fn lead(
 fn located(
     alloc: Global,
     files: &Files,
-    from: &Met,
+    from: &FoundSource,
     include: &Include,
     path: String,
 ) -> Result<String, FindFault>

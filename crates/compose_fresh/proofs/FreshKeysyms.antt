@@ -14,13 +14,13 @@ use Rattle.compose_fresh.specs.Conditions.{first_unmet, condition}
 use Rattle.compose_fresh.specs.Fresh.{fresh_conditions, one_fresh_conditions}
 use Rattle.compose_fresh.proofs.Unmet.{all_met, first_unmet-met, first_unmet-fault, met_from_none, none_from_met, all_met-flat_map, each_of, both_of}
 
--- ---- key by key; the first keysym that is used stands at the place `used`
+-- ---- key by key; the first keysym that is used stands at the index `used`
 
 module _ (old : List Definition) (fresh : List ℕ) (used i k : ℕ) (first : used ≡ position_or_len (has_key (keysyms old)) fresh) (in_range : i < length fresh) (at : k ≡ get_or fresh i k) where
   left : first_unmet (flat_map (one_fresh_conditions old) (drop i fresh)) ≡ first_unmet (flat_map (one_fresh_conditions old) (k ∷ drop (i + 1) fresh))
   left = ap (λ xs. first_unmet (flat_map (one_fresh_conditions old) xs)) (drop_more fresh i k in_range ∙ ap (λ x. x ∷ drop (i + 1) fresh) (sym at))
 
-  -- before that place only the conditions on the later keysyms are left
+  -- before that index only the conditions on the later keysyms are left
   pub stale_later : is_ignored k ≡ false → i < used → first_unmet (flat_map (one_fresh_conditions old) (drop (i + 1) fresh)) ≡ first_unmet (flat_map (one_fresh_conditions old) (drop i fresh))
   stale_later fed before =
       let unused : has_key (keysyms old) k ≡ false = ap (has_key (keysyms old)) at ∙ fails_before_first (has_key (keysyms old)) fresh i k (omega arith) in
@@ -31,8 +31,8 @@ module _ (old : List Definition) (fresh : List ℕ) (used i k : ℕ) (first : us
   -- at it the keysym is used
   pub stale_used : is_ignored k ≡ false → i ≡ used → Some (FreshUsed k) ≡ first_unmet (flat_map (one_fresh_conditions old) (drop i fresh))
   stale_used fed here =
-      let place : i ≡ position_or_len (has_key (keysyms old)) fresh = here ∙ first in
-      let is_used : has_key (keysyms old) k ≡ true = ap (has_key (keysyms old)) (at ∙ ap (λ n. get_or fresh n k) place) ∙ passes_at_first (has_key (keysyms old)) fresh k (omega arith) in
+      let index : i ≡ position_or_len (has_key (keysyms old)) fresh = here ∙ first in
+      let is_used : has_key (keysyms old) k ≡ true = ap (has_key (keysyms old)) (at ∙ ap (λ n. get_or fresh n k) index) ∙ passes_at_first (has_key (keysyms old)) fresh k (omega arith) in
       sym (left
       ∙ first_unmet-met (not (is_ignored k)) (FreshIgnored k) (condition (not (has_key (keysyms old) k)) (FreshUsed k) ∷ flat_map (one_fresh_conditions old) (drop (i + 1) fresh)) (not_from_false (is_ignored k) fed)
       ∙ first_unmet-fault (not (has_key (keysyms old) k)) (FreshUsed k) (flat_map (one_fresh_conditions old) (drop (i + 1) fresh)) (not_from_true (has_key (keysyms old) k) is_used))

@@ -1,4 +1,4 @@
-pub mod Places
+pub mod Positions
 pub mod Used
 pub mod Unmet
 pub mod FreshKeysyms

@@ -74,9 +74,9 @@ both_of p q (x ∷ xs) g h =
     let b = and_parts (q x) (list_all q xs) h in
     and_from (p x && (q x && true)) (list_all (λ x. p x && (q x && true)) xs) (and_from (p x) (q x && true) a.0 (and_from (q x) true b.0 refl)) (both_of p q xs a.1 b.1)
 
--- ---- of the elements of a list from a place on
+-- ---- of the elements of a list from an index on
 
--- the element at the place, and then what is left after it
+-- the element at the index, and then what is left after it
 pub drop_at : {X : Type 0} (xs : List X) (i : ℕ) (x : X) → slice_get xs i ≡ Some x → drop i xs ≡ x ∷ drop (i + 1) xs
 drop_at xs i x e = drop_more xs i x (slice_get_within xs i x e) ∙ ap (λ y. y ∷ drop (i + 1) xs) (get_or_from_slice_get xs i x x e)
 

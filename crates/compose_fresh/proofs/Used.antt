@@ -17,16 +17,16 @@ same_test false false f g = refl
 -- what begins s up to k
 pub record Before (k : ℕ) (s : List ℕ) : Type 0 where
   pub prefix : List ℕ
-  pub begins : is_proper_prefix prefix s ≡ true
+  pub is_prefix : is_proper_prefix prefix s ≡ true
   pub goes_on : is_proper_prefix (prefix ++ k ∷ []) s || same (prefix ++ k ∷ []) s ≡ true
 
 before_key : (k : ℕ) (s : List ℕ) → list_any (λ j. k == j) s ≡ true → Before k s
 before_key k [] h = cc
 before_key k (x ∷ s) h = elim (or_cases (k == x) (list_any (λ j. k == j) s) h) [
-  | inl e ↦ record { prefix = []; begins = refl; goes_on = here s e }
+  | inl e ↦ record { prefix = []; is_prefix = refl; goes_on = here s e }
   | inr e ↦ (let b = before_key k s e in record {
     prefix = x ∷ b.prefix;
-    begins = and_from (x == x) (is_proper_prefix b.prefix s) (eq-eqb x x refl) b.begins;
+    is_prefix = and_from (x == x) (is_proper_prefix b.prefix s) (eq-eqb x x refl) b.is_prefix;
     goes_on = behind b.prefix b.goes_on;
   })
 ]
@@ -52,7 +52,7 @@ edge_of [] k h = cc
 edge_of (d ∷ table) k h = elim (or_cases (list_any (λ j. k == j) d.sequence) (list_any (λ d. list_any (λ j. k == j) d.sequence) table) h) [
   | inl e ↦ (let b = before_key k d.sequence e in record {
     node = b.prefix;
-    extended = or_left (is_proper_prefix b.prefix d.sequence) (is_extended table b.prefix) b.begins;
+    extended = or_left (is_proper_prefix b.prefix d.sequence) (is_extended table b.prefix) b.is_prefix;
     goes_on = either (b.prefix ++ k ∷ []) (or_left (is_proper_prefix (b.prefix ++ k ∷ []) d.sequence || same (b.prefix ++ k ∷ []) d.sequence) (is_extended table (b.prefix ++ k ∷ []) || is_sequence table (b.prefix ++ k ∷ [])) b.goes_on);
   })
   | inr e ↦ (let r = edge_of table k e in record {

@@ -92,18 +92,18 @@ fn first_used_at<T: ComposeTable>(old: &T, node: NodeId, fresh: &[Keysym]) -> us
     let mut least = fresh.len();
     for index in 0..old.edge_count(node) {
         let (keysym, _) = old.edge(node, index);
-        least = least.min(place_of(fresh, keysym));
+        least = least.min(index_of(fresh, keysym));
     }
     least
 }
 
 /// The index of the keysym among these, which rise; their number where it is none of them. O(log n).
-fn place_of(keysyms: &[Keysym], keysym: Keysym) -> usize
+fn index_of(keysyms: &[Keysym], keysym: Keysym) -> usize
     requires { IsTrue (keys_rise keysyms.now) }
     ensures { result ≡ position_or_len (λ k. k == keysym) keysyms.now }
 {
     match keysyms.binary_search(&keysym) {
-        Ok(place) => place,
+        Ok(index) => index,
         Err(_) => keysyms.len(),
     }
 }

@@ -1,18 +1,18 @@
--- The digits of a code, read from the front on.
+-- The digits of a code, read from the beginning on.
 use Rattle.std.proofs.Common.{◌≡◌, ℕ, ◌+◌, ◌*◌, ◌^◌, ◌<◌, ◌≤◌, List, ◌∷◌, ◌++◌, length, take, drop, get_or, nat_lt, refl, sym, ◌∙◌, ap, arith, true, lt-ltb}
 use Rattle.std.specs.Char.{digit_value}
 use Rattle.std.specs.Str.Parse.{digits_value, AllDigits}
 use Rattle.std.proofs.Math.Nat.{pow-le-pow_left, pow-le-pow_right}
 use Rattle.std.proofs.lemmas.List.{append_assoc, take_more, drop_more, length-take}
 use Rattle.std.proofs.lemmas.Int.Digits.{digits_value-lt, digits_value_more, digits_more}
-use Rattle.compose_text.specs.Bytes.{front}
+use Rattle.compose_text.specs.Bytes.{leading}
 
 -- the first bytes are digits and write the value
 pub record Code (radix value : ℕ) (bytes : List ℕ) (len : ℕ) : Type 0 where
   pub few : length bytes ≤ 3
   pub written : value ≡ digits_value radix (take len bytes)
   pub digits : AllDigits radix (take len bytes)
-  pub kept : front (λ d. nat_lt (digit_value d) radix) bytes ≡ take len bytes ++ front (λ d. nat_lt (digit_value d) radix) (drop len bytes)
+  pub kept : leading (λ d. nat_lt (digit_value d) radix) bytes ≡ take len bytes ++ leading (λ d. nat_lt (digit_value d) radix) (drop len bytes)
 
 -- three digits write a number below 4,096
 short_code : (radix : ℕ) (digits : List ℕ) → radix ≤ 16 → length digits ≤ 3 → AllDigits radix digits → digits_value radix digits < 4096
@@ -36,6 +36,6 @@ code_more radix value digit bytes len low l small is s =
         few = s.few;
         written = same;
         digits = digits;
-        kept = s.kept ∙ ap (λ x. take len bytes ++ front (λ d. nat_lt (digit_value d) radix) x) here ∙ rw (passes, take_more bytes len 0 l, append_assoc) refl;
+        kept = s.kept ∙ ap (λ x. take len bytes ++ leading (λ d. nat_lt (digit_value d) radix) x) here ∙ rw (passes, take_more bytes len 0 l, append_assoc) refl;
       },
     )

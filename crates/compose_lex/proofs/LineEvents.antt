@@ -6,7 +6,7 @@ use Rattle.std.proofs.lemmas.List.{length_push, append-nil}
 use Rattle.std.proofs.lemmas.Bool.{and_from}
 use Rattle.std.proofs.lemmas.List.Folds.{list_all-append}
 use Rattle.compose_text.specs.Results.{◌>>=◌}
-use Rattle.compose_text.specs.Bytes.{is_name_byte, front, behind, begins}
+use Rattle.compose_text.specs.Bytes.{is_name_byte, leading, behind, begins}
 use Rattle.compose_lex.specs.Line.{production, is_name, is_comment, event_tokens}
 use Rattle.compose_lex.specs.Fault.{skip_blanks, byte_at, name_at, closed_or, end_at, event_at, event_fault, colon_or, events_at}
 use Rattle.compose_lex.specs.LineFault.{AreFirst, IsLineFault}
@@ -25,7 +25,7 @@ bind_fails (Ok x) f y e first then = then x refl e
 bind_fails {A} (Err e) f y h first then = let q : e ≡ y = cc in first (ap (λ x. let r : Result A LexFault = Err x in r) q)
 
 pub name_fails : (n : ℕ) (bytes : List ℕ) (f : LexFault) → name_at n bytes ≡ Err f → (begins is_name_byte bytes ≡ false) × (BadToken (n - length bytes) ≡ f)
-name_fails n bytes f e = elim (chosen {A = Result (List ℕ × List ℕ) LexFault} (begins is_name_byte bytes) (Ok (front is_name_byte bytes, behind is_name_byte bytes)) (Err (BadToken (n - length bytes))) (Err f) e) [
+name_fails n bytes f e = elim (chosen {A = Result (List ℕ × List ℕ) LexFault} (begins is_name_byte bytes) (Ok (leading is_name_byte bytes, behind is_name_byte bytes)) (Err (BadToken (n - length bytes))) (Err f) e) [
   | inl x ↦ (let w = x.1 in cc)
   | inr x ↦ (x.0, (let w = x.1 in cc))
 ]
@@ -61,8 +61,8 @@ colon_fails n (b ∷ bytes) event f e = go (b == 58) refl (b == 60) refl e
 
 -- no byte of a name follows a name that is read
 pub name_whole : (n : ℕ) (bytes name rest : List ℕ) → name_at n bytes ≡ Ok (name, rest) → begins is_name_byte rest ≡ false
-name_whole n bytes name rest e = elim (chosen {A = Result (List ℕ × List ℕ) LexFault} (begins is_name_byte bytes) (Ok (front is_name_byte bytes, behind is_name_byte bytes)) (Err (BadToken (n - length bytes))) (Ok (name, rest)) e) [
-  | inl x ↦ ap (begins is_name_byte) (sym (ok_pair (front is_name_byte bytes) name (behind is_name_byte bytes) rest x.1).1) ∙ behind_stops is_name_byte bytes
+name_whole n bytes name rest e = elim (chosen {A = Result (List ℕ × List ℕ) LexFault} (begins is_name_byte bytes) (Ok (leading is_name_byte bytes, behind is_name_byte bytes)) (Err (BadToken (n - length bytes))) (Ok (name, rest)) e) [
+  | inl x ↦ ap (begins is_name_byte) (sym (ok_pair (leading is_name_byte bytes) name (behind is_name_byte bytes) rest x.1).1) ∙ behind_stops is_name_byte bytes
   | inr x ↦ (let w = x.1 in cc)
 ]
 

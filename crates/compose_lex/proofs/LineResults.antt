@@ -4,7 +4,7 @@ use Rattle.std.specs.Prelude.{◌==◌, Option, Some, None, is_some, Result, Ok,
 use Rattle.std.specs.List.{list_all}
 use Rattle.std.proofs.lemmas.List.{append-nil}
 use Rattle.compose_text.specs.Results.{◌>>=◌}
-use Rattle.compose_text.specs.Bytes.{is_blank, is_name_byte, front, behind, begins}
+use Rattle.compose_text.specs.Bytes.{is_blank, is_name_byte, leading, behind, begins}
 use Rattle.compose_lex.specs.Line.{production, is_name, is_inside, is_comment, quoted, event_tokens}
 use Rattle.compose_lex.specs.Fault.{skip_blanks, name_at, inside_from, string_at, end_at, name_if, result_at}
 use Rattle.compose_lex.specs.LineFault.{AreFirst, is_whole, IsLineFault}
@@ -114,9 +114,9 @@ behind_string : (line : List ℕ) (events : List (List ℕ)) (rest raw more : Li
 behind_string line events rest raw more s r is = go (begins is_name_byte (skip_blanks more)) refl
   where
     go : (x : Bool) → begins is_name_byte (skip_blanks more) ≡ x
-        → End line (let y : Option (List ℕ) × List ℕ = cond x (Some (front is_name_byte (skip_blanks more)), behind is_name_byte (skip_blanks more)) (None, skip_blanks more) in y).1
+        → End line (let y : Option (List ℕ) × List ℕ = cond x (Some (leading is_name_byte (skip_blanks more)), behind is_name_byte (skip_blanks more)) (None, skip_blanks more) in y).1
     go true e =
-        let name = front is_name_byte (skip_blanks more) in
+        let name = leading is_name_byte (skip_blanks more) in
         let after = behind is_name_byte (skip_blanks more) in
         let t = taken is_name_byte TooManyKeysyms (skip_blanks more) name after (rw e refl) in
         let named = name_is name t.1 t.2 in

@@ -6,13 +6,13 @@ use Rattle.std.specs.List.{list_all, starts_with}
 use Rattle.std.specs.Cmp.Lexicographic.{bytes_decides}
 use Rattle.std.proofs.lemmas.Bool.{and_parts, and_from}
 use Rattle.compose_text.specs.Results.{◌>>=◌}
-use Rattle.compose_text.specs.Bytes.{is_blank, is_name_byte, front, behind, begins}
+use Rattle.compose_text.specs.Bytes.{is_blank, is_name_byte, leading, behind, begins}
 use Rattle.compose_lex.specs.Line.{Reading, blank, include, production, is_name, is_inside, is_inside_from, is_comment, quoted, event_tokens, result_tokens, AreTokens, IsLine}
 use Rattle.compose_lex.specs.Fault.{skip_blanks, byte_at, name_at, inside_from, closed_or, string_at, end_at, event_at, event_fault, colon_or, events_at, name_if, result_at, production_at, include_at, is_include, reading_of, reading_at}
 use Rattle.compose_lex.specs.declared.LexFault.{LexFault}
 use Rattle.compose_lex.specs.declared.LexFault.TheVariants.{BadToken, TooManyKeysyms, NoResult}
 use Rattle.compose_lex.proofs.Productions.{right_from}
-use Rattle.compose_lex.proofs.Runs.{parts_of, front_passes}
+use Rattle.compose_lex.proofs.Runs.{parts_of, prefix_passes}
 
 -- ---- what an Ok came from
 
@@ -34,17 +34,17 @@ chosen true x y z e = inl (refl, e)
 chosen false x y z e = inr (refl, e)
 
 mapped : {P : Type 0} (b : ℕ) (o : Option (List ℕ × List ℕ)) (raw rest : List ℕ) → option_map (λ x. let y : List ℕ × List ℕ = (b ∷ x.0, x.1) in y) o ≡ Some (raw, rest)
-    → ((front more : List ℕ) → o ≡ Some (front, more) → b ∷ front ≡ raw → more ≡ rest → P) → P
+    → ((leading more : List ℕ) → o ≡ Some (leading, more) → b ∷ leading ≡ raw → more ≡ rest → P) → P
 mapped b None raw rest e k = cc
 mapped b (Some x) raw rest e k = let q = some_pair (b ∷ x.0) raw x.1 rest e in k x.0 x.1 refl q.0 q.1
 
 -- ---- tokens
 
 put_token : (t : List ℕ) (ts : List (List ℕ)) (bytes rest : List ℕ) → skip_blanks bytes ≡ t ++ rest → AreTokens ts rest → AreTokens (t ∷ ts) bytes
-put_token t ts bytes rest e u = (front is_blank bytes, rest, front_passes is_blank bytes, parts_of is_blank bytes ∙ ap (λ x. front is_blank bytes ++ x) e, u)
+put_token t ts bytes rest e u = (leading is_blank bytes, rest, prefix_passes is_blank bytes, parts_of is_blank bytes ∙ ap (λ x. leading is_blank bytes ++ x) e, u)
 
 put_end : (bytes comment : List ℕ) → skip_blanks bytes ≡ comment → is_comment comment ≡ true → AreTokens [] bytes
-put_end bytes comment e h = (front is_blank bytes, comment, front_passes is_blank bytes, h, parts_of is_blank bytes ∙ ap (λ x. front is_blank bytes ++ x) e)
+put_end bytes comment e h = (leading is_blank bytes, comment, prefix_passes is_blank bytes, h, parts_of is_blank bytes ∙ ap (λ x. leading is_blank bytes ++ x) e)
 
 pub comment_said : (n : ℕ) (bytes : List ℕ) (u : Unit {0}) → end_at n bytes ≡ Ok u → is_comment bytes ≡ true
 comment_said n [] u e = refl
@@ -60,17 +60,17 @@ byte_said n wanted (b ∷ bytes) rest e = elim (chosen (b == wanted) (Ok bytes) 
   | inr x ↦ (let w = x.1 in cc)
 ]
 
-front_some : (p : ℕ → Bool) (b : ℕ) (bytes : List ℕ) → p b ≡ true → 0 < length (front p (b ∷ bytes))
-front_some p b bytes h = rw h (omega arith)
+prefix_some : (p : ℕ → Bool) (b : ℕ) (bytes : List ℕ) → p b ≡ true → 0 < length (leading p (b ∷ bytes))
+prefix_some p b bytes h = rw h (omega arith)
 
-pub taken : (p : ℕ → Bool) (f : LexFault) (bytes name rest : List ℕ) → cond {A = Result (List ℕ × List ℕ) LexFault} (begins p bytes) (Ok (front p bytes, behind p bytes)) (Err f) ≡ Ok (name, rest)
+pub taken : (p : ℕ → Bool) (f : LexFault) (bytes name rest : List ℕ) → cond {A = Result (List ℕ × List ℕ) LexFault} (begins p bytes) (Ok (leading p bytes, behind p bytes)) (Err f) ≡ Ok (name, rest)
     → (bytes ≡ name ++ rest) × (0 < length name) × (list_all p name ≡ true)
 taken p f [] name rest e = cc
-taken p f (b ∷ bytes) name rest e = elim (chosen {A = Result (List ℕ × List ℕ) LexFault} (p b) (Ok (front p (b ∷ bytes), behind p (b ∷ bytes))) (Err f) (Ok (name, rest)) e) [
-  | inl x ↦ (let q = ok_pair (front p (b ∷ bytes)) name (behind p (b ∷ bytes)) rest x.1 in (
+taken p f (b ∷ bytes) name rest e = elim (chosen {A = Result (List ℕ × List ℕ) LexFault} (p b) (Ok (leading p (b ∷ bytes), behind p (b ∷ bytes))) (Err f) (Ok (name, rest)) e) [
+  | inl x ↦ (let q = ok_pair (leading p (b ∷ bytes)) name (behind p (b ∷ bytes)) rest x.1 in (
     parts_of p (b ∷ bytes) ∙ ap (λ t. t ++ behind p (b ∷ bytes)) q.0 ∙ ap (λ t. name ++ t) q.1,
-    subst (λ (t : List ℕ). 0 < length t) q.0 (front_some p b bytes x.0),
-    ap (list_all p) (sym q.0) ∙ front_passes p (b ∷ bytes),
+    subst (λ (t : List ℕ). 0 < length t) q.0 (prefix_some p b bytes x.0),
+    ap (list_all p) (sym q.0) ∙ prefix_passes p (b ∷ bytes),
   ))
   | inr x ↦ (let w = x.1 in cc)
 ]
@@ -191,15 +191,15 @@ behind_twice p (x ∷ xs) = go (p x) refl (behind_twice p xs)
 behind_string : (n : ℕ) (bytes raw more : List ℕ) (name : Option (List ℕ)) (rest : List ℕ) (u : Unit {0}) → skip_blanks bytes ≡ quoted raw ++ more → is_inside raw ≡ true
     → ◌≡◌ {A = Option (List ℕ) × List ℕ} (name_if (skip_blanks more)) (name, rest) → end_at n (skip_blanks rest) ≡ Ok u → Result_said bytes (Some raw) name
 behind_string n bytes raw more name rest u first h e ended =
-    elim (chosen {A = Option (List ℕ) × List ℕ} (begins is_name_byte (skip_blanks more)) (Some (front is_name_byte (skip_blanks more)), behind is_name_byte (skip_blanks more)) (None, skip_blanks more) (name, rest) e) [
+    elim (chosen {A = Option (List ℕ) × List ℕ} (begins is_name_byte (skip_blanks more)) (Some (leading is_name_byte (skip_blanks more)), behind is_name_byte (skip_blanks more)) (None, skip_blanks more) (name, rest) e) [
       | inl x ↦ (
-          let q = pair_is (Some (front is_name_byte (skip_blanks more))) name (behind is_name_byte (skip_blanks more)) rest x.1 in
-          let t = taken is_name_byte TooManyKeysyms (skip_blanks more) (front is_name_byte (skip_blanks more)) (behind is_name_byte (skip_blanks more)) (rw x.0 refl) in
+          let q = pair_is (Some (leading is_name_byte (skip_blanks more))) name (behind is_name_byte (skip_blanks more)) rest x.1 in
+          let t = taken is_name_byte TooManyKeysyms (skip_blanks more) (leading is_name_byte (skip_blanks more)) (behind is_name_byte (skip_blanks more)) (rw x.0 refl) in
           let end : AreTokens [] (behind is_name_byte (skip_blanks more)) = subst (AreTokens []) (sym q.1) (end_said n rest u ended) in
           subst (Result_said bytes (Some raw)) q.0 (record {
-            are = put_token (quoted raw) (front is_name_byte (skip_blanks more) ∷ []) bytes more first (put_token (front is_name_byte (skip_blanks more)) [] more (behind is_name_byte (skip_blanks more)) t.0 end);
+            are = put_token (quoted raw) (leading is_name_byte (skip_blanks more) ∷ []) bytes more first (put_token (leading is_name_byte (skip_blanks more)) [] more (behind is_name_byte (skip_blanks more)) t.0 end);
             closed = h;
-            named = name_is (front is_name_byte (skip_blanks more)) t.1 t.2;
+            named = name_is (leading is_name_byte (skip_blanks more)) t.1 t.2;
             some = refl;
           }))
       | inr x ↦ (

@@ -6,12 +6,12 @@ use Rattle.std.proofs.lemmas.Bool.{and_from, or_right}
 use Rattle.std.proofs.lemmas.Grind.{flat_map-append}
 use Rattle.std.proofs.lemmas.List.{length_push, length-append}
 use Rattle.std.proofs.lemmas.List.Folds.{list_all-append}
-use Rattle.compose_text.specs.Bytes.{is_blank, is_name_byte, front, begins}
+use Rattle.compose_text.specs.Bytes.{is_blank, is_name_byte, leading, begins}
 use Rattle.compose_lex.specs.Line.{blank, production, is_name, is_comment, quoted, event_tokens}
 use Rattle.compose_lex.specs.Fault.{skip_blanks, inside_from, event_fault}
 use Rattle.compose_lex.specs.LineFault.{AreFirst, is_whole, BeginsWith, GoesOn, StopsAt, is_modifier_first, IsLineFault}
 use Rattle.compose_lex.specs.declared.LexFault.TheVariants.{BadToken, ModifierList, UnclosedString}
-use Rattle.compose_lex.proofs.Runs.{parts_of, front_passes}
+use Rattle.compose_lex.proofs.Runs.{parts_of, prefix_passes}
 use Rattle.compose_lex.proofs.IncludeWord.{behind_stops}
 use Rattle.compose_lex.proofs.Productions.{RightProduction, right_from}
 use Rattle.compose_lex.proofs.Tokens.{right_tokens, IsToken, AllTokens, next_token, quoted_of}
@@ -26,7 +26,7 @@ pub record Reached (line : List ℕ) (done : List (List ℕ)) (rest : List ℕ) 
 
 begins_more : (ts : List (List ℕ)) (t bytes rest more : List ℕ) → BeginsWith ts bytes rest → rest ≡ t ++ more → is_whole t more ≡ true → BeginsWith (ts ++ t ∷ []) bytes (skip_blanks more)
 begins_more [] t bytes rest more b here w =
-    (b.0, more, b.1, w, b.3 ∙ ap (λ x. b.0 ++ x) here, (front is_blank more, front_passes is_blank more, ap not (behind_stops is_blank more), parts_of is_blank more))
+    (b.0, more, b.1, w, b.3 ∙ ap (λ x. b.0 ++ x) here, (leading is_blank more, prefix_passes is_blank more, ap not (behind_stops is_blank more), parts_of is_blank more))
 begins_more (u ∷ us) t bytes rest more b here w = (b.0, b.1, b.2, b.3, b.4, begins_more us t b.1 rest more b.5 here w)
 
 begins_fits : (ts : List (List ℕ)) (bytes rest : List ℕ) → BeginsWith ts bytes rest → length rest ≤ length bytes
@@ -45,7 +45,7 @@ reached_more line done rest s m t more r here w steps right = record {
 }
 
 pub at_start : (line : List ℕ) → Reached line [] (skip_blanks line) start
-at_start line = record { begun = (front is_blank line, front_passes is_blank line, ap not (behind_stops is_blank line), parts_of is_blank line); right = (blank, [], refl, refl); walked = refl }
+at_start line = record { begun = (leading is_blank line, prefix_passes is_blank line, ap not (behind_stops is_blank line), parts_of is_blank line); right = (blank, [], refl, refl); walked = refl }
 
 pub whole_before : (t rest : List ℕ) → begins is_name_byte rest ≡ false → is_whole t rest ≡ true
 whole_before t rest h = rw h (go (is_name t))

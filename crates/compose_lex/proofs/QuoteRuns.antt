@@ -1,4 +1,4 @@
--- A loop that quotes a text in stretches: what is pushed is the quoted front, and the bytes since then stand for themselves.
+-- A loop that quotes a text in stretches: what is pushed is the quoted prefix, and the bytes since then stand for themselves.
 use Rattle.std.proofs.Common.{◌≡◌, ℕ, ◌+◌, ◌-◌, ◌<◌, ◌≤◌, List, [], ◌∷◌, ◌++◌, length, take, drop, get_or, Bool, true, false, not, ◌||◌, nat_lt, refl, sym, ◌∙◌, ap, arith}
 use Rattle.std.specs.Prelude.{◌==◌}
 use Rattle.std.specs.Str.{IsUtf8, IsCharBoundary}

@@ -1,4 +1,4 @@
--- How many bytes of a class stand at the front: these bytes, what follows them, and that the text may be cut there.
+-- How many bytes of a class stand at the beginning: these bytes, what follows them, and that the text may be cut there.
 use Rattle.std.proofs.Common.{◌≡◌, ℕ, suc, ◌+◌, ◌-◌, ◌<◌, List, [], ◌∷◌, take, drop, get_or, Bool, true, false, cond, refl, sym, ◌∙◌, ap, subst, arith, inl, inr}
 use Rattle.std.specs.List.{prefix_len}
 use Rattle.std.specs.Str.{IsUtf8, IsCharBoundary}
@@ -6,13 +6,13 @@ use Rattle.std.proofs.lemmas.Str.{IsCharBoundary-start, IsCharBoundary-after_asc
 use Rattle.std.proofs.lemmas.List.Sums.{prefix_len-le-length, prefix_len_passes}
 use Rattle.std.proofs.lemmas.Bool.{cases_lt}
 use Rattle.std.proofs.lemmas.Bool.Decides.{nat_tests}
-use Rattle.compose_text.specs.Bytes.{is_blank, is_name_byte, front, behind}
+use Rattle.compose_text.specs.Bytes.{is_blank, is_name_byte, leading, behind}
 
-pub front_taken : (p : ℕ → Bool) (text : List ℕ) → front p text ≡ take (prefix_len p text) text
-front_taken p [] = refl
-front_taken p (b ∷ rest) = go (p b) (front_taken p rest)
+pub prefix_taken : (p : ℕ → Bool) (text : List ℕ) → leading p text ≡ take (prefix_len p text) text
+prefix_taken p [] = refl
+prefix_taken p (b ∷ rest) = go (p b) (prefix_taken p rest)
   where
-    go : (x : Bool) → front p rest ≡ take (prefix_len p rest) rest → cond x (b ∷ front p rest) [] ≡ take (cond x (1 + prefix_len p rest) 0) (b ∷ rest)
+    go : (x : Bool) → leading p rest ≡ take (prefix_len p rest) rest → cond x (b ∷ leading p rest) [] ≡ take (cond x (1 + prefix_len p rest) 0) (b ∷ rest)
     go true e = let one : 1 + prefix_len p rest ≡ suc (prefix_len p rest) = omega arith in ap (λ t. b ∷ t) e ∙ ap (λ n. take n (b ∷ rest)) (sym one)
     go false e = refl
 

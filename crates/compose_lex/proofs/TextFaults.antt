@@ -13,7 +13,7 @@ use Rattle.compose_lex.specs.TextFault.{BeginsNoPiece, StopsAt, is_code_first, I
 use Rattle.compose_lex.specs.declared.LexFault.{LexFault}
 use Rattle.compose_lex.specs.declared.LexFault.TheVariants.{BadToken, ModifierList, UnclosedString, UnknownEscape, BadCode, NoResult, TooManyKeysyms, EmptyText, TextTooLong, TextNotUtf8, NoMemory}
 use Rattle.compose_lex.proofs.Decodes.{skipped_to, piece_fits}
-use Rattle.compose_lex.proofs.TextRead.{take_front, drop_front, piece_takes, none_left, bytes_said, read_again}
+use Rattle.compose_lex.proofs.TextRead.{take_prefix, drop_prefix, piece_takes, none_left, bytes_said, read_again}
 
 -- ---- a backslash behind a piece changes nothing in it
 
@@ -40,7 +40,7 @@ first_piece (b ∷ rest) = piece_byte b rest
 
 first_is : (first rest : List ℕ) (byte : ℕ) → piece first rest ≡ Some byte → first_piece (first ++ rest) ≡ Some byte
 first_is [] rest byte h = cc
-first_is (c ∷ more) rest byte h = rw (piece_takes c more rest byte h, take_front more rest, drop_front more rest) h
+first_is (c ∷ more) rest byte h = rw (piece_takes c more rest byte h, take_prefix more rest, drop_prefix more rest) h
 
 no_piece : (bytes : List ℕ) → first_piece bytes ≡ None → BeginsNoPiece bytes
 no_piece bytes none first rest byte split h = let is : first_piece bytes ≡ Some byte = ap first_piece split ∙ first_is first rest byte h in cc
@@ -143,7 +143,7 @@ stop_read at before (b ∷ bytes) behind u none =
         let takes = piece_takes c more rest b h in
         let moved : 1 + at + length more + length u.1 ≡ at + (length (c ∷ more) + length u.1) = omega arith in
         let then : bytes_from (1 + at) (length more) (more ++ rest) ≡ Err (escape_fault (at + (length (c ∷ more) + length u.1)) behind) =
-        skipped_to (1 + at) (length more) (more ++ rest) ∙ ap (bytes_from (1 + at + length more) 0) (drop_front more rest) ∙ again (1 + at + length more)
+        skipped_to (1 + at) (length more) (more ++ rest) ∙ ap (bytes_from (1 + at + length more) 0) (drop_prefix more rest) ∙ again (1 + at + length more)
         ∙ ap (λ n. let r : Result (List ℕ) LexFault = Err (escape_fault n behind) in r) moved in
         ap (λ o. with_byte o (escape_fault at (more ++ rest)) (bytes_from (1 + at) (first_len (c ∷ more ++ rest)) (more ++ rest))) (first_is (c ∷ more) rest b h)
         ∙ ap (λ len. with_byte (Some b) (escape_fault at (more ++ rest)) (bytes_from (1 + at) len (more ++ rest))) takes

@@ -5,15 +5,15 @@ use Rattle.std.specs.Option.{option_map_or}
 use Rattle.std.specs.List.{list_all}
 use Rattle.std.proofs.lemmas.Bool.{and_parts, not-true}
 use Rattle.std.proofs.lemmas.List.{append_cancel_left}
-use Rattle.compose_text.specs.Bytes.{is_blank, is_name_byte, front, behind, begins}
+use Rattle.compose_text.specs.Bytes.{is_blank, is_name_byte, leading, behind, begins}
 use Rattle.compose_lex.specs.Line.{Reading, blank, include, production, is_name, is_inside, is_comment, quoted, event_tokens, result_tokens, tokens, is_reading, AreTokens}
 use Rattle.compose_lex.specs.LineFault.{is_whole, BeginsWith}
 use Rattle.compose_lex.specs.Fault.{skip_blanks, inside_from}
-use Rattle.compose_lex.proofs.Runs.{front_all, name_no_blank, name_differs, blank_no_name, comment_first, blanks_first, skip_to}
+use Rattle.compose_lex.proofs.Runs.{prefix_all, name_no_blank, name_differs, blank_no_name, comment_first, blanks_first, skip_to}
 use Rattle.compose_lex.proofs.Productions.{right_parts}
 use Rattle.compose_lex.proofs.LineRead.{inside_again, end_first}
 
--- ---- the token at the front
+-- ---- the token at the beginning
 
 abbrev pub quoted_of : Option (List ℕ × List ℕ) → List ℕ
 quoted_of None = []
@@ -21,13 +21,13 @@ quoted_of (Some x) = quoted x.0
 
 abbrev pub next_token : List ℕ → List ℕ
 next_token [] = []
-next_token (b ∷ rest) = cond (is_name_byte b) (front is_name_byte (b ∷ rest)) (cond (b == 34) (quoted_of (inside_from false rest)) (b ∷ []))
+next_token (b ∷ rest) = cond (is_name_byte b) (leading is_name_byte (b ∷ rest)) (cond (b == 34) (quoted_of (inside_from false rest)) (b ∷ []))
 
 -- neither a blank nor `#`
 abbrev pub is_token_first : ℕ → Bool
 is_token_first b = not (is_blank b) && not (b == 35)
 
--- where it stands whole, it is the token at the front
+-- where it stands whole, it is the token at the beginning
 pub record IsToken (t : List ℕ) : Type 0 where
   pub read : (rest : List ℕ) → is_whole t rest ≡ true → next_token (t ++ rest) ≡ t
   pub first : (rest : List ℕ) → begins is_token_first (t ++ rest) ≡ true
@@ -56,8 +56,8 @@ name_token (b ∷ name) h =
     record {
       read = λ rest w. (
           let ends : begins is_name_byte rest ≡ false = ends_there rest w in
-          ap (λ x. cond x (front is_name_byte (b ∷ name ++ rest)) (cond (b == 34) (quoted_of (inside_from false (name ++ rest))) (b ∷ []))) byte
-          ∙ front_all is_name_byte (b ∷ name) rest all ends);
+          ap (λ x. cond x (leading is_name_byte (b ∷ name ++ rest)) (cond (b == 34) (quoted_of (inside_from false (name ++ rest))) (b ∷ []))) byte
+          ∙ prefix_all is_name_byte (b ∷ name) rest all ends);
       first = λ rest. (let plain = name_no_blank b byte in let other = name_differs b 35 refl byte in rw (plain, other) refl);
     }
   where

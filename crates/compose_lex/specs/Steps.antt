@@ -12,9 +12,9 @@ abbrev pub is_plain : ℕ → Bool
 is_plain b = not (b == 34 || b == 92)
 
 -- events put before those that a reading gives
-abbrev pub with_front : List (List ℕ) → Result (List (List ℕ) × List ℕ) LexFault → Result (List (List ℕ) × List ℕ) LexFault
-with_front front (Ok x) = Ok (front ++ x.0, x.1)
-with_front front (Err e) = Err e
+abbrev pub with_prefix : List (List ℕ) → Result (List (List ℕ) × List ℕ) LexFault → Result (List (List ℕ) × List ℕ) LexFault
+with_prefix prefix (Ok x) = Ok (prefix ++ x.0, x.1)
+with_prefix prefix (Err e) = Err e
 
 -- how a reading goes on behind an event: it ends at the colon, or the next event is read
 abbrev pub follow : Next → (List ℕ → Result (List (List ℕ) × List ℕ) LexFault) → Result (List (List ℕ) × List ℕ) LexFault

@@ -2,7 +2,7 @@
 ghost use Rattle.std.specs.Prelude.{◌≡◌, ◌≤◌, ◌<◌, ◌+◌, ◌==◌, ◌||◌, ◌++◌, ◌∷◌, [], ℕ, List, nat_lt, length, take, drop, Some, None, Ok, Err, MatchResult, IfOk};
 ghost use Rattle.std.specs.Char.{digit_value};
 ghost use Rattle.std.specs.Str.Parse.{digits_value};
-ghost use Rattle.compose_text.specs.Bytes.{front};
+ghost use Rattle.compose_text.specs.Bytes.{leading};
 ghost use Rattle.compose_lex.specs.Escape as escapes;
 ghost use Rattle.compose_lex.specs.Steps.{IsByte, escape_byte, piece_byte, IsDecoded};
 
@@ -12,13 +12,13 @@ use arrayvec::ArrayVec;
 /// The first 255 bytes of a text, and how many bytes it has.
 pub(crate) type Decoded = (ArrayVec<u8, 255>, usize);
 
-/// The number that the digits at the front write, and how many there are.
+/// The number that the digits at the beginning write, and how many there are.
 fn code_of(radix: u32, bytes: &[u8]) -> (u32, usize)
     requires low { 2 ≤ radix }
     requires high { radix ≤ 16 }
     requires few { length bytes.now ≤ 3 }
-    ensures value { result.0 ≡ digits_value radix (front (λ d. nat_lt (digit_value d) radix) bytes.now) }
-    ensures len { result.1 ≡ length (front (λ d. nat_lt (digit_value d) radix) bytes.now) }
+    ensures value { result.0 ≡ digits_value radix (leading (λ d. nat_lt (digit_value d) radix) bytes.now) }
+    ensures len { result.1 ≡ length (leading (λ d. nat_lt (digit_value d) radix) bytes.now) }
 {
     let mut value = 0;
     for (len, byte) in bytes.iter().enumerate() {
@@ -35,8 +35,8 @@ fn code_at(radix: u32, most: usize, rest: &[u8]) -> (u32, usize)
     requires low { 2 ≤ radix }
     requires high { radix ≤ 16 }
     requires few { most ≤ 3 }
-    ensures value { result.0 ≡ digits_value radix (front (λ d. nat_lt (digit_value d) radix) (take most rest.now)) }
-    ensures len { result.1 ≡ length (front (λ d. nat_lt (digit_value d) radix) (take most rest.now)) }
+    ensures value { result.0 ≡ digits_value radix (leading (λ d. nat_lt (digit_value d) radix) (take most rest.now)) }
+    ensures len { result.1 ≡ length (leading (λ d. nat_lt (digit_value d) radix) (take most rest.now)) }
 {
     if rest.len() < most {
         return code_of(radix, rest);

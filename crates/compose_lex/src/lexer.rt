@@ -4,7 +4,7 @@ ghost use Rattle.std.specs.Char.{is_ascii_alphabetic};
 ghost use Rattle.compose_lex.specs.Line.{IsLine, include};
 ghost use Rattle.compose_lex.specs.Fault as fault;
 ghost use Rattle.compose_lex.specs.Lexed.{reading, said_reading, event_names, names_in, Is};
-ghost use Rattle.compose_lex.specs.Steps.{with_front, IsNext};
+ghost use Rattle.compose_lex.specs.Steps.{with_prefix, IsNext};
 
 use crate::token::{byte_at, end_at, name_at, offset, skip_blanks, split_name, string_at};
 use crate::{LexFault, Line, law_right_reading};
@@ -81,7 +81,7 @@ fn events_at<'a>(
     behind_event: &'a str,
     events: &mut Events<'a>,
 ) -> Result<&'a str, LexFault>
-    ensures { Is (λ behind. (map (λ e. e.now) events.new.items, behind.now)) result (with_front (map (λ e. e.now) events.old.items) (fault.events_at line_len (32 - length events.old.items) behind_event.now)) }
+    ensures { Is (λ behind. (map (λ e. e.now) events.new.items, behind.now)) result (with_prefix (map (λ e. e.now) events.old.items) (fault.events_at line_len (32 - length events.old.items) behind_event.now)) }
 {
     let mut rest = behind_event;
     loop {
@@ -158,7 +158,7 @@ fn include_at(line_len: usize, rest: &str) -> Result<&str, LexFault>
     Ok(raw)
 }
 
-/// What follows the word `include` at the front, which no letter, digit or underscore follows.
+/// What follows the word `include` at the beginning, which no letter, digit or underscore follows.
 fn behind_include(rest: &str) -> Option<&str>
     ensures { MatchOption result (fault.is_include rest.now ≡ false) (λ behind. (fault.is_include rest.now ≡ true) × (behind.now ≡ drop 7 rest.now)) }
 {

@@ -1,4 +1,4 @@
-//! Plain text at the front of bytes.
+//! Plain text at the beginning of bytes.
 ghost use Rattle.std.specs.Prelude.{◌≡◌};
 ghost use Rattle.std.specs.List.{prefix_len};
 ghost use Rattle.compose_lex.specs.Steps.{is_plain};

@@ -1,7 +1,7 @@
-//! The tokens of a line, each read from the front of what is left of the line. A function takes the length of the
+//! The tokens of a line, each read from the beginning of what is left of the line. A function takes the length of the
 //! whole line, for the offset of a fault, and the part that is left.
 ghost use Rattle.std.specs.Prelude.{◌≡◌, ◌<◌};
-ghost use Rattle.compose_text.specs.Bytes.{is_name_byte, front, behind};
+ghost use Rattle.compose_text.specs.Bytes.{is_name_byte, leading, behind};
 ghost use Rattle.compose_lex.specs.Fault as fault;
 ghost use Rattle.compose_lex.specs.Lexed.{Is};
 
@@ -16,16 +16,16 @@ pub(crate) fn offset(line_len: usize, rest: &str) -> usize
     line_len.saturating_sub(rest.len())
 }
 
-/// What follows the blanks at the front. O(blanks).
+/// What follows the blanks at the beginning. O(blanks).
 pub(crate) fn skip_blanks(text: &str) -> &str
     ensures { result.now ≡ fault.skip_blanks text.now }
 {
     &text[blank_len(text.as_bytes())..]
 }
 
-/// The bytes of a name at the front, perhaps none, and what follows them. O(bytes of the name).
+/// The bytes of a name at the beginning, perhaps none, and what follows them. O(bytes of the name).
 pub(crate) fn split_name(text: &str) -> (&str, &str)
-    ensures name { result.0.now ≡ front is_name_byte text.now }
+    ensures name { result.0.now ≡ leading is_name_byte text.now }
     ensures rest { result.1.now ≡ behind is_name_byte text.now }
 {
     let len = name_len(text.as_bytes());

@@ -27,7 +27,7 @@ use Rattle.compose_make.specs.Least.{are_keys, IsLeastTyping, AreLeastTypings}
 use Rattle.compose_make.specs.Candidates.{is_plain, is_whole}
 use Rattle.compose_make.proofs.Reduction.{is_candidate, reduced, candidate_types, whole_parts}
 use Rattle.compose_make.specs.Depth.{IsGreatestDepth}
-use Rattle.compose_make.specs.Made.{IsMadeFor}
+use Rattle.compose_make.specs.IsMade.{IsMadeFor}
 use Rattle.compose_walk.proofs.FirstOrder.{FirstParts, first_parts}
 
 module _ (names : KeysymNames) (table : List Definition) (repertoire : Repertoire) (s : IsSettled table) where

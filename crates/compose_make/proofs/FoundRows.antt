@@ -7,7 +7,7 @@ use Rattle.keysym_core.specs.Names.{KeysymNames}
 use Rattle.compose_model.specs.Table.{Definition, has_key}
 use Rattle.compose_model.specs.Certificate.{Repertoire, keys_rise}
 use Rattle.compose_read.specs.Settle.{IsSettled}
-use Rattle.compose_fresh.proofs.Places.{rises_tail}
+use Rattle.compose_fresh.proofs.Positions.{rises_tail}
 use Rattle.compose_make.specs.Least.{IsLeastTyping, AreLeastTypings, IsUnreachable}
 use Rattle.compose_make.specs.Candidates.{is_plain, is_whole, IsLeastOf}
 use Rattle.compose_make.proofs.Reduction.{is_candidate, least_typing, untyped, whole_parts, nonempty}

@@ -6,7 +6,7 @@ use Rattle.keysym_core.specs.Names.{KeysymNames}
 use Rattle.compose_model.specs.Table.{Definition, has_key}
 use Rattle.compose_model.specs.Certificate.{Repertoire, keys_rise}
 use Rattle.compose_read.specs.Settle.{IsSettled}
-use Rattle.compose_fresh.proofs.Places.{rises_tail}
+use Rattle.compose_fresh.proofs.Positions.{rises_tail}
 use Rattle.compose_make.specs.Least.{IsLeastTyping, AreUntypable}
 use Rattle.compose_make.specs.Candidates.{IsLeastOf}
 use Rattle.compose_make.specs.Wanted.{WantedCharacter, AreLeast, characters_of, all_missing}

@@ -34,13 +34,13 @@ is_candidate names table repertoire c w = is_plain names table repertoire c w ||
 -- ---- lists by their last element
 
 pub record Snoc (w : List ℕ) : Type 0 where
-  pub front : List ℕ
+  pub prefix : List ℕ
   pub last : ℕ
-  pub is : w ≡ front ++ last ∷ []
+  pub is : w ≡ prefix ++ last ∷ []
 
 pub snoc : (k : ℕ) (w : List ℕ) → Snoc (k ∷ w)
-snoc k [] = record { front = []; last = k; is = refl }
-snoc k (j ∷ w) = let r = snoc j w in record { front = k ∷ r.front; last = r.last; is = ap (λ x. k ∷ x) r.is }
+snoc k [] = record { prefix = []; last = k; is = refl }
+snoc k (j ∷ w) = let r = snoc j w in record { prefix = k ∷ r.prefix; last = r.last; is = ap (λ x. k ∷ x) r.is }
 
 pub last_of : (P : ℕ → Bool) (v : List ℕ) (k : ℕ) → list_all P (v ++ k ∷ []) ≡ true → (list_all P v ≡ true) × (P k ≡ true)
 last_of P v k h =
@@ -67,9 +67,9 @@ never_silent c e =
     absurd (omega arith)
 
 -- what begins with a text that is not empty is not empty
-pub never_front : (xs ys : List ℕ) → ([] ≡ xs → ⊥) → [] ≡ xs ++ ys → ⊥
-never_front [] ys n e = n refl
-never_front (x ∷ xs) ys n e = cc
+pub never_prefix : (xs ys : List ℕ) → ([] ≡ xs → ⊥) → [] ≡ xs ++ ys → ⊥
+never_prefix [] ys n e = n refl
+never_prefix (x ∷ xs) ys n e = cc
 
 -- ---- what is pending is what was typed, or shorter
 
@@ -211,7 +211,7 @@ module _ (names : KeysymNames) (table : List Definition) (repertoire : Repertoir
     whole_types c [] h = absurd (nonempty h.sequence)
     whole_types c (k ∷ w) h =
         let r = snoc k w in
-        subst (λ (v : List ℕ). Types names table v c) (sym r.is) (sequence_types c r.front r.last (subst (λ (v : List ℕ). Whole c v) r.is h))
+        subst (λ (v : List ℕ). Types names table v c) (sym r.is) (sequence_types c r.prefix r.last (subst (λ (v : List ℕ). Whole c v) r.is h))
 
     plain_list_types : (c : ℕ) (w : List ℕ) → is_plain names table repertoire c w ≡ true → (are_keys repertoire w ≡ true) × Types names table w c
     plain_list_types c [] h = cc
@@ -285,19 +285,19 @@ module _ (names : KeysymNames) (table : List Definition) (repertoire : Repertoir
       never : (xs ts : List (List ℕ)) → xs ≡ ts ++ encode_utf8 c ∷ [] → xs ≡ [] → ⊥
       never xs [] e n = cc
       never xs (y ∷ ts) e n = cc
-  reduced c (j ∷ w) keys t = subst (Reduces c) (sym r.is) (at_last c r.front r.last (ap (are_keys repertoire) (sym r.is) ∙ keys) commits rests)
+  reduced c (j ∷ w) keys t = subst (Reduces c) (sym r.is) (at_last c r.prefix r.last (ap (are_keys repertoire) (sym r.is) ∙ keys) commits rests)
     where
       r : Snoc (j ∷ w)
       r = snoc j w
 
-      all : map (λ s. s.text) (run names table r.front) ++ (step names table (pending table r.front) r.last).text ∷ [] ≡ replicate (length (j ∷ w) - 1) [] ++ encode_utf8 c ∷ []
-      all = sym (run_snoc names table r.front r.last) ∙ ap (λ v. map (λ (s : Step). s.text) (run names table v)) (sym r.is) ∙ t.texts
+      all : map (λ s. s.text) (run names table r.prefix) ++ (step names table (pending table r.prefix) r.last).text ∷ [] ≡ replicate (length (j ∷ w) - 1) [] ++ encode_utf8 c ∷ []
+      all = sym (run_snoc names table r.prefix r.last) ∙ ap (λ v. map (λ (s : Step). s.text) (run names table v)) (sym r.is) ∙ t.texts
 
-      commits : (step names table (pending table r.front) r.last).text ≡ encode_utf8 c
-      commits = (same_from_push (map (λ (s : Step). s.text) (run names table r.front)) (replicate (length (j ∷ w) - 1) []) (step names table (pending table r.front) r.last).text (encode_utf8 c) all).1
+      commits : (step names table (pending table r.prefix) r.last).text ≡ encode_utf8 c
+      commits = (same_from_push (map (λ (s : Step). s.text) (run names table r.prefix)) (replicate (length (j ∷ w) - 1) []) (step names table (pending table r.prefix) r.last).text (encode_utf8 c) all).1
 
-      rests : pending_after table (pending table r.front) r.last ≡ []
-      rests = sym (pending_snoc table r.front r.last) ∙ ap (pending table) (sym r.is) ∙ t.rests
+      rests : pending_after table (pending table r.prefix) r.last ≡ []
+      rests = sym (pending_snoc table r.prefix r.last) ∙ ap (pending table) (sym r.is) ∙ t.rests
 
   -- ---- so the least candidate is the least typing
 

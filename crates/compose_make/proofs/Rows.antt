@@ -7,7 +7,7 @@ use Rattle.std.proofs.lemmas.Bool.{cases_Bool, cases_lt}
 use Rattle.compose_model.specs.Table.{same}
 use Rattle.compose_model.specs.Certificate.{keys_rise}
 use Rattle.compose_model.proofs.NodeLemmas.{same_is, same_from}
-use Rattle.compose_fresh.proofs.Places.{rises_head, rises_tail, rises}
+use Rattle.compose_fresh.proofs.Positions.{rises_head, rises_tail, rises}
 use Rattle.compose_make.specs.Candidates.{spells, IsLeastOf}
 use Rattle.compose_make.specs.Wanted.{WantedCharacter, better, offered, characters_of, AreLeast}
 use Rattle.compose_make.proofs.Order.{least_same, least_more}

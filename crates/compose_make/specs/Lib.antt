@@ -3,4 +3,4 @@ pub mod Candidates
 pub mod Wanted
 pub mod Found
 pub mod Depth
-pub mod Made
+pub mod IsMade

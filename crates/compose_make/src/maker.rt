@@ -6,7 +6,7 @@ ghost use Rattle.compose_tree.specs.Targets.{max_nodes};
 ghost use Rattle.compose_fresh.specs.Conditions.{first_unmet};
 ghost use Rattle.compose_fresh.specs.Fresh.{fresh_conditions, max_fresh};
 ghost use Rattle.compose_walk.specs.Walks.{IsFollower};
-ghost use Rattle.compose_make.specs.Made.{IsMade};
+ghost use Rattle.compose_make.specs.IsMade.{IsMade};
 
 use crate::depth::greatest_depth;
 use crate::typings::{Typings, find_typings};

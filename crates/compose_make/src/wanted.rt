@@ -109,7 +109,7 @@ fn comes_first(keys: &[Keysym], other: &[Keysym]) -> bool
 }
 
 /// The index of the character, if it is wanted. O(log n).
-fn place_of(rows: &[Wanted], character: char) -> Option<usize>
+fn index_of(rows: &[Wanted], character: char) -> Option<usize>
     requires { IsTrue (keys_rise (characters_of rows.now)) }
     ensures { MatchOption result ((k : ℕ) → k < length rows.now → get_or (characters_of rows.now) k 0 ≡ character → ⊥) (λ i. (i < length rows.now) × (get_or (characters_of rows.now) i 0 ≡ character)) }
 {
@@ -153,7 +153,7 @@ pub fn offer_text(rows: &mut [Wanted], text: &str, keys: &[Keysym])
     let Some(character) = single_character(text) else {
         return;
     };
-    if let Some(place) = place_of(rows, character) {
-        rows[place].offer(keys);
+    if let Some(index) = index_of(rows, character) {
+        rows[index].offer(keys);
     }
 }

@@ -1,7 +1,7 @@
 -- Entries that are not as many as the sources.
 use Rattle.std.proofs.Common.{◌≡◌, ◌≢◌, Bool, true, false, List, [], ◌∷◌, length, refl, ap, suc}
 use Rattle.std.specs.Prelude.{◌&&◌}
-use Rattle.compose_find.specs.Found.{Met}
+use Rattle.compose_find.specs.Found.{FoundSource}
 use Rattle.compose_tool.specs.Manifest.{Entry}
 use Rattle.compose_manifest.specs.Text.{is_entry, are_entries}
 
@@ -9,7 +9,7 @@ not_both : (a b : Bool) → b ≡ false → a && b ≡ false
 not_both true b e = e
 not_both false b e = refl
 
-pub other_count : (entries : List Entry) (sources : List Met) → length entries ≢ length sources → are_entries entries sources ≡ false
+pub other_count : (entries : List Entry) (sources : List FoundSource) → length entries ≢ length sources → are_entries entries sources ≡ false
 other_count [] [] h = absurd (h refl)
 other_count [] (source ∷ sources) h = refl
 other_count (entry ∷ entries) [] h = refl

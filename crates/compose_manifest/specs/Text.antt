@@ -5,24 +5,24 @@ use Rattle.std.specs.declared.string.String.{String}
 use Rattle.compose_model.specs.declared.Rule.{Rule}
 use Rattle.compose_model.specs.declared.Rule.TheVariants.{Refuse, Longest}
 use Rattle.compose_find.specs.Expand.{beside}
-use Rattle.compose_find.specs.Found.{Met}
+use Rattle.compose_find.specs.Found.{FoundSource}
 use Rattle.compose_tool.specs.Manifest.{Entry, Listing, listing_of}
 use Rattle.compose_manifest.specs.declared.WriteFault.{WriteFault}
 use Rattle.compose_manifest.specs.declared.WriteFault.TheVariants.{Unwritable, NoMemory}
 
 -- the name, a tab (code 9), the path and a newline (code 10)
-abbrev pub line_of : Met → List ℕ
+abbrev pub line_of : FoundSource → List ℕ
 line_of source = source.name ++ 9 ∷ source.path ++ 10 ∷ []
 
-abbrev pub manifest_bytes : List Met → List ℕ
+abbrev pub manifest_bytes : List FoundSource → List ℕ
 manifest_bytes sources = flat_map line_of sources
 
 -- the entry has the source's name and path
-abbrev pub is_entry : Entry → Met → Bool
+abbrev pub is_entry : Entry → FoundSource → Bool
 is_entry entry source = bytes_eq entry.name source.name && bytes_eq entry.path source.path
 
 -- the entries are those of the sources, in order
-abbrev pub are_entries : List Entry → List Met → Bool
+abbrev pub are_entries : List Entry → List FoundSource → Bool
 are_entries [] [] = true
 are_entries [] (source ∷ sources) = false
 are_entries (entry ∷ entries) [] = false
@@ -33,7 +33,7 @@ is_refuse Refuse = true
 is_refuse Longest = false
 
 -- the listing has the sources' entries, and refuses overlaps; relative paths go from the folder in which the program runs
-abbrev pub lists : Listing → List Met → Bool
+abbrev pub lists : Listing → List FoundSource → Bool
 lists listing sources = not listing.paths_here && is_refuse (unwrap_or listing.rule Refuse) && are_entries listing.entries sources
 
 -- the path of an entry's file, where the manifest with this listing lies at a path
@@ -41,11 +41,11 @@ abbrev pub file_path : Listing → List ℕ → List ℕ → List ℕ
 file_path listing manifest path = if listing.paths_here then beside manifest path else path
 
 -- a manifest's bytes are read as a listing of the sources
-abbrev pub ReadsAs : List ℕ → List Met → Type 0
+abbrev pub ReadsAs : List ℕ → List FoundSource → Type 0
 ReadsAs bytes sources = (listing : Listing) × (listing_of bytes ≡ Ok listing) × IsTrue (lists listing sources)
 
 -- the text is the sources' manifest, which is read as a listing of them; it is refused where it would not be
-abbrev pub IsWritten : List Met → Result (String Global) WriteFault → Type 0
+abbrev pub IsWritten : List FoundSource → Result (String Global) WriteFault → Type 0
 IsWritten sources (Ok text) = (string_bytes text ≡ manifest_bytes sources) × ReadsAs (manifest_bytes sources) sources
 IsWritten sources (Err Unwritable) = ¬ (ReadsAs (manifest_bytes sources) sources)
 IsWritten sources (Err NoMemory) = Unit {0}

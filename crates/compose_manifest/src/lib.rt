@@ -12,7 +12,7 @@ ghost use Rattle.std.specs.Prelude.{◌≡◌, ◌++◌, ◌∷◌, [], IfOk, On
 ghost use Rattle.compose_manifest.specs.Text as text;
 ghost use Rattle.compose_manifest.specs.declared.WriteFault.TheVariants.{NoMemory};
 
-use compose_find::{Met, beside};
+use compose_find::{FoundSource, beside};
 use compose_model::Rule;
 use compose_tool::{Entry, Manifest, ManifestFault, read_manifest};
 use std::alloc::{AllocError, AllocFailed, Global};
@@ -47,7 +47,7 @@ impl<T: Drop> From<AllocFailed<T>> for WriteFault {
 
 /// The manifest of these sources: a line for each, its name, a tab and its path. Reading it lists them in order, by the rule that refuses overlaps;
 /// where it would not, as for a path with a newline, the sources are refused. O(bytes).
-pub fn manifest_text(alloc: Global, sources: &[Met]) -> Result<String, WriteFault>
+pub fn manifest_text(alloc: Global, sources: &[FoundSource]) -> Result<String, WriteFault>
     ensures { text.IsWritten sources.now result }
 {
     let text = lines_of(alloc, sources)?;
@@ -75,7 +75,7 @@ pub fn file_path(
 }
 
 /// A line for each source.
-fn lines_of(alloc: Global, sources: &[Met]) -> Result<String, AllocError>
+fn lines_of(alloc: Global, sources: &[FoundSource]) -> Result<String, AllocError>
     ensures { IfOk result (λ written. string_bytes written ≡ text.manifest_bytes sources.now) }
 {
     let mut lines = String::new(alloc);
@@ -86,7 +86,7 @@ fn lines_of(alloc: Global, sources: &[Met]) -> Result<String, AllocError>
 }
 
 /// Adds the line of a source.
-fn push_line(lines: &mut String, source: &Met) -> Result<(), AllocError>
+fn push_line(lines: &mut String, source: &FoundSource) -> Result<(), AllocError>
     ensures { OnOk result (string_bytes lines.new ≡ string_bytes lines.old ++ text.line_of source.now) }
 {
     lines.push_str(&source.name)?;
@@ -96,7 +96,7 @@ fn push_line(lines: &mut String, source: &Met) -> Result<(), AllocError>
 }
 
 /// Whether the manifest lists these sources, by the rule that refuses overlaps and with paths as they stand.
-fn lists(manifest: &Manifest, sources: &[Met]) -> bool
+fn lists(manifest: &Manifest, sources: &[FoundSource]) -> bool
     ensures { result ≡ text.lists manifest.now sources.now }
 {
     !manifest.paths_here()
@@ -105,14 +105,14 @@ fn lists(manifest: &Manifest, sources: &[Met]) -> bool
 }
 
 /// Whether the entries are those of the sources, in order.
-fn are_entries(entries: &[Entry], sources: &[Met]) -> bool
+fn are_entries(entries: &[Entry], sources: &[FoundSource]) -> bool
     ensures { result ≡ text.are_entries entries.now sources.now }
 {
     if entries.len() != sources.len() {
         return false;
     }
-    for (place, entry) in entries.iter().enumerate() {
-        if !is_entry(entry, &sources[place]) {
+    for (index, entry) in entries.iter().enumerate() {
+        if !is_entry(entry, &sources[index]) {
             return false;
         }
     }
@@ -120,7 +120,7 @@ fn are_entries(entries: &[Entry], sources: &[Met]) -> bool
 }
 
 /// Whether the entry is that of the source.
-fn is_entry(entry: &Entry, source: &Met) -> bool
+fn is_entry(entry: &Entry, source: &FoundSource) -> bool
     ensures { result ≡ text.is_entry entry.now source.now }
 {
     entry.name == source.name && entry.path == source.path

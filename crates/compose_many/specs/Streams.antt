@@ -4,7 +4,7 @@ use Rattle.std.specs.Io.KnownBytes.{ReadConsumes, WriteAppends}
 use Rattle.compose_many.specs.declared.streams.TryError.{TryError}
 use Rattle.compose_many.specs.declared.streams.TryError.TheVariants.{Failed}
 
--- a pull takes n bytes from the front and leaves the mark, and gives none only at the end or with no room; else it takes none, and the
+-- a pull takes n bytes from the beginning and leaves the mark, and gives none only at the end or with no room; else it takes none, and the
 -- mark says why
 abbrev pub TryPulls : Option (List ℕ) → Option (List ℕ) → Option TryError → Option TryError → Result ℕ TryError → List ℕ → Type 0
 TryPulls left left' mark mark' r piece = ReadConsumes left left' r piece × MatchResult r (λ n. (n ≤ length piece) × (mark' ≡ mark)) (λ e. mark' ≡ Some e)

@@ -95,7 +95,7 @@ impl Connection {
         requires { count ≤ length self.old.unsent }
         ensures { Sends self.old (take count self.old.unsent) self.new }
     {
-        remove_front(&mut self.unsent, count);
+        remove_prefix(&mut self.unsent, count);
     }
 
     /// Answers the next request, or says why not; a faulty frame is refused.
@@ -182,8 +182,8 @@ fn append(bytes: &mut Vec<u8>, more: &[u8])
     bytes.extend_from_slice(more).unwrap();
 }
 
-/// Moves the bytes behind the first ones to the front.
-fn remove_front(bytes: &mut Vec<u8>, count: usize)
+/// Moves the bytes behind the first ones to the beginning.
+fn remove_prefix(bytes: &mut Vec<u8>, count: usize)
     requires { count ≤ vec_len bytes.old }
     ensures { bytes.new.items ≡ drop count bytes.old.items }
 {

@@ -47,7 +47,7 @@ expected_after before = expected_behind before (last_solid None before)
 
 -- ---- what is found
 
--- how many bytes the name at the front has, or else the first character
+-- how many bytes the name at the beginning has, or else the first character
 abbrev pub token_len : List ℕ → ℕ
 token_len rest = if begins is_name_byte rest then prefix_len is_name_byte rest else 1 + unwrap_or (position begins_character (drop 1 rest)) (length (drop 1 rest))
 

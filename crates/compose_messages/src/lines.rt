@@ -33,7 +33,7 @@ pub(crate) fn nth_line(bytes: &[u8], index: usize) -> &[u8]
     &[]
 }
 
-/// The bytes without a UTF-8 byte order mark at their front.
+/// The bytes without a UTF-8 byte order mark at their beginning.
 fn without_mark(bytes: &[u8]) -> &[u8]
     ensures { result.now ≡ without_mark bytes.now }
 {

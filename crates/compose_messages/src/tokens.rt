@@ -94,7 +94,7 @@ pub(crate) fn found_at(line: &[u8], at: usize) -> &str
     text_or_nothing(first_token(&line[at..]))
 }
 
-/// The name at the front, or else the first character.
+/// The name at the beginning, or else the first character.
 fn first_token(rest: &[u8]) -> &[u8]
     ensures { result.now ≡ tokens.first_token rest.now }
 {
@@ -108,7 +108,7 @@ fn first_token(rest: &[u8]) -> &[u8]
     }
 }
 
-/// Whether a name stands at the front.
+/// Whether a name stands at the beginning.
 fn begins_name(rest: &[u8]) -> bool
     ensures { result ≡ begins is_name_byte rest.now }
 {

@@ -1,4 +1,4 @@
 mod Examples
-pub mod WordKeys
+pub mod KeyNames
 pub mod Tables
 pub mod Steps

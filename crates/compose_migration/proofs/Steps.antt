@@ -9,7 +9,7 @@ use Rattle.keysym_core.specs.declared.fault.NameFault.TheVariants as name_faults
 use Rattle.compose_model.specs.Table.{Definition}
 use Rattle.compose_migration.specs.Keys.{keys_of}
 use Rattle.compose_migration.specs.Migration.{GivenMigration, NamedParts, Parts, NoMigration, no_names, no_key, or_because, named, migration_of, table_of_side}
-use Rattle.compose_migration.specs.Given.{MigrationRefused, MigrationGives}
+use Rattle.compose_migration.specs.MigrationGives.{MigrationRefused, MigrationGives}
 use Rattle.compose_migration.specs.declared.fault.Side.TheVariants as sides
 use Rattle.compose_migration.specs.declared.fault.MigrationFault.{MigrationFault}
 use Rattle.compose_migration.specs.declared.fault.MigrationFault.TheVariants as faults
@@ -40,19 +40,19 @@ fault_gives reads (Err e) fault said h g = subst (λ (x : MigrationFault). Migra
 
 -- ---- names and keysyms
 
-module _ (header : List ℕ) (words : List (List ℕ)) (names : KeysymNames) (names_read : IsRead (or_because no_names (names_of header)) names) where
+module _ (header : List ℕ) (key_names : List (List ℕ)) (names : KeysymNames) (names_read : IsRead (or_because no_names (names_of header)) names) where
   abbrev with_keys : List ℕ → Result NamedParts NoMigration
   with_keys keys = Ok (record { names = names; keys = keys })
 
-  after_names : named header words ≡ (or_because no_key (keys_of names words) >>= with_keys)
-  after_names = ap (λ r. r >>= (λ n. or_because no_key (keys_of n words) >>= (λ keys. (let p : NamedParts = record { names = n; keys = keys } in Ok p)))) (is_read (or_because no_names (names_of header)) names names_read)
+  after_names : named header key_names ≡ (or_because no_key (keys_of names key_names) >>= with_keys)
+  after_names = ap (λ r. r >>= (λ n. or_because no_key (keys_of n key_names) >>= (λ keys. (let p : NamedParts = record { names = n; keys = keys } in Ok p)))) (is_read (or_because no_names (names_of header)) names names_read)
 
-  pub keys_refused : (fault : MigrationFault) → MigrationRefused fault (or_because no_key (keys_of names words)) → MigrationRefused fault (named header words)
-  keys_refused fault h = subst (λ (s : Result NamedParts NoMigration). MigrationRefused fault s) (sym after_names) (step_refused fault (or_because no_key (keys_of names words)) with_keys h)
+  pub keys_refused : (fault : MigrationFault) → MigrationRefused fault (or_because no_key (keys_of names key_names)) → MigrationRefused fault (named header key_names)
+  keys_refused fault h = subst (λ (s : Result NamedParts NoMigration). MigrationRefused fault s) (sym after_names) (step_refused fault (or_because no_key (keys_of names key_names)) with_keys h)
 
 -- ---- both tables
 
-module _ (given : GivenMigration) (n : NamedParts) (n_read : IsRead (named given.header given.words) n) where
+module _ (given : GivenMigration) (n : NamedParts) (n_read : IsRead (named given.header given.key_names) n) where
   abbrev with_new : List Definition → List Definition → Result Parts NoMigration
   with_new old new = Ok (record { names = n.names; keys = n.keys; old = old; new = new })
 
@@ -60,7 +60,7 @@ module _ (given : GivenMigration) (n : NamedParts) (n_read : IsRead (named given
   with_old old = table_of_side n.names sides.New given.new >>= with_new old
 
   after_named : migration_of given ≡ (table_of_side n.names sides.Old given.old >>= with_old)
-  after_named = ap (λ r. r >>= (λ m. table_of_side m.names sides.Old given.old >>= (λ old. table_of_side m.names sides.New given.new >>= (λ new. (let p : Parts = record { names = m.names; keys = m.keys; old = old; new = new } in Ok p))))) (is_read (named given.header given.words) n n_read)
+  after_named = ap (λ r. r >>= (λ m. table_of_side m.names sides.Old given.old >>= (λ old. table_of_side m.names sides.New given.new >>= (λ new. (let p : Parts = record { names = m.names; keys = m.keys; old = old; new = new } in Ok p))))) (is_read (named given.header given.key_names) n n_read)
 
   pub old_refused : (fault : MigrationFault) → MigrationRefused fault (table_of_side n.names sides.Old given.old) → MigrationRefused fault (migration_of given)
   old_refused fault h = subst (λ (s : Result Parts NoMigration). MigrationRefused fault s) (sym after_named) (step_refused fault (table_of_side n.names sides.Old given.old) with_old h)

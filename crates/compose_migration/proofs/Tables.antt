@@ -5,13 +5,13 @@ use Rattle.compose_model.specs.Table.{Definition}
 use Rattle.compose_read.specs.declared.ReadFault.{ReadFault}
 use Rattle.compose_read.specs.declared.ReadFault.TheVariants as read_faults
 use Rattle.compose_read.specs.declared.settling.SettleFault.TheVariants as settle_faults
-use Rattle.compose_tree.specs.Given.{NoTable, ReadSaid, TableGives}
+use Rattle.compose_tree.specs.TableGives.{NoTable, ReadSaid, TableGives}
 use Rattle.compose_tree.specs.declared.reading.TableFault.{TableFault}
 use Rattle.compose_tree.specs.declared.reading.TableFault.TheVariants as table_faults
 use Rattle.compose_tree.specs.declared.table.BuildFault.TheVariants as build_faults
 use Rattle.compose_migration.specs.declared.fault.Side.{Side}
 use Rattle.compose_migration.specs.Migration.{no_table, or_because}
-use Rattle.compose_migration.specs.Given.{TableFails}
+use Rattle.compose_migration.specs.MigrationGives.{TableFails}
 
 read_at_all : (fault : ReadFault) (table : List Definition) → ReadSaid fault (Ok table) → ⊥
 read_at_all read_faults.MissingRoot table h = cc

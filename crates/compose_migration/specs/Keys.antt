@@ -1,4 +1,4 @@
--- Words that name keysyms (this project's profile: docs/FORMATS.md, "Names of keysyms").
+-- Key names, which are to name keysyms (this project's profile: docs/FORMATS.md, "Names of keysyms").
 use Rattle.std.specs.Prelude.{◌≡◌, ℕ, List, map, position, Option, is_none, Result, Ok, Err}
 use Rattle.std.specs.Option.{option_map_or, option_to_list}
 use Rattle.std.specs.List.{flat_map}
@@ -12,9 +12,9 @@ use Rattle.compose_migration.specs.declared.keys.KeyFault.TheVariants.{Unknown, 
 abbrev pub all_there : List (Option ℕ) → Result (List ℕ) ℕ
 all_there values = option_map_or (λ i. Err i) (position is_none values) (Ok (flat_map option_to_list values))
 
--- the keysyms of the words, or the index of the first word that has none
+-- the keysyms of the key names, or the index of the first key name that has none
 abbrev pub keys_of : KeysymNames → List (List ℕ) → Result (List ℕ) ℕ
-keys_of names words = all_there (map (value names) words)
+keys_of names key_names = all_there (map (value names) key_names)
 
 -- what is said, unless memory was refused
 abbrev pub KeysGive : Result (Vec ℕ Global) KeyFault → Result (List ℕ) ℕ → Type 0

@@ -7,7 +7,7 @@ use Rattle.keysym_core.specs.declared.fault.NameFault.{NameFault}
 use Rattle.compose_model.specs.Table.{Definition}
 use Rattle.compose_model.specs.declared.Rule.{Rule}
 use Rattle.compose_read.specs.Lines.{Source}
-use Rattle.compose_tree.specs.Given.{NoTable, first_table}
+use Rattle.compose_tree.specs.TableGives.{NoTable, first_table}
 use Rattle.compose_migration.specs.Keys.{keys_of}
 use Rattle.compose_migration.specs.declared.fault.Side.{Side}
 use Rattle.compose_migration.specs.declared.fault.Side.TheVariants.{Old, New}
@@ -17,14 +17,14 @@ pub record TableSources : Type 0 where
   pub sources : List Source
   pub rule : Rule
 
--- a header of names, words that name keysyms, and two tables
+-- a header of names, key names, and two tables
 pub record GivenMigration : Type 0 where
   pub header : List ℕ
-  pub words : List (List ℕ)
+  pub key_names : List (List ℕ)
   pub old : TableSources
   pub new : TableSources
 
--- the names, and the keysyms of the words in their order
+-- the names, and the keysyms of the key names in their order
 pub record NamedParts : Type 0 where
   pub names : KeysymNames
   pub keys : List ℕ
@@ -36,7 +36,7 @@ pub record Parts : Type 0 where
   pub old : List Definition
   pub new : List Definition
 
--- the part that is refused, and why; of the words, the index of the first one that has no keysym
+-- the part that is refused, and why; of the key names, the index of the first one that has no keysym
 pub data NoMigration : Type 0 where
   no_names : NameFault → NoMigration
   no_key : ℕ → NoMigration
@@ -54,15 +54,15 @@ table_of_side names side t = or_because (no_table side) (first_table names t.sou
 
 -- the names and the keysyms, or the first part that is refused
 abbrev pub named : List ℕ → List (List ℕ) → Result NamedParts NoMigration
-named header words = do
+named header key_names = do
   names ← or_because no_names (names_of header)
-  keys ← or_because no_key (keys_of names words)
+  keys ← or_because no_key (keys_of names key_names)
   Ok (record { names = names; keys = keys })
 
 -- these, the old table and the new one, or the first part that is refused
 abbrev pub migration_of : GivenMigration → Result Parts NoMigration
 migration_of given = do
-  n ← named given.header given.words
+  n ← named given.header given.key_names
   old ← table_of_side n.names Old given.old
   new ← table_of_side n.names New given.new
   Ok (record { names = n.names; keys = n.keys; old = old; new = new })

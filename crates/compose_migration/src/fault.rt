@@ -31,7 +31,7 @@ pub enum MigrationFault {
     /// The header of names is refused.
     #[error("1 Names: {0}")]
     Names(NameFault),
-    /// The word at this index is the first one that has no keysym.
+    /// The key name at this index is the first one that has no keysym.
     #[error("2 Key index={index}")]
     Key { index: usize },
     /// The sources of this side give no table.

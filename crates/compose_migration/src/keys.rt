@@ -1,4 +1,4 @@
-//! The keysyms of words.
+//! The keysyms of key names.
 ghost use Rattle.std.specs.Prelude.{map};
 ghost use Rattle.compose_migration.specs.Keys.{keys_of, KeysGive};
 
@@ -6,10 +6,10 @@ use keysym_core::{Keysym, Names};
 use std::alloc::{AllocError, AllocFailed, Global};
 use thiserror::Error;
 
-/// Why words give no keysyms.
+/// Why key names give no keysyms.
 #[derive(Clone, Copy, Debug, PartialEq, Eq, Drop, Error)]
 pub enum KeyFault {
-    /// The word at this index is the first one that has no keysym.
+    /// The key name at this index is the first one that has no keysym.
     #[error("1 Unknown index={index}")]
     Unknown { index: usize },
     /// A growth was refused.
@@ -39,13 +39,17 @@ impl<T: Drop> From<AllocFailed<T>> for KeyFault {
     }
 }
 
-/// The keysym of each word, in order; or the index of the first word that has none. O(bytes of the words).
-pub fn look_up_keys(alloc: Global, names: &Names, words: &[&str]) -> Result<Vec<Keysym>, KeyFault>
-    ensures { KeysGive result (keys_of names.now (map (λ word. word.now) words.now)) }
+/// The keysym of each key name, in order; or the index of the first key name that has none. O(bytes of the key names).
+pub fn look_up_keys(
+    alloc: Global,
+    names: &Names,
+    key_names: &[&str],
+) -> Result<Vec<Keysym>, KeyFault>
+    ensures { KeysGive result (keys_of names.now (map (λ key_name. key_name.now) key_names.now)) }
 {
     let mut keys = Vec::new(alloc);
-    for (index, word) in words.iter().enumerate() {
-        let Some(keysym) = names.lookup(word) else {
+    for (index, key_name) in key_names.iter().enumerate() {
+        let Some(keysym) = names.lookup(key_name) else {
             return Err(KeyFault::Unknown { index });
         };
         keys.push(keysym)?;

@@ -1,10 +1,10 @@
 //! A migration: names, keysyms, and an old and a new table.
 ghost use Rattle.std.specs.Prelude.{◌≡◌, map};
 ghost use Rattle.keysym_core.specs.Header.{names_of};
-ghost use Rattle.compose_tree.specs.Given.{first_table};
+ghost use Rattle.compose_tree.specs.TableGives.{first_table};
 ghost use Rattle.compose_migration.specs.Keys.{keys_of};
 ghost use Rattle.compose_migration.specs.Migration.{no_names, no_key, no_table, or_because, named, migration_of};
-ghost use Rattle.compose_migration.specs.Given.{MigrationGives, given_of, named_parts, parts};
+ghost use Rattle.compose_migration.specs.MigrationGives.{MigrationGives, given_of, named_parts, parts};
 
 use crate::fault::{MigrationFault, Side};
 use crate::keys::{KeyFault, look_up_keys};
@@ -26,15 +26,15 @@ pub struct TableInput<'a> {
 pub struct MigrationInput<'a, 'w> {
     /// A header of names, which is added to the core names.
     pub header: &'a [u8],
-    /// Words that are to name keysyms.
-    pub words: &'a [&'w str],
+    /// Key names, which are to name keysyms.
+    pub key_names: &'a [&'w str],
     /// The old table.
     pub old: TableInput<'a>,
     /// The new table.
     pub new: TableInput<'a>,
 }
 
-/// Names, and the keysyms of words in their order.
+/// Names, and the keysyms of key names in their order.
 #[derive(Drop)]
 pub struct Named {
     pub names: Names,
@@ -42,13 +42,13 @@ pub struct Named {
 }
 
 impl Named {
-    /// Reads the names of a header, which is added to the core names, and the keysyms of the words by them; the first that is refused
+    /// Reads the names of a header, which is added to the core names, and the keysyms of the key names by them; the first that is refused
     /// decides. O(bytes).
-    pub fn read(alloc: Global, header: &[u8], words: &[&str]) -> Result<Named, MigrationFault>
-        ensures { MigrationGives (λ said read. said ≡ named_parts read) result (named header.now (map (λ word. word.now) words.now)) }
+    pub fn read(alloc: Global, header: &[u8], key_names: &[&str]) -> Result<Named, MigrationFault>
+        ensures { MigrationGives (λ said read. said ≡ named_parts read) result (named header.now (map (λ key_name. key_name.now) key_names.now)) }
     {
         let names = read_names(alloc, header)?;
-        let keys = read_keys(alloc, &names, words)?;
+        let keys = read_keys(alloc, &names, key_names)?;
         Ok(Named { names, keys })
     }
 }
@@ -57,14 +57,14 @@ impl Named {
 #[derive(Drop)]
 pub struct Migration<T: ComposeTable> {
     pub names: Names,
-    /// The keysyms of the words, in their order.
+    /// The keysyms of the key names, in their order.
     pub keys: Vec<Keysym>,
     pub old: T,
     pub new: T,
 }
 
 impl<T: ComposeTable> Migration<T> {
-    /// Reads the names, the keysyms of the words, the old table and the new one, in this order; the first that is refused decides.
+    /// Reads the names, the keysyms of the key names, the old table and the new one, in this order; the first that is refused decides.
     /// O(b + n log n) in the bytes of everything and the definitions of a table.
     pub fn read(
         alloc: Global,
@@ -72,7 +72,7 @@ impl<T: ComposeTable> Migration<T> {
     ) -> Result<Migration<T>, MigrationFault>
         ensures { MigrationGives (λ said read. said ≡ parts T.definitions read) result (migration_of (given_of input.entry.now)) }
     {
-        let named = Named::read(alloc, input.header, input.words)?;
+        let named = Named::read(alloc, input.header, input.key_names)?;
         let old = read_side(alloc, &named.names, Side::Old, &input.old)?;
         let new = read_side(alloc, &named.names, Side::New, &input.new)?;
         Ok(Migration {
@@ -95,11 +95,15 @@ fn read_names(alloc: Global, header: &[u8]) -> Result<Names, MigrationFault>
     }
 }
 
-/// The keysyms of words.
-fn read_keys(alloc: Global, names: &Names, words: &[&str]) -> Result<Vec<Keysym>, MigrationFault>
-    ensures { MigrationGives (λ said keys. said ≡ keys.items) result (or_because no_key (keys_of names.now (map (λ word. word.now) words.now))) }
+/// The keysyms of key names.
+fn read_keys(
+    alloc: Global,
+    names: &Names,
+    key_names: &[&str],
+) -> Result<Vec<Keysym>, MigrationFault>
+    ensures { MigrationGives (λ said keys. said ≡ keys.items) result (or_because no_key (keys_of names.now (map (λ key_name. key_name.now) key_names.now))) }
 {
-    match look_up_keys(alloc, names, words) {
+    match look_up_keys(alloc, names, key_names) {
         Ok(keys) => Ok(keys),
         Err(KeyFault::Unknown { index }) => Err(MigrationFault::Key { index }),
         Err(KeyFault::NoMemory) => Err(MigrationFault::NoMemory),

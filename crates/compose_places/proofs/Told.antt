@@ -15,7 +15,7 @@ use Rattle.compose_read.specs.Read.{at_line, said, line_gives, definition_of, wi
 use Rattle.compose_read.specs.Kept.{definitions_in, given, are_faultless}
 use Rattle.compose_read.specs.declared.ReadFault.{ReadFault}
 use Rattle.compose_read.specs.declared.ReadFault.TheVariants as faults
-use Rattle.compose_read.proofs.Given.{read_to_end}
+use Rattle.compose_read.proofs.Faultless.{read_to_end}
 use Rattle.compose_places.specs.Places.{is_production, says_definition, definition_lines, place_of, definition_places}
 
 module _ (names : KeysymNames) (sources : List Source) where

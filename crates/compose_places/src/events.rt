@@ -62,7 +62,7 @@ fn nth_line(bytes: &[u8], index: usize) -> Option<&[u8]>
     Some(line)
 }
 
-/// The bytes without a UTF-8 byte order mark at their front.
+/// The bytes without a UTF-8 byte order mark at their beginning.
 fn without_mark(bytes: &[u8]) -> &[u8]
     ensures { result.now ≡ without_mark bytes.now }
 {

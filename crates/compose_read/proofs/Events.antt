@@ -12,16 +12,16 @@ use Rattle.std.proofs.lemmas.Bool.{and_parts, and_from}
 use Rattle.compose_read.specs.Sequence.{is_fed, AreFed}
 use Rattle.compose_read.specs.declared.ReadFault.{ReadFault}
 
--- these keysyms in front of those that are read
-abbrev pub put_front : List ℕ → Result (List ℕ) ReadFault → Result (List ℕ) ReadFault
-put_front ks (Ok more) = Ok (ks ++ more)
-put_front ks (Err e) = Err e
+-- these keysyms before those that are read
+abbrev pub put_prefix : List ℕ → Result (List ℕ) ReadFault → Result (List ℕ) ReadFault
+put_prefix ks (Ok more) = Ok (ks ++ more)
+put_prefix ks (Err e) = Err e
 
 -- the keysyms of the events from this index on, behind these
 abbrev pub sequence_behind : KeysymNames → Visit → List (Bor (List ℕ)) → List ℕ → ℕ → Result (List ℕ) ReadFault
-sequence_behind names v events ks index = put_front ks (sequence_of names v index (drop index (map (λ e. e.now) events)))
+sequence_behind names v events ks index = put_prefix ks (sequence_of names v index (drop index (map (λ e. e.now) events)))
 
-put_one : (ks : List ℕ) (k : ℕ) (r : Result (List ℕ) ReadFault) → put_front ks (r >>= (λ s. Ok (k ∷ s))) ≡ put_front (ks ++ k ∷ []) r
+put_one : (ks : List ℕ) (k : ℕ) (r : Result (List ℕ) ReadFault) → put_prefix ks (r >>= (λ s. Ok (k ∷ s))) ≡ put_prefix (ks ++ k ∷ []) r
 put_one ks k (Ok s) = ap Ok (sym (append_assoc ks (k ∷ []) s))
 put_one ks k (Err e) = refl
 
@@ -38,31 +38,31 @@ at_event events index d l =
 pub event_taken : (names : KeysymNames) (v : Visit) (events : List (Bor (List ℕ))) (ks : List ℕ) (index : ℕ) (d : Bor (List ℕ)) (k : ℕ) → index < length events → event_keysym v index (value names (get_or events index d).now) ≡ Ok k
     → sequence_behind names v events ks index ≡ sequence_behind names v events (ks ++ k ∷ []) (index + 1)
 event_taken names v events ks index d k l f =
-    ap (λ es. put_front ks (sequence_of names v index es)) (at_event events index d l)
-    ∙ ap (λ r. put_front ks (r >>= (λ k. sequence_of names v (1 + index) (drop (index + 1) (map (λ e. e.now) events)) >>= (λ s. Ok (k ∷ s))))) f
+    ap (λ es. put_prefix ks (sequence_of names v index es)) (at_event events index d l)
+    ∙ ap (λ r. put_prefix ks (r >>= (λ k. sequence_of names v (1 + index) (drop (index + 1) (map (λ e. e.now) events)) >>= (λ s. Ok (k ∷ s))))) f
     ∙ put_one ks k (sequence_of names v (1 + index) (drop (index + 1) (map (λ e. e.now) events)))
-    ∙ (let n : 1 + index ≡ index + 1 = omega arith in ap (λ m. put_front (ks ++ k ∷ []) (sequence_of names v m (drop (index + 1) (map (λ e. e.now) events)))) n)
+    ∙ (let n : 1 + index ≡ index + 1 = omega arith in ap (λ m. put_prefix (ks ++ k ∷ []) (sequence_of names v m (drop (index + 1) (map (λ e. e.now) events)))) n)
 
 -- one without is the fault
 pub event_refused : (names : KeysymNames) (v : Visit) (events : List (Bor (List ℕ))) (ks : List ℕ) (index : ℕ) (d : Bor (List ℕ)) (fault : ReadFault) → index < length events → event_keysym v index (value names (get_or events index d).now) ≡ Err fault
     → sequence_behind names v events ks index ≡ Err fault
 event_refused names v events ks index d fault l f =
-    ap (λ es. put_front ks (sequence_of names v index es)) (at_event events index d l)
-    ∙ ap (λ r. put_front ks (r >>= (λ k. sequence_of names v (1 + index) (drop (index + 1) (map (λ e. e.now) events)) >>= (λ s. Ok (k ∷ s))))) f
+    ap (λ es. put_prefix ks (sequence_of names v index es)) (at_event events index d l)
+    ∙ ap (λ r. put_prefix ks (r >>= (λ k. sequence_of names v (1 + index) (drop (index + 1) (map (λ e. e.now) events)) >>= (λ s. Ok (k ∷ s))))) f
 
 -- behind the last event nothing is left
 pub events_end : (names : KeysymNames) (v : Visit) (events : List (Bor (List ℕ))) (ks : List ℕ) (index : ℕ) → index ≡ length events → sequence_behind names v events ks index ≡ Ok ks
 events_end names v events ks index h =
-    ap (λ es. put_front ks (sequence_of names v index es)) (drop_of_length-le (map (λ (e : Bor (List ℕ)). e.now) events) (omega (arith, length-map events (λ (e : Bor (List ℕ)). e.now))))
+    ap (λ es. put_prefix ks (sequence_of names v index es)) (drop_of_length-le (map (λ (e : Bor (List ℕ)). e.now) events) (omega (arith, length-map events (λ (e : Bor (List ℕ)). e.now))))
     ∙ ap Ok (append-nil ks)
 
--- and nothing is in front of the first
+-- and nothing is before the first
 pub events_all : (names : KeysymNames) (v : Visit) (events : List (Bor (List ℕ))) → sequence_behind names v events [] 0 ≡ sequence_of names v 0 (map (λ e. e.now) events)
-events_all names v events = none_in_front (sequence_of names v 0 (map (λ e. e.now) events))
+events_all names v events = none_before (sequence_of names v 0 (map (λ e. e.now) events))
   where
-    none_in_front : (r : Result (List ℕ) ReadFault) → put_front [] r ≡ r
-    none_in_front (Ok s) = refl
-    none_in_front (Err e) = refl
+    none_before : (r : Result (List ℕ) ReadFault) → put_prefix [] r ≡ r
+    none_before (Ok s) = refl
+    none_before (Err e) = refl
 
 pub fed_push : (ks : List ℕ) (k : ℕ) → AreFed ks → is_fed k ≡ true → AreFed (ks ++ k ∷ [])
 fed_push [] k a h = and_from (is_fed k) true h refl

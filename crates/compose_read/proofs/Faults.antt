@@ -1,7 +1,7 @@
 -- A fault of a part is the fault of the whole.
 use Rattle.std.proofs.Common.{◌≡◌, sym, subst}
 use Rattle.std.specs.Prelude.{Result, Err}
-use Rattle.compose_read.specs.Given.{ReadGives}
+use Rattle.compose_read.specs.ReadGives.{ReadGives}
 use Rattle.compose_read.specs.declared.ReadFault.{ReadFault}
 use Rattle.compose_read.specs.declared.ReadFault.TheVariants.{NoMemory}
 

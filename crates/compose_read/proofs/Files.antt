@@ -1,4 +1,4 @@
--- The place of a name among the sources is its place in the map that keeps them.
+-- The index of a name among the sources is its index in the map that keeps them.
 use Rattle.std.proofs.Common.{◌≡◌, ℕ, ◌+◌, ◌≤◌, List, [], ◌∷◌, cond, not, false, suc, length, refl, sym, ◌∙◌, ap, ap₂, nat_lt, map, subst}
 use Rattle.std.specs.Prelude.{Option, Some, None, is_some, position, string_bytes, option_map, slice_get, IsUtf8}
 use Rattle.std.specs.declared.alloc.Global.{Global}
@@ -27,8 +27,8 @@ module _ (name : List ℕ) where
   same_length [] = refl
   same_length (f ∷ files) = ap suc (same_length files)
 
-  pub same_place : (files : Files) → position (λ k. bytes_eq name (string_bytes k)) (keys_of files) ≡ position (λ (s : Source). bytes_eq name s.name) (sources_of files)
-  same_place files = ap₂ (λ n m. cond (nat_lt n m) (Some n) None) (same_prefix files) (same_length files)
+  pub same_index : (files : Files) → position (λ k. bytes_eq name (string_bytes k)) (keys_of files) ≡ position (λ (s : Source). bytes_eq name s.name) (sources_of files)
+  same_index files = ap₂ (λ n m. cond (nat_lt n m) (Some n) None) (same_prefix files) (same_length files)
 
   none_from : {X : Type 0} (o : Option X) → is_some o ≡ false → o ≡ None
   none_from None h = refl
@@ -38,9 +38,9 @@ module _ (name : List ℕ) where
   pub absent_key : (files : Files) → position (λ (s : Source). bytes_eq name s.name) (sources_of files) ≡ None → lookup (λ k. bytes_eq name (string_bytes k)) files ≡ None
   absent_key files h =
       let there = some_index (λ k. bytes_eq name (string_bytes k)) files in
-      none_from (lookup (λ k. bytes_eq name (string_bytes k)) files) (sym there ∙ ap is_some (same_place files ∙ h))
+      none_from (lookup (λ k. bytes_eq name (string_bytes k)) files) (sym there ∙ ap is_some (same_index files ∙ h))
 
--- the bytes of the source at a place are those that the map keeps there
+-- the bytes of the source at an index are those that the map keeps there
 pub bytes_at : (files : Files) (i : ℕ) (v : Vec ℕ Global) → slice_get (values_of files) i ≡ Some v → option_map (λ (s : Source). s.bytes) (slice_get (sources_of files) i) ≡ Some v.items
 bytes_at files i v h =
     ap (option_map (λ (s : Source). s.bytes)) (slice_get-map (λ (f : String Global × Vec ℕ Global). let s : Source = record { name = string_bytes f.0; bytes = f.1.items } in s) files i)

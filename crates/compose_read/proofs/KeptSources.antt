@@ -12,7 +12,7 @@ use Rattle.compose_read.specs.Rows.{Drafted}
 use Rattle.compose_read.specs.Progress.{read_so_far, reading_on}
 use Rattle.compose_read.specs.Kept.{given, are_faultless, IsKept, AreKept}
 use Rattle.compose_read.proofs.Pools.{piece_stays}
-use Rattle.compose_read.proofs.Given.{read_through, faultless_read}
+use Rattle.compose_read.proofs.Faultless.{read_through, faultless_read}
 use Rattle.compose_read.proofs.Again.{IsAgain, source_again}
 use Rattle.compose_read.specs.declared.kept.KeptSource.{KeptSource}
 use Rattle.compose_read.specs.declared.reading.Progress.{Progress}
@@ -22,13 +22,13 @@ module _ (names : KeysymNames) (sources : List Source) where
   pub none_kept : (table : List Definition) (kept : List (Option KeptSource)) → kept ≡ replicate 64 None → AreKept names sources table kept
   none_kept table kept e = subst (AreKept names sources table) (sym e) (λ source d l. subst (λ o. IfSome o (IsKept names sources table source)) (sym (get_or-replicate 64 source None d (omega (arith, l, length-replicate 64 (let o : Option KeptSource = None in o))))) tt)
 
-  by_place : (kept : List (Option KeptSource)) (source : ℕ) (k : KeptSource) → slice_get kept source ≡ Some (Some k) → (source < length kept) × (get_or kept source None ≡ Some k)
-  by_place [] source k h = cc
-  by_place (o ∷ kept) zero k h = (omega arith, same_Some o (Some k) h)
-  by_place (o ∷ kept) (suc source) k h = let behind = by_place kept source k h in (let l = behind.0 in omega arith, behind.1)
+  by_index : (kept : List (Option KeptSource)) (source : ℕ) (k : KeptSource) → slice_get kept source ≡ Some (Some k) → (source < length kept) × (get_or kept source None ≡ Some k)
+  by_index [] source k h = cc
+  by_index (o ∷ kept) zero k h = (omega arith, same_Some o (Some k) h)
+  by_index (o ∷ kept) (suc source) k h = let behind = by_index kept source k h in (let l = behind.0 in omega arith, behind.1)
 
   pub found_kept : (table : List Definition) (kept : List (Option KeptSource)) (source : ℕ) (k : KeptSource) → slice_get kept source ≡ Some (Some k) → AreKept names sources table kept → IsKept names sources table source k
-  found_kept table kept source k h are = let place = by_place kept source k h in subst (λ o. IfSome o (IsKept names sources table source)) place.1 (are source None place.0)
+  found_kept table kept source k h are = let found = by_index kept source k h in subst (λ o. IfSome o (IsKept names sources table source)) found.1 (are source None found.0)
 
   -- ---- more is read
 

@@ -4,11 +4,11 @@ pub mod Files
 pub mod Order
 pub mod SameSettled
 pub mod Neighbours
-pub mod Begins
+pub mod Prefixes
 pub mod Turns
 pub mod Pools
-pub mod Guess
-pub mod Places
+pub mod SortKeys
+pub mod Spans
 pub mod SettledRows
 pub mod SettledTable
 pub mod Events
@@ -21,6 +21,6 @@ pub mod IncludeWords
 pub mod FaultsSoFar
 pub mod Overlaps
 pub mod TextLines
-pub mod Given
+pub mod Faultless
 pub mod Again
 pub mod KeptSources

@@ -15,8 +15,8 @@ use Rattle.compose_model.specs.Nodes.{put, put_by, leaves}
 use Rattle.compose_model.proofs.NodeLemmas.{same_is, same_from}
 use Rattle.compose_model.proofs.Exact.{sequence_text}
 use Rattle.compose_read.specs.Settle.{row, in_order, Overlap, with_extension, overlap, or_overlap, settled}
-use Rattle.compose_read.specs.Neighbours.{begins_next, stays_before, put_if, settled_neighbours, SequencesAscend}
-use Rattle.compose_read.proofs.Order.{Before, not_both, not_same, before_later, not_own_prefix, later_no_prefix, begins_between}
+use Rattle.compose_read.specs.Neighbours.{prefix_of_next, stays_before, put_if, settled_neighbours, SequencesAscend}
+use Rattle.compose_read.proofs.Order.{Before, not_both, not_same, before_later, not_own_prefix, later_no_prefix, prefix_of_between}
 use Rattle.compose_read.proofs.SameSettled.{same_settled}
 use Rattle.compose_model.specs.declared.Rule.{Rule}
 use Rattle.compose_model.specs.declared.Rule.TheVariants.{Refuse, Longest}
@@ -58,7 +58,7 @@ or_none (Some x) = refl
 
 -- ---- rows in rising order
 
--- no row comes before the one in front of it
+-- no row is less than the previous one
 abbrev Ascends : List Definition → Type 0
 Ascends [] = Unit {0}
 Ascends (d ∷ []) = Unit {0}
@@ -96,9 +96,9 @@ above_leaves : (s : List ℕ) (rows : List Definition) → Above s rows → AllB
 above_leaves s [] a = tt
 above_leaves s (e ∷ rows) a = all_put (λ t. Before s t) e.sequence (leaves rows) a.0 (above_leaves s rows a.1)
 
-put_front : (s : List ℕ) (ss : List (List ℕ)) → AllByRecursion (λ t. Before s t) ss → put (slice_cmp nat_cmp) s ss ≡ s ∷ ss
-put_front s [] a = refl
-put_front s (t ∷ ss) a = ap (λ r. put_by r s t ss (put (slice_cmp nat_cmp) s ss)) a.0
+put_prefix : (s : List ℕ) (ss : List (List ℕ)) → AllByRecursion (λ t. Before s t) ss → put (slice_cmp nat_cmp) s ss ≡ s ∷ ss
+put_prefix s [] a = refl
+put_prefix s (t ∷ ss) a = ap (λ r. put_by r s t ss (put (slice_cmp nat_cmp) s ss)) a.0
 
 -- the least leaf is the first row's
 first_leaf : (e : Definition) (rows : List Definition) → Ascends (e ∷ rows) → (ss : List (List ℕ)) × (leaves (e ∷ rows) ≡ e.sequence ∷ ss)
@@ -112,11 +112,11 @@ first_leaf e (f ∷ rows) a = go (slice_cmp nat_cmp e.sequence f.sequence) refl 
         let less : slice_cmp nat_cmp f.sequence e.sequence ≡ Less = nat_list_cmp_total.antisymm f.sequence e.sequence ∙ ap ordering_reverse b in
         let clash : true ≡ false = sym (ap is_lt less) ∙ a.0 in cc)
 
--- ---- one row in front of rows that come after it
+-- ---- one row before rows that come after it
 
 module _ (d : Definition) (rows : List Definition) (above : Above d.sequence rows) where
-  front_leaves : leaves (d ∷ rows) ≡ d.sequence ∷ leaves rows
-  front_leaves = put_front d.sequence (leaves rows) (above_leaves d.sequence rows above)
+  prefix_leaves : leaves (d ∷ rows) ≡ d.sequence ∷ leaves rows
+  prefix_leaves = put_prefix d.sequence (leaves rows) (above_leaves d.sequence rows above)
 
   no_text : (es : List Definition) → Above d.sequence es → text_at es d.sequence ≡ None
   no_text [] a = refl
@@ -135,9 +135,9 @@ module _ (d : Definition) (rows : List Definition) (above : Above d.sequence row
       ap (λ c. let r : Definition = record { sequence = s; text = unwrap_or (option_or (text_at rows s) (cond c (Some d.text) None)) [] } in r) (not_same d.sequence s b)
       ∙ ap (λ o. let r : Definition = record { sequence = s; text = unwrap_or o [] } in r) (sym (or_none (text_at rows s)))
 
-  front_in_order : in_order (d ∷ rows) ≡ d ∷ in_order rows
-  front_in_order =
-      ap (map (row (d ∷ rows))) front_leaves
+  prefix_in_order : in_order (d ∷ rows) ≡ d ∷ in_order rows
+  prefix_in_order =
+      ap (map (row (d ∷ rows))) prefix_leaves
       ∙ (λ i. own_row i ∷ map_where (λ s. Before d.sequence s) (row (d ∷ rows)) (row rows) (leaves rows) other_row (above_leaves d.sequence rows above) i)
 
   behind_extended : (s : List ℕ) → Before d.sequence s → is_extended (d ∷ rows) s ≡ is_extended rows s
@@ -146,18 +146,18 @@ module _ (d : Definition) (rows : List Definition) (above : Above d.sequence row
   own_extended : is_extended (d ∷ rows) d.sequence ≡ is_extended rows d.sequence
   own_extended = ap (λ c. c || is_extended rows d.sequence) (not_own_prefix d.sequence)
 
-  front_extension : (o : Option (List ℕ)) → ((s : List ℕ) → o ≡ Some s → Before d.sequence s) → with_extension (d ∷ rows) o ≡ with_extension rows o
-  front_extension None f = refl
-  front_extension (Some s) f =
-      ap (λ ls. let o : Overlap = record { short = s; long = unwrap_or (find (is_proper_prefix s) ls) [] } in Some o) front_leaves
+  prefix_extension : (o : Option (List ℕ)) → ((s : List ℕ) → o ≡ Some s → Before d.sequence s) → with_extension (d ∷ rows) o ≡ with_extension rows o
+  prefix_extension None f = refl
+  prefix_extension (Some s) f =
+      ap (λ ls. let o : Overlap = record { short = s; long = unwrap_or (find (is_proper_prefix s) ls) [] } in Some o) prefix_leaves
       ∙ ap (λ b. let o : Overlap = record { short = s; long = unwrap_or (cond b (Some d.sequence) (find (is_proper_prefix s) (leaves rows))) [] } in Some o) (later_no_prefix d.sequence s (f s refl))
 
   found_behind : find (is_extended (d ∷ rows)) (leaves (d ∷ rows)) ≡ cond (is_extended rows d.sequence) (Some d.sequence) (find (is_extended rows) (leaves rows))
   found_behind =
-      ap (find (is_extended (d ∷ rows))) front_leaves
+      ap (find (is_extended (d ∷ rows))) prefix_leaves
       ∙ (λ i. cond (own_extended i) (Some d.sequence) (find_where (λ s. Before d.sequence s) (is_extended (d ∷ rows)) (is_extended rows) (leaves rows) behind_extended (above_leaves d.sequence rows above) i))
 
--- ---- what becomes of the front row
+-- ---- what becomes of the first row
 
 put_in : (d : Definition) (rows : List Definition) (o : Option Overlap) → or_overlap o (d ∷ rows) ≡ put_if d (Ok true) (or_overlap o rows)
 put_in d rows None = refl
@@ -172,33 +172,33 @@ module _ (d : Definition) (rows : List Definition) (above : Above d.sequence row
   above_longest : Above d.sequence (longest rows)
   above_longest = all_kept (λ (e : Definition). Before d.sequence e.sequence) (λ e. not (is_extended rows e.sequence)) rows above
 
-  longest_front : longest (d ∷ rows) ≡ cond (not (is_extended rows d.sequence)) (d ∷ longest rows) (longest rows)
-  longest_front = λ i. cond (not (own_extended d rows above i)) (d ∷ others_longest i) (others_longest i)
+  longest_prefix : longest (d ∷ rows) ≡ cond (not (is_extended rows d.sequence)) (d ∷ longest rows) (longest rows)
+  longest_prefix = λ i. cond (not (own_extended d rows above i)) (d ∷ others_longest i) (others_longest i)
 
   overlap_behind : is_extended rows d.sequence ≡ false → overlap (d ∷ rows) ≡ overlap rows
   overlap_behind h =
       ap (with_extension (d ∷ rows)) (found_behind d rows above ∙ ap (λ b. cond b (Some d.sequence) (find (is_extended rows) (leaves rows))) h)
-      ∙ front_extension d rows above (find (is_extended rows) (leaves rows)) (λ s e. found_has (λ s. Before d.sequence s) (is_extended rows) (leaves rows) s e (above_leaves d.sequence rows above))
+      ∙ prefix_extension d rows above (find (is_extended rows) (leaves rows)) (λ s e. found_has (λ s. Before d.sequence s) (is_extended rows) (leaves rows) s e (above_leaves d.sequence rows above))
 
   -- a row that no other extends stays, and the others are settled as without it
-  front_stays : (rule : Rule) → is_extended rows d.sequence ≡ false → settled rule (d ∷ rows) ≡ put_if d (Ok true) (settled rule rows)
-  front_stays Refuse h = (λ i. or_overlap (overlap_behind h i) (front_in_order d rows above i)) ∙ put_in d (in_order rows) (overlap rows)
-  front_stays Longest h =
-      let kept : longest (d ∷ rows) ≡ d ∷ longest rows = longest_front ∙ ap (λ b. cond (not b) (d ∷ longest rows) (longest rows)) h in
-      ap Ok (ap in_order kept ∙ front_in_order d (longest rows) above_longest)
+  prefix_stays : (rule : Rule) → is_extended rows d.sequence ≡ false → settled rule (d ∷ rows) ≡ put_if d (Ok true) (settled rule rows)
+  prefix_stays Refuse h = (λ i. or_overlap (overlap_behind h i) (prefix_in_order d rows above i)) ∙ put_in d (in_order rows) (overlap rows)
+  prefix_stays Longest h =
+      let kept : longest (d ∷ rows) ≡ d ∷ longest rows = longest_prefix ∙ ap (λ b. cond (not b) (d ∷ longest rows) (longest rows)) h in
+      ap Ok (ap in_order kept ∙ prefix_in_order d (longest rows) above_longest)
 
   -- where `Longest` leaves out what is extended
-  front_overridden : is_extended rows d.sequence ≡ true → settled Longest (d ∷ rows) ≡ settled Longest rows
-  front_overridden h = ap (λ t. let r : Result (List Definition) Overlap = Ok (in_order t) in r) (longest_front ∙ ap (λ b. cond (not b) (d ∷ longest rows) (longest rows)) h)
+  prefix_overridden : is_extended rows d.sequence ≡ true → settled Longest (d ∷ rows) ≡ settled Longest rows
+  prefix_overridden h = ap (λ t. let r : Result (List Definition) Overlap = Ok (in_order t) in r) (longest_prefix ∙ ap (λ b. cond (not b) (d ∷ longest rows) (longest rows)) h)
 
   -- where `Refuse` refuses it, beside the least of its extensions
-  front_refused : (e : List ℕ) (ss : List (List ℕ)) → leaves rows ≡ e ∷ ss → is_proper_prefix d.sequence e ≡ true → is_extended rows d.sequence ≡ true → settled Refuse (d ∷ rows) ≡ Err (record { short = d.sequence; long = e })
-  front_refused e ss first begins h =
+  prefix_refused : (e : List ℕ) (ss : List (List ℕ)) → leaves rows ≡ e ∷ ss → is_proper_prefix d.sequence e ≡ true → is_extended rows d.sequence ≡ true → settled Refuse (d ∷ rows) ≡ Err (record { short = d.sequence; long = e })
+  prefix_refused e ss first is_prefix h =
       ap (λ o. or_overlap (with_extension (d ∷ rows) o) (in_order (d ∷ rows))) (found_behind d rows above ∙ ap (λ b. cond b (Some d.sequence) (find (is_extended rows) (leaves rows))) h)
       ∙ ap (λ l. let o : Overlap = record { short = d.sequence; long = unwrap_or l [] } in or_overlap (Some o) (in_order (d ∷ rows))) (
-      ap (find (is_proper_prefix d.sequence)) (front_leaves d rows above ∙ ap (λ ls. d.sequence ∷ ls) first)
+      ap (find (is_proper_prefix d.sequence)) (prefix_leaves d rows above ∙ ap (λ ls. d.sequence ∷ ls) first)
       ∙ ap (λ b. cond b (Some d.sequence) (cond (is_proper_prefix d.sequence e) (Some e) (find (is_proper_prefix d.sequence) ss))) (not_own_prefix d.sequence)
-      ∙ ap (λ b. cond b (Some e) (find (is_proper_prefix d.sequence) ss)) begins)
+      ∙ ap (λ b. cond b (Some e) (find (is_proper_prefix d.sequence) ss)) is_prefix)
 
 -- ---- all rows
 
@@ -221,7 +221,7 @@ later_rows e (f ∷ rows) a = (a.0, through rows (later_rows f rows a.1))
 none_extends : (s : List ℕ) (e : List ℕ) (rows : List Definition) → Before s e → is_proper_prefix s e ≡ false → NotBefore e rows → is_extended rows s ≡ false
 none_extends s e [] b h l = refl
 none_extends s e (x ∷ rows) b h l = elim (cases_Bool (is_proper_prefix s x.sequence)) [
-  | inl p ↦ absurd (let clash : true ≡ false = sym (begins_between s e x.sequence p b l.0) ∙ h in cc)
+  | inl p ↦ absurd (let clash : true ≡ false = sym (prefix_of_between s e x.sequence p b l.0) ∙ h in cc)
   | inr p ↦ ap (λ c. c || is_extended rows s) p ∙ none_extends s e rows b h l.1
 ]
 
@@ -264,27 +264,27 @@ module _ (d e : Definition) (rows : List Definition) (a : Ascends (d ∷ e ∷ r
   extended_as : (b : Bool) → is_proper_prefix d.sequence e.sequence ≡ b → is_extended (e ∷ rows) d.sequence ≡ b
   extended_as b p = extended_by_first d.sequence e rows next_later a.1 ∙ p
 
-  begins : (rule : Rule) → is_proper_prefix d.sequence e.sequence ≡ true → put_if d (begins_next rule d e) (settled rule (e ∷ rows)) ≡ settled rule (d ∷ e ∷ rows)
-  begins Refuse p = let first = first_leaf e rows a.1 in sym (front_refused d (e ∷ rows) behind_first e.sequence first.0 first.1 p (extended_as true p))
-  begins Longest p = sym (front_overridden d (e ∷ rows) behind_first (extended_as true p))
+  is_prefix : (rule : Rule) → is_proper_prefix d.sequence e.sequence ≡ true → put_if d (prefix_of_next rule d e) (settled rule (e ∷ rows)) ≡ settled rule (d ∷ e ∷ rows)
+  is_prefix Refuse p = let first = first_leaf e rows a.1 in sym (prefix_refused d (e ∷ rows) behind_first e.sequence first.0 first.1 p (extended_as true p))
+  is_prefix Longest p = sym (prefix_overridden d (e ∷ rows) behind_first (extended_as true p))
 
-  unlike : (rule : Rule) → put_if d (cond (is_proper_prefix d.sequence e.sequence) (begins_next rule d e) (Ok true)) (settled rule (e ∷ rows)) ≡ settled rule (d ∷ e ∷ rows)
+  unlike : (rule : Rule) → put_if d (cond (is_proper_prefix d.sequence e.sequence) (prefix_of_next rule d e) (Ok true)) (settled rule (e ∷ rows)) ≡ settled rule (d ∷ e ∷ rows)
   unlike rule = elim (cases_Bool (is_proper_prefix d.sequence e.sequence)) [
-    | inl p ↦ ap (λ b. put_if d (cond b (begins_next rule d e) (Ok true)) (settled rule (e ∷ rows))) p ∙ begins rule p
-    | inr p ↦ ap (λ b. put_if d (cond b (begins_next rule d e) (Ok true)) (settled rule (e ∷ rows))) p ∙ sym (front_stays d (e ∷ rows) behind_first rule (extended_as false p))
+    | inl p ↦ ap (λ b. put_if d (cond b (prefix_of_next rule d e) (Ok true)) (settled rule (e ∷ rows))) p ∙ is_prefix rule p
+    | inr p ↦ ap (λ b. put_if d (cond b (prefix_of_next rule d e) (Ok true)) (settled rule (e ∷ rows))) p ∙ sym (prefix_stays d (e ∷ rows) behind_first rule (extended_as false p))
   ]
 
 settled_in_turn : (rule : Rule) (rows : List Definition) → Ascends rows → settled_neighbours rule rows ≡ settled rule rows
 settled_in_turn Refuse [] a = refl
 settled_in_turn Longest [] a = refl
-settled_in_turn Refuse (d ∷ []) a = sym (front_stays d [] tt Refuse refl)
-settled_in_turn Longest (d ∷ []) a = sym (front_stays d [] tt Longest refl)
+settled_in_turn Refuse (d ∷ []) a = sym (prefix_stays d [] tt Refuse refl)
+settled_in_turn Longest (d ∷ []) a = sym (prefix_stays d [] tt Longest refl)
 settled_in_turn rule (d ∷ e ∷ rows) a =
     ap (put_if d (stays_before rule d e)) (settled_in_turn rule (e ∷ rows) a.1)
     ∙ elim (cases_Bool (same d.sequence e.sequence)) [
-      | inl s ↦ ap (λ b. put_if d (cond b (Ok false) (cond (is_proper_prefix d.sequence e.sequence) (begins_next rule d e) (Ok true))) (settled rule (e ∷ rows))) s
+      | inl s ↦ ap (λ b. put_if d (cond b (Ok false) (cond (is_proper_prefix d.sequence e.sequence) (prefix_of_next rule d e) (Ok true))) (settled rule (e ∷ rows))) s
           ∙ sym (same_settled rule (d ∷ e ∷ rows) (e ∷ rows) (repeated d e rows s))
-      | inr s ↦ ap (λ b. put_if d (cond b (Ok false) (cond (is_proper_prefix d.sequence e.sequence) (begins_next rule d e) (Ok true))) (settled rule (e ∷ rows))) s ∙ unlike d e rows a s rule
+      | inr s ↦ ap (λ b. put_if d (cond b (Ok false) (cond (is_proper_prefix d.sequence e.sequence) (prefix_of_next rule d e) (Ok true))) (settled rule (e ∷ rows))) s ∙ unlike d e rows a s rule
     ]
 
 -- sorted rows settle as the definitions that they were

@@ -13,7 +13,7 @@ use Rattle.compose_lex.specs.declared.LexFault.{LexFault}
 use Rattle.compose_lex.specs.declared.LexFault.TheVariants as lex_faults
 use Rattle.compose_read.specs.Lines.{Source, included, included_by}
 use Rattle.compose_read.specs.Read.{at_line, definition_of, include_fault, said, line_gives}
-use Rattle.compose_read.specs.Given.{ReadGives}
+use Rattle.compose_read.specs.ReadGives.{ReadGives}
 use Rattle.compose_read.specs.Progress.{visit, lifted, no_definition, FindsLine}
 use Rattle.compose_read.specs.declared.line.Found.TheVariants as found
 use Rattle.compose_read.specs.declared.line.Place.{Place}

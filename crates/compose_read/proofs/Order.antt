@@ -1,4 +1,4 @@
--- Sequences in their order: a proper prefix comes before its extensions, and begins all that stand between.
+-- Sequences in their order: a proper prefix comes before its extensions, and is a prefix of all that stand between.
 use Rattle.std.proofs.Common.{◌≡◌, ℕ, List, [], ◌∷◌, Bool, true, false, cond, ◌&&◌, refl, sym, ◌∙◌, ap, inl, inr, Less, Equal, Greater, nat_cmp, nat_lt, eqb-true, arith}
 use Rattle.std.specs.Prelude.{◌==◌}
 use Rattle.std.specs.declared.cmp.Ordering.{Ordering}
@@ -78,16 +78,16 @@ later_no_prefix s t h = elim (cases_Bool (is_proper_prefix t s)) [
   | inr e ↦ e
 ]
 
--- a prefix of s begins all between it and s
-pub begins_between : (p q s : List ℕ) → is_proper_prefix p s ≡ true → Before p q → is_lt (slice_cmp nat_cmp s q) ≡ false → is_proper_prefix p q ≡ true
-begins_between [] [] s h b l = cc
-begins_between [] (z ∷ q) s h b l = refl
-begins_between (x ∷ p) q [] h b l = cc
-begins_between (x ∷ p) [] (y ∷ s) h b l = cc
-begins_between (x ∷ p) (z ∷ q) (y ∷ s) h b l =
+-- a prefix of s is a prefix of all between it and s
+pub prefix_of_between : (p q s : List ℕ) → is_proper_prefix p s ≡ true → Before p q → is_lt (slice_cmp nat_cmp s q) ≡ false → is_proper_prefix p q ≡ true
+prefix_of_between [] [] s h b l = cc
+prefix_of_between [] (z ∷ q) s h b l = refl
+prefix_of_between (x ∷ p) q [] h b l = cc
+prefix_of_between (x ∷ p) [] (y ∷ s) h b l = cc
+prefix_of_between (x ∷ p) (z ∷ q) (y ∷ s) h b l =
     let a = and_parts (x == y) (is_proper_prefix p s) h in
     let is : x ≡ y = eqb-true x y a.0 in
-    go (nat_cmp x z) refl (begins_between p q s a.1) b (ap (λ n. is_lt (ordering_then (nat_cmp n z) (slice_cmp nat_cmp s q))) is ∙ l)
+    go (nat_cmp x z) refl (prefix_of_between p q s a.1) b (ap (λ n. is_lt (ordering_then (nat_cmp n z) (slice_cmp nat_cmp s q))) is ∙ l)
   where
     go : (o : Ordering) → nat_cmp x z ≡ o → (Before p q → is_lt (slice_cmp nat_cmp s q) ≡ false → is_proper_prefix p q ≡ true) → ordering_then o (slice_cmp nat_cmp p q) ≡ Less → is_lt (ordering_then (nat_cmp x z) (slice_cmp nat_cmp s q)) ≡ false
         → x == z && is_proper_prefix p q ≡ true

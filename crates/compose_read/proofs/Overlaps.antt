@@ -96,7 +96,7 @@ module _ (table : List Definition) (short : List ℕ) (found : find (is_extended
       subst (IsLeastOverlap table) is (record {
         short = sym (is_leaf table short) ∙ found_inside (is_extended table) (leaves table) short found;
         long = sym (is_leaf table long) ∙ found_inside (is_proper_prefix short) (leaves table) long longer.1;
-        begins = found_passes (is_proper_prefix short) (leaves table) long longer.1;
+        is_prefix = found_passes (is_proper_prefix short) (leaves table) long longer.1;
         least = λ s t i j p. ap not (found_least (is_extended table) (leaves table) short s (leaves_rise table) found (is_leaf table s ∙ i) (extended_from table s t p j));
         nearest = λ t j p. ap not (found_least (is_proper_prefix short) (leaves table) long t (leaves_rise table) longer.1 (is_leaf table t ∙ j) p);
       })

@@ -17,7 +17,7 @@ use Rattle.compose_lex.specs.declared.LexFault.{LexFault}
 use Rattle.compose_lex.specs.declared.LexFault.TheVariants as lex_faults
 use Rattle.compose_read.specs.Read.{max_definitions}
 use Rattle.compose_read.specs.Rows.{definition_at, rows_of, IsPlaced, ArePlaced, IsBefore, IsBehind, Drafted, drafted, no_row, with_row}
-use Rattle.compose_read.specs.declared.rows.RowPlace.{RowPlace}
+use Rattle.compose_read.specs.declared.rows.RowSpan.{RowSpan}
 
 -- ---- pieces
 
@@ -26,7 +26,7 @@ pub piece_stays : {X : Type 0} (a n : ℕ) (xs ys : List X) → a + n ≤ length
 piece_stays a n xs ys h =
     ap (take n) (drop-append-le a xs ys (omega arith)) ∙ take-append-le n (drop a xs) ys (let l = length-drop a xs in omega arith)
 
--- what follows a place is a piece
+-- what follows an offset is a piece
 rest_taken : {X : Type 0} (first : ℕ) (xs : List X) (count from : ℕ) → from ≡ first → count ≡ length xs - first → take count (drop from xs) ≡ drop first xs
 rest_taken first xs count from e f =
     (let l = length-drop first xs in let n : count ≡ length (drop first xs) = omega arith in ap₂ (λ n a. take n (drop a xs)) n e) ∙ take-length (drop first xs)
@@ -39,7 +39,7 @@ boundary_stays bs text i u h = elim (cases_Bool (nat_lt i (length bs))) [
       subst (IsCharBoundary (bs ++ text)) end (IsCharBoundary-at_seam (bs ++ text) bs text refl u))
 ]
 
--- a boundary of the front
+-- a boundary of the prefix
 boundary_before : (bs : List ℕ) (end i : ℕ) → end ≤ length bs → i ≤ end → IsCharBoundary bs i → IsCharBoundary (take end bs) i
 boundary_before bs end i l m h =
     let n = length-take-le end bs l in (
@@ -53,7 +53,7 @@ boundary_before bs end i l m h =
 -- ---- rows
 
 module _ (keysyms texts more text : List ℕ) (u : IsUtf8 text) where
-  placed_stays : (p : RowPlace) → IsPlaced keysyms texts p → IsPlaced (keysyms ++ more) (texts ++ text) p
+  placed_stays : (p : RowSpan) → IsPlaced keysyms texts p → IsPlaced (keysyms ++ more) (texts ++ text) p
   placed_stays p h = record {
     few = h.few;
     keysyms_within = (let l = length-append keysyms more in let w = h.keysyms_within in omega arith);
@@ -61,26 +61,26 @@ module _ (keysyms texts more text : List ℕ) (u : IsUtf8 text) where
     ends = boundary_stays texts text (p.first_byte + p.byte_count) u h.ends;
   }
 
-  pub all_placed_stay : (ps : List RowPlace) → ArePlaced keysyms texts ps → ArePlaced (keysyms ++ more) (texts ++ text) ps
+  pub all_placed_stay : (ps : List RowSpan) → ArePlaced keysyms texts ps → ArePlaced (keysyms ++ more) (texts ++ text) ps
   all_placed_stay ps h = λ k d l. placed_stays (get_or ps k d) (h k d l)
 
-  row_stays : (p : RowPlace) → IsPlaced keysyms texts p → definition_at (keysyms ++ more) (texts ++ text) p ≡ definition_at keysyms texts p
+  row_stays : (p : RowSpan) → IsPlaced keysyms texts p → definition_at (keysyms ++ more) (texts ++ text) p ≡ definition_at keysyms texts p
   row_stays p h = ap₂ (λ s t. let d : Definition = record { sequence = s; text = t } in d)
       (piece_stays p.first_keysym p.keysym_count keysyms more h.keysyms_within)
       (piece_stays p.first_byte p.byte_count texts text h.ends.0)
 
-  pub rows_stay : (ps : List RowPlace) → ArePlaced keysyms texts ps → rows_of (keysyms ++ more) (texts ++ text) ps ≡ rows_of keysyms texts ps
+  pub rows_stay : (ps : List RowSpan) → ArePlaced keysyms texts ps → rows_of (keysyms ++ more) (texts ++ text) ps ≡ rows_of keysyms texts ps
   rows_stay [] h = refl
   rows_stay (p ∷ ps) h = ap₂ (λ d ds. d ∷ ds) (row_stays p (h 0 p (omega arith))) (rows_stay ps (λ k d l. h (suc k) d (omega arith)))
 
--- rows that stand before these places stand in the fronts that end there
+-- rows that stand before these offsets stand in the prefixes that end there
 module _ (keysyms texts : List ℕ) (first_keysym first_byte : ℕ) (l : first_keysym ≤ length keysyms) (m : first_byte ≤ length texts) where
   piece_before : (end a n : ℕ) (xs : List ℕ) → end ≤ length xs → a + n ≤ end → take n (drop a (take end xs)) ≡ take n (drop a xs)
   piece_before end a n xs within h =
       sym (piece_stays a n (take end xs) (drop end xs) (let k = length-take-le end xs within in omega arith))
       ∙ ap (λ (ys : List ℕ). take n (drop a ys)) (take-append-drop end xs)
 
-  pub rows_before : (ps : List RowPlace) → All (IsBefore first_keysym first_byte) ps → rows_of (take first_keysym keysyms) (take first_byte texts) ps ≡ rows_of keysyms texts ps
+  pub rows_before : (ps : List RowSpan) → All (IsBefore first_keysym first_byte) ps → rows_of (take first_keysym keysyms) (take first_byte texts) ps ≡ rows_of keysyms texts ps
   rows_before [] h = refl
   rows_before (p ∷ ps) h = let here = h 0 p (omega arith) in ap₂ (λ d ds. d ∷ ds)
       (ap₂ (λ s t. let d : Definition = record { sequence = s; text = t } in d)
@@ -90,10 +90,10 @@ module _ (keysyms texts : List ℕ) (first_keysym first_byte : ℕ) (l : first_k
 
 -- ---- definitions that are being read
 
-abbrev pub IsDrafted : List ℕ → List ℕ → List RowPlace → ℕ → ℕ → Type 0
-IsDrafted keysyms texts places first_keysym first_byte = ArePlaced keysyms texts places × (first_keysym ≤ length keysyms) × IsCharBoundary texts first_byte × IsTrue (is_table (rows_of keysyms texts places)) × IsBehind places first_keysym first_byte
+abbrev pub IsDrafted : List ℕ → List ℕ → List RowSpan → ℕ → ℕ → Type 0
+IsDrafted keysyms texts spans first_keysym first_byte = ArePlaced keysyms texts spans × (first_keysym ≤ length keysyms) × IsCharBoundary texts first_byte × IsTrue (is_table (rows_of keysyms texts spans)) × IsBehind spans first_keysym first_byte
 
-module _ (ks ts : List ℕ) (ps : List RowPlace) (fk fb : ℕ) (is : IsDrafted ks ts ps fk fb) where
+module _ (ks ts : List ℕ) (ps : List RowSpan) (fk fb : ℕ) (is : IsDrafted ks ts ps fk fb) where
   module _ (more text : List ℕ) (u : IsUtf8 text) where
     grown : IsDrafted (ks ++ more) (ts ++ text) ps fk fb
     grown = (
@@ -108,9 +108,9 @@ module _ (ks ts : List ℕ) (ps : List RowPlace) (fk fb : ℕ) (is : IsDrafted k
     drafted_grown = (λ i. let d : Drafted = record { table = rows_stay ks ts more text u ps is.0 i; row = record { sequence = drop-append-le fk ks more is.1 i; text = drop-append-le fb ts text is.2.0 i } } in d)
 
   -- without what is being read
-  module _ (front text : List ℕ) (k : front ≡ take fk ks) (t : text ≡ take fb ts) where
-    front_placed : ArePlaced (take fk ks) (take fb ts) ps
-    front_placed i d l =
+  module _ (prefix text : List ℕ) (k : prefix ≡ take fk ks) (t : text ≡ take fb ts) where
+    prefix_placed : ArePlaced (take fk ks) (take fb ts) ps
+    prefix_placed i d l =
         let p = is.0 i d l in let before = is.4.each i d l in let keysyms = length-take-le fk ks is.1 in record {
           few = p.few;
           keysyms_within = omega (arith, keysyms, before.0);
@@ -121,16 +121,16 @@ module _ (ks ts : List ℕ) (ps : List RowPlace) (fk fb : ℕ) (is : IsDrafted k
     same_rows : rows_of (take fk ks) (take fb ts) ps ≡ rows_of ks ts ps
     same_rows = rows_before ks ts fk fb is.1 is.2.0 ps is.4.each
 
-    pub begun : IsDrafted front text ps fk fb
+    pub begun : IsDrafted prefix text ps fk fb
     begun = subst (λ a. IsDrafted a text ps fk fb) (sym k) (subst (λ b. IsDrafted (take fk ks) b ps fk fb) (sym t) (
-      front_placed,
+      prefix_placed,
       (let n = length-take-le fk ks is.1 in omega arith),
       boundary_before ts fb fb is.2.0 (omega arith) is.2,
       subst (λ rows. is_table rows ≡ true) (sym same_rows) is.3,
       is.4,
     ))
 
-    pub drafted_begun : drafted front text ps fk fb ≡ with_row (drafted ks ts ps fk fb) no_row
+    pub drafted_begun : drafted prefix text ps fk fb ≡ with_row (drafted ks ts ps fk fb) no_row
     drafted_begun =
         ap₂ (λ a b. drafted a b ps fk fb) k t
         ∙ (λ i. let d : Drafted = record { table = same_rows i; row = record { sequence = none_left fk ks i; text = none_left fb ts i } } in d)
@@ -191,27 +191,27 @@ module _ (ks ts : List ℕ) (ps : List RowPlace) (fk fb : ℕ) (is : IsDrafted k
         go (Ok _) f = (f.0, ap (drop fb) f.1 ∙ drop-append-le fb ts f.0 is.2.0, f.2, f.3)
         go (Err e) f = tt
 
-  -- with some of the places again
-  module _ (first count : ℕ) (room : length (rows_of ks ts ps) + count ≤ max_definitions) (qs : List RowPlace) (e : qs ≡ ps ++ take count (drop first ps)) where
+  -- with some of the spans again
+  module _ (first count : ℕ) (room : length (rows_of ks ts ps) + count ≤ max_definitions) (qs : List RowSpan) (e : qs ≡ ps ++ take count (drop first ps)) where
     pub rows_repeated : rows_of ks ts qs ≡ rows_of ks ts ps ++ take count (drop first (rows_of ks ts ps))
     rows_repeated =
         ap (rows_of ks ts) e ∙ map-append (definition_at ks ts) ps (take count (drop first ps))
         ∙ ap (λ rows. rows_of ks ts ps ++ rows) (sym (take-map (definition_at ks ts) count (drop first ps)) ∙ ap (take count) (sym (drop-map (definition_at ks ts) first ps)))
 
     definitions_again : is_table (take count (drop first (rows_of ks ts ps))) ≡ true
-    definitions_again = front_of (drop first (rows_of ks ts ps)) (rest_of (rows_of ks ts ps) is.3)
+    definitions_again = prefix_of (drop first (rows_of ks ts ps)) (rest_of (rows_of ks ts ps) is.3)
       where
         rest_of : (rows : List Definition) → is_table rows ≡ true → is_table (drop first rows) ≡ true
         rest_of rows h = (and_parts (is_table (take first rows)) (is_table (drop first rows)) (sym (list_all-append is_definition (take first rows) (drop first rows)) ∙ ap is_table (take-append-drop first rows) ∙ h)).1
 
-        front_of : (rows : List Definition) → is_table rows ≡ true → is_table (take count rows) ≡ true
-        front_of rows h = (and_parts (is_table (take count rows)) (is_table (drop count rows)) (sym (list_all-append is_definition (take count rows) (drop count rows)) ∙ ap is_table (take-append-drop count rows) ∙ h)).0
+        prefix_of : (rows : List Definition) → is_table rows ≡ true → is_table (take count rows) ≡ true
+        prefix_of rows h = (and_parts (is_table (take count rows)) (is_table (drop count rows)) (sym (list_all-append is_definition (take count rows) (drop count rows)) ∙ ap is_table (take-append-drop count rows) ∙ h)).0
 
     behind_again : IsBehind qs fk fb
     behind_again =
         let all = is.4 in
         let old = length-map ps (definition_at ks ts) in
-        let many = ap (λ (rs : List RowPlace). length rs) e ∙ length-append ps (take count (drop first ps)) in
+        let many = ap (λ (rs : List RowSpan). length rs) e ∙ length-append ps (take count (drop first ps)) in
         let more = length-take count (drop first ps) in record {
           few = omega (arith, room, old, many, more);
           keysyms = (let n = all.keysyms in omega (arith, n, many));
@@ -229,8 +229,8 @@ module _ (ks ts : List ℕ) (ps : List RowPlace) (fk fb : ℕ) (is : IsDrafted k
       behind_again,
     )
 
-  -- with the place of the one that was read
-  module _ (p : RowPlace) (keysym_from : p.first_keysym ≡ fk) (byte_from : p.first_byte ≡ fb) (keysym_count : p.keysym_count ≡ length ks - fk) (byte_count : p.byte_count ≡ length ts - fb)
+  -- with the span of the one that was read
+  module _ (p : RowSpan) (keysym_from : p.first_keysym ≡ fk) (byte_from : p.first_byte ≡ fb) (keysym_count : p.keysym_count ≡ length ks - fk) (byte_count : p.byte_count ≡ length ts - fb)
       (definition : is_definition (record { sequence = drop fk ks; text = drop fb ts }) ≡ true) where
     row_there : definition_at ks ts p ≡ record { sequence = drop fk ks; text = drop fb ts }
     row_there = (λ i. let d : Definition = record { sequence = rest_taken fk ks p.keysym_count p.first_keysym keysym_from keysym_count i; text = rest_taken fb ts p.byte_count p.first_byte byte_from byte_count i } in d)
@@ -270,5 +270,5 @@ module _ (ks ts : List ℕ) (ps : List RowPlace) (fk fb : ℕ) (is : IsDrafted k
           ),
     )
 
-    pub finished_with : (qs : List RowPlace) → qs ≡ ps ++ p ∷ [] → length (rows_of ks ts ps) < max_definitions → (fk fb : ℕ) → fk ≡ length ks → fb ≡ length ts → IsDrafted ks ts qs fk fb
+    pub finished_with : (qs : List RowSpan) → qs ≡ ps ++ p ∷ [] → length (rows_of ks ts ps) < max_definitions → (fk fb : ℕ) → fk ≡ length ks → fb ≡ length ts → IsDrafted ks ts qs fk fb
     finished_with qs e room fk fb k b = subst (λ ps. IsDrafted ks ts ps fk fb) (sym e) (subst (λ n. IsDrafted ks ts (ps ++ p ∷ []) n fb) (sym k) (subst (IsDrafted ks ts (ps ++ p ∷ []) (length ks)) (sym b) (finished room)))

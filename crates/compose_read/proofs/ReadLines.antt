@@ -8,9 +8,9 @@ use Rattle.keysym_core.specs.Names.{KeysymNames}
 use Rattle.compose_read.specs.Lines.{Source, Visit, included, source_named, visits, max_depth, numbered, own_lines, source_lines, visits_below}
 use Rattle.compose_read.specs.Visits.{below, left_to_visit}
 use Rattle.compose_read.specs.Rows.{Drafted, no_row}
-use Rattle.compose_read.specs.Progress.{front, read_so_far, reading_on, ReadsOn}
+use Rattle.compose_read.specs.Progress.{with_prefix, read_so_far, reading_on, ReadsOn}
 use Rattle.compose_read.specs.Read.{read_on, definitions_of}
-use Rattle.compose_read.specs.Given.{ReadGives}
+use Rattle.compose_read.specs.ReadGives.{ReadGives}
 use Rattle.compose_model.specs.Table.{Definition}
 use Rattle.std.specs.Str.{bytes_eq}
 use Rattle.std.proofs.lemmas.List.{append-nil}
@@ -132,13 +132,13 @@ module _ (names : KeysymNames) (sources : List Source) (left source depth line :
 abbrev nothing : Drafted
 nothing = record { table = []; row = no_row }
 
-none_in_front : (r : Result (List Definition) ReadFault) → front [] r ≡ r
-none_in_front (Ok table) = refl
-none_in_front (Err e) = refl
+none_before : (r : Result (List Definition) ReadFault) → with_prefix [] r ≡ r
+none_before (Ok table) = refl
+none_before (Err e) = refl
 
 module _ (names : KeysymNames) (sources : List Source) (root : List ℕ) (source : ℕ) (named : position (λ (s : Source). bytes_eq root s.name) sources ≡ Some source) where
   root_read : definitions_of names sources root ≡ reading_on names sources (read_so_far 0 nothing) (visits_below sources 8 source ++ [])
-  root_read = go (nat_lt (source_named sources root) (length sources)) named ∙ sym (none_in_front (read_on names sources 0 0 (visits_below sources 8 source))) ∙ ap (λ vs. front [] (read_on names sources 0 0 vs)) (sym (append-nil (visits_below sources 8 source)))
+  root_read = go (nat_lt (source_named sources root) (length sources)) named ∙ sym (none_before (read_on names sources 0 0 (visits_below sources 8 source))) ∙ ap (λ vs. with_prefix [] (read_on names sources 0 0 vs)) (sym (append-nil (visits_below sources 8 source)))
     where
       go : (b : Bool) → (let o : Option ℕ = cond b (Some (source_named sources root)) None in o) ≡ Some source
           → cond b (read_on names sources 0 0 (visits sources (source_named sources root))) (Err faults.MissingRoot) ≡ read_on names sources 0 0 (visits_below sources 8 source)

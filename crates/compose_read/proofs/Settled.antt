@@ -60,7 +60,7 @@ rows_rise table (s ∷ t ∷ ss) h = and_from (is_lt (slice_cmp nat_cmp s t)) (s
 pub in_order_rises : (table : List Definition) → sequences_rise (in_order table) ≡ true
 in_order_rises table = rows_rise table (leaves table) (rising_sorted nat_list_cmp_total (map (λ (d : Definition). d.sequence) table))
 
--- ---- none begins another
+-- ---- none is a prefix of another
 
 rows_pass : (p : List ℕ → Bool) (table : List Definition) (ss : List (List ℕ)) → ((s : List ℕ) → list_any (same s) ss ≡ true → p s ≡ true) → list_all (λ (d : Definition). p d.sequence) (map (row table) ss) ≡ true
 rows_pass p table [] f = refl

@@ -13,7 +13,7 @@ use Rattle.compose_text.proofs.LineParts.{lines-some, lines-whole}
 abbrev is_newline : ℕ → Bool
 is_newline b = b == 10
 
--- the place of the first newline, or else the end
+-- the index of the first newline, or else the end
 abbrev cut : List ℕ → ℕ
 cut text = position_or_len is_newline text
 
@@ -30,10 +30,10 @@ module _ (text : List ℕ) (u : IsUtf8 text) (some : text ≢ []) (others : leng
       let within = ltb-true (cut text) (length text) e in
       let is = eqb-true (get_or text (cut text) 0) 10 (passes_at_first is_newline text 0 within) in
       let next : cut text + 1 ≡ suc (cut text) = omega arith in
-      let front = IsUtf8-take text (cut text) u (IsCharBoundary-before_ascii text (cut text) within (omega (arith, is))) in
+      let prefix = IsUtf8-take text (cut text) u (IsCharBoundary-before_ascii text (cut text) within (omega (arith, is))) in
       let behind = IsUtf8-drop text (suc (cut text)) u (subst (IsCharBoundary text) next (IsCharBoundary-after_ascii text (cut text) u within (omega (arith, is)))) in
       subst (All IsUtf8) (sym (lines-some text (cut text) within is other))
-      (All-cons IsUtf8 (take (cut text) text) (lines_of (drop (suc (cut text)) text)) front (others (omega (arith, length-drop (suc (cut text)) text)) behind))
+      (All-cons IsUtf8 (take (cut text) text) (lines_of (drop (suc (cut text)) text)) prefix (others (omega (arith, length-drop (suc (cut text)) text)) behind))
 
 up_to : (n : ℕ) (text : List ℕ) → length text ≤ n → IsUtf8 text → All IsUtf8 (lines_of text)
 up_to n [] l u = All-nil IsUtf8

@@ -5,11 +5,11 @@ use Rattle.compose_model.specs.Table.{Definition}
 use Rattle.compose_model.specs.declared.Rule.{Rule}
 use Rattle.compose_read.specs.Settle.{Overlap}
 use Rattle.compose_read.specs.Neighbours.{stays_before, put_if, settled_neighbours}
-use Rattle.compose_read.specs.Given.{SettleGives}
+use Rattle.compose_read.specs.ReadGives.{SettleGives}
 use Rattle.compose_read.specs.declared.settling.SettleFault.{SettleFault}
 use Rattle.compose_read.specs.declared.settling.SettleFault.TheVariants as faults
 
--- these rows in front of the others
+-- these rows before the others
 abbrev pub put_all : List Definition → Result (List Definition) Overlap → Result (List Definition) Overlap
 put_all kept (Err o) = Err o
 put_all kept (Ok rows) = Ok (kept ++ rows)

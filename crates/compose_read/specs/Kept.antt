@@ -32,6 +32,6 @@ pub record IsKept (names : KeysymNames) (sources : List Source) (table : List De
   pub within : k.first + k.count ≤ length table
   pub definitions : take k.count (drop k.first table) ≡ given names sources (visits_below sources k.left source)
 
--- each place has nothing, or what is kept of the source with this place
+-- each index has nothing, or what is kept of the source with this index
 abbrev pub AreKept : KeysymNames → List Source → List Definition → List (Option KeptSource) → Type 0
 AreKept names sources table kept = (source : ℕ) (d : Option KeptSource) → source < length kept → IfSome (get_or kept source d) (IsKept names sources table source)

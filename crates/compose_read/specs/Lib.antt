@@ -3,9 +3,9 @@ pub mod Sources
 pub mod Read
 pub mod Settle
 pub mod Neighbours
-pub mod Guess
+pub mod SortKeys
 pub mod Rows
-pub mod Given
+pub mod ReadGives
 pub mod Sequence
 pub mod Visits
 pub mod Progress

@@ -15,7 +15,7 @@ pub record Source : Type 0 where
 
 -- ---- the lines of a source
 
--- the bytes without a UTF-8 byte order mark at their front
+-- the bytes without a UTF-8 byte order mark at their beginning
 abbrev pub without_mark : List ℕ → List ℕ
 without_mark bytes = if starts_with nat_eq bytes (0xef ∷ 0xbb ∷ 0xbf ∷ []) then drop 3 bytes else bytes
 
@@ -25,7 +25,7 @@ source_lines bytes = lines_of (without_mark bytes)
 
 -- ---- visits
 
--- a line as it is met: the source's place, the line's number from 1, its bytes, and how many includes lead to it
+-- a line as it is met: the source's index, the line's number from 1, its bytes, and how many includes lead to it
 pub record Visit : Type 0 where
   pub source : ℕ
   pub line : ℕ

@@ -6,16 +6,16 @@ use Rattle.compose_model.specs.declared.Rule.TheVariants.{Refuse, Longest}
 use Rattle.std.specs.List.Sorted.{IsSortedBy}
 use Rattle.compose_read.specs.Settle.{Overlap}
 
--- a row that begins the next one is refused, or is left out
-abbrev pub begins_next : Rule → Definition → Definition → Result Bool Overlap
-begins_next Refuse d e = Err (record { short = d.sequence; long = e.sequence })
-begins_next Longest d e = Ok false
+-- a row that is a prefix of the next one is refused, or is left out
+abbrev pub prefix_of_next : Rule → Definition → Definition → Result Bool Overlap
+prefix_of_next Refuse d e = Err (record { short = d.sequence; long = e.sequence })
+prefix_of_next Longest d e = Ok false
 
 -- whether a row stays before the next one: not where this has the same sequence, or goes on behind it
 abbrev pub stays_before : Rule → Definition → Definition → Result Bool Overlap
-stays_before rule d e = if same d.sequence e.sequence then Ok false else if is_proper_prefix d.sequence e.sequence then begins_next rule d e else Ok true
+stays_before rule d e = if same d.sequence e.sequence then Ok false else if is_proper_prefix d.sequence e.sequence then prefix_of_next rule d e else Ok true
 
--- the row in front of the others, if it stays
+-- the row before the others, if it stays
 abbrev pub put_if : Definition → Result Bool Overlap → Result (List Definition) Overlap → Result (List Definition) Overlap
 put_if d (Err o) rows = Err o
 put_if d (Ok false) rows = rows
@@ -28,6 +28,6 @@ settled_neighbours rule [] = Ok []
 settled_neighbours rule (d ∷ []) = Ok (d ∷ [])
 settled_neighbours rule (d ∷ e ∷ rows) = put_if d (stays_before rule d e) (settled_neighbours rule (e ∷ rows))
 
--- no row comes before the one in front of it
+-- no row is less than the previous one
 abbrev pub SequencesAscend : List Definition → Type 0
 SequencesAscend rows = IsSortedBy (λ d e. comes_before d.sequence e.sequence) rows

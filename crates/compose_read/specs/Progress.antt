@@ -47,10 +47,10 @@ FindsLine names sources v d (Err e) = line_gives names sources v ≡ Err e
 
 -- ---- all lines
 
--- these definitions in front of those that are read
-abbrev pub front : List Definition → Result (List Definition) ReadFault → Result (List Definition) ReadFault
-front table (Ok more) = Ok (table ++ more)
-front table (Err e) = Err e
+-- these definitions before those that are read
+abbrev pub with_prefix : List Definition → Result (List Definition) ReadFault → Result (List Definition) ReadFault
+with_prefix table (Ok more) = Ok (table ++ more)
+with_prefix table (Err e) = Err e
 
 -- so many lines are read, and what they gave
 abbrev pub read_so_far : ℕ → Drafted → Progress
@@ -58,7 +58,7 @@ read_so_far lines draft = record { lines = lines; draft = draft }
 
 -- all definitions, where these lines come after what is read so far
 abbrev pub reading_on : KeysymNames → List Source → Progress → List Visit → Result (List Definition) ReadFault
-reading_on names sources p vs = front p.draft.table (read_on names sources p.lines (length p.draft.table) vs)
+reading_on names sources p vs = with_prefix p.draft.table (read_on names sources p.lines (length p.draft.table) vs)
 
 -- these lines lead from the one to the other, whatever comes after them, or to the fault
 abbrev pub ReadsOn : {X : Type 0} → KeysymNames → List Source → List Visit → Progress → Progress → Result X ReadFault → Type 0

@@ -4,27 +4,27 @@ use Rattle.std.specs.List.{All}
 use Rattle.std.specs.Str.{IsCharBoundary}
 use Rattle.compose_model.specs.Table.{Definition}
 use Rattle.compose_read.specs.Read.{max_definitions}
-use Rattle.compose_read.specs.declared.rows.RowPlace.{RowPlace}
+use Rattle.compose_read.specs.declared.rows.RowSpan.{RowSpan}
 
-abbrev pub sequence_at : List ℕ → RowPlace → List ℕ
+abbrev pub sequence_at : List ℕ → RowSpan → List ℕ
 sequence_at keysyms p = take p.keysym_count (drop p.first_keysym keysyms)
 
--- the definition that stands at a place
-abbrev pub definition_at : List ℕ → List ℕ → RowPlace → Definition
+-- the definition of a span
+abbrev pub definition_at : List ℕ → List ℕ → RowSpan → Definition
 definition_at keysyms texts p = record { sequence = sequence_at keysyms p; text = take p.byte_count (drop p.first_byte texts) }
 
-abbrev pub rows_of : List ℕ → List ℕ → List RowPlace → List Definition
-rows_of keysyms texts places = map (definition_at keysyms texts) places
+abbrev pub rows_of : List ℕ → List ℕ → List RowSpan → List Definition
+rows_of keysyms texts spans = map (definition_at keysyms texts) spans
 
 -- its at most 32 keysyms are there, and its text is there and begins and ends with a character
-pub record IsPlaced (keysyms texts : List ℕ) (p : RowPlace) : Type 0 where
+pub record IsPlaced (keysyms texts : List ℕ) (p : RowSpan) : Type 0 where
   pub few : p.keysym_count ≤ 32
   pub keysyms_within : p.first_keysym + p.keysym_count ≤ length keysyms
   pub starts : IsCharBoundary texts p.first_byte
   pub ends : IsCharBoundary texts (p.first_byte + p.byte_count)
 
-abbrev pub ArePlaced : List ℕ → List ℕ → List RowPlace → Type 0
-ArePlaced keysyms texts places = All (IsPlaced keysyms texts) places
+abbrev pub ArePlaced : List ℕ → List ℕ → List RowSpan → Type 0
+ArePlaced keysyms texts spans = All (IsPlaced keysyms texts) spans
 
 -- ---- definitions that are being read
 
@@ -33,16 +33,16 @@ pub record Drafted : Type 0 where
   pub table : List Definition
   pub row : Definition
 
--- a row's keysyms and its text end before these places
-abbrev pub IsBefore : ℕ → ℕ → RowPlace → Type 0
+-- a row's keysyms and its text end before these offsets
+abbrev pub IsBefore : ℕ → ℕ → RowSpan → Type 0
 IsBefore first_keysym first_byte p = (p.first_keysym + p.keysym_count ≤ first_keysym) × (p.first_byte + p.byte_count ≤ first_byte)
 
--- these places are behind the keysyms and the texts of rows, which are no more than may be, and no further than the longest rows reach
-pub record IsBehind (places : List RowPlace) (first_keysym first_byte : ℕ) : Type 0 where
-  pub few : length places ≤ max_definitions
-  pub keysyms : first_keysym ≤ 32 * length places
-  pub bytes : first_byte ≤ 255 * length places
-  pub each : All (IsBefore first_keysym first_byte) places
+-- these offsets come after the keysyms and the texts of rows, which are no more than may be, and no further than the longest rows reach
+pub record IsBehind (spans : List RowSpan) (first_keysym first_byte : ℕ) : Type 0 where
+  pub few : length spans ≤ max_definitions
+  pub keysyms : first_keysym ≤ 32 * length spans
+  pub bytes : first_byte ≤ 255 * length spans
+  pub each : All (IsBefore first_keysym first_byte) spans
 
 -- a definition of which nothing is read yet
 abbrev pub no_row : Definition
@@ -52,6 +52,6 @@ no_row = record { sequence = []; text = [] }
 abbrev pub with_row : Drafted → Definition → Drafted
 with_row d row = record { table = d.table; row = row }
 
--- the last one has all keysyms and bytes from these places on
-abbrev pub drafted : List ℕ → List ℕ → List RowPlace → ℕ → ℕ → Drafted
-drafted keysyms texts places first_keysym first_byte = record { table = rows_of keysyms texts places; row = record { sequence = drop first_keysym keysyms; text = drop first_byte texts } }
+-- the last one has all keysyms and bytes from these offsets on
+abbrev pub drafted : List ℕ → List ℕ → List RowSpan → ℕ → ℕ → Drafted
+drafted keysyms texts spans first_keysym first_byte = record { table = rows_of keysyms texts spans; row = record { sequence = drop first_keysym keysyms; text = drop first_byte texts } }

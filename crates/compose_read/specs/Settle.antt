@@ -1,4 +1,4 @@
--- The settled sequences of a table: in rising order, each with its last definition, and none that begins another.
+-- The settled sequences of a table: in rising order, each with its last definition, and none that is a prefix of another.
 use Rattle.std.specs.Prelude.{ℕ, Bool, true, not, ◌&&◌, List, [], ◌∷◌, map, Option, Some, None, Result, Ok, Err, unwrap_or, IsTrue}
 use Rattle.std.specs.List.{find}
 use Rattle.compose_model.specs.Table.{Definition, is_proper_prefix, is_sequence, is_extended, text_at, longest, comes_before, is_table, is_prefix_free}
@@ -13,7 +13,7 @@ row table s = record { sequence = s; text = unwrap_or (text_at table s) [] }
 abbrev pub in_order : List Definition → List Definition
 in_order table = map (row table) (leaves table)
 
--- a sequence that begins another one
+-- a sequence that is a prefix of another one
 pub record Overlap : Type 0 where
   pub short : List ℕ
   pub long : List ℕ
@@ -44,7 +44,7 @@ sequences_rise [] = true
 sequences_rise (d ∷ []) = true
 sequences_rise (d ∷ e ∷ table) = comes_before d.sequence e.sequence && sequences_rise (e ∷ table)
 
--- rows that a table can be built of: each is a definition, their sequences rise, and none begins another
+-- rows that a table can be built of: each is a definition, their sequences rise, and none is a prefix of another
 pub record IsSettled (table : List Definition) : Type 0 where
   pub definitions : IsTrue (is_table table)
   pub rise : IsTrue (sequences_rise table)
@@ -52,10 +52,10 @@ pub record IsSettled (table : List Definition) : Type 0 where
 
 -- ---- what a reported overlap is
 
--- two sequences of the table: the least one that begins another one, and the least one that it begins
+-- two sequences of the table: the least one that is a prefix of another one, and the least one that it is a prefix of
 pub record IsLeastOverlap (table : List Definition) (o : Overlap) : Type 0 where
   pub short : IsTrue (is_sequence table o.short)
   pub long : IsTrue (is_sequence table o.long)
-  pub begins : IsTrue (is_proper_prefix o.short o.long)
+  pub is_prefix : IsTrue (is_proper_prefix o.short o.long)
   pub least : (s t : List ℕ) → IsTrue (is_sequence table s) → IsTrue (is_sequence table t) → IsTrue (is_proper_prefix s t) → IsTrue (not (comes_before s o.short))
   pub nearest : (t : List ℕ) → IsTrue (is_sequence table t) → IsTrue (is_proper_prefix o.short t) → IsTrue (not (comes_before t o.long))

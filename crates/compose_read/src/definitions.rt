@@ -44,7 +44,7 @@ impl Definitions {
         self.rows.len()
     }
 
-    /// The sequence of the definition at this place. O(1).
+    /// The sequence of the definition at this index. O(1).
     pub fn sequence(&self, index: usize) -> &[Keysym]
         requires { index < length self.now }
         ensures { option_map (λ d. d.sequence) (slice_get self.now index) ≡ Some result.now }
@@ -52,7 +52,7 @@ impl Definitions {
         self.rows.sequence(index)
     }
 
-    /// The text of the definition at this place. O(1).
+    /// The text of the definition at this index. O(1).
     pub fn text(&self, index: usize) -> &str
         requires { index < length self.now }
         ensures { option_map (λ d. d.text) (slice_get self.now index) ≡ Some result.now }

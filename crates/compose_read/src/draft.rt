@@ -1,8 +1,8 @@
 //! Definitions that are being read.
 //!
-//! The keysyms and the text of a definition are put behind those of the others as they are read, so that none is copied. Where it is whole, its place is noted. At most 100,000 definitions of at most 32 keysyms and 255 bytes fit where each place is a `u32`.
+//! The keysyms and the text of a definition are put behind those of the others as they are read, so that none is copied. Where it is whole, its span is noted. At most 100,000 definitions of at most 32 keysyms and 255 bytes fit where each offset is a `u32`.
 use crate::definitions::Definitions;
-use crate::rows::{RowPlace, Rows};
+use crate::rows::{RowSpan, Rows};
 use compose_lex::{LexFault, push_text};
 use keysym_core::Keysym;
 use std::alloc::{AllocError, Global};
@@ -13,7 +13,7 @@ use std::marker::Model;
 pub(crate) struct Draft {
     keysyms: Vec<Keysym>,
     texts: String,
-    places: Vec<RowPlace>,
+    spans: Vec<RowSpan>,
     first_keysym: usize,
     first_byte: usize,
 }
@@ -26,9 +26,9 @@ impl Model for Draft {
 
     ghost Value = { Drafted };
 
-    ghost view = { λ d. drafted d.keysyms.items (string_bytes d.texts) d.places.items d.first_keysym d.first_byte };
+    ghost view = { λ d. drafted d.keysyms.items (string_bytes d.texts) d.spans.items d.first_keysym d.first_byte };
 
-    ghost invariant = { λ d. ArePlaced d.keysyms.items (string_bytes d.texts) d.places.items × (d.first_keysym ≤ length d.keysyms.items) × IsCharBoundary (string_bytes d.texts) d.first_byte × IsTrue (is_table (rows_of d.keysyms.items (string_bytes d.texts) d.places.items)) × IsBehind d.places.items d.first_keysym d.first_byte };
+    ghost invariant = { λ d. ArePlaced d.keysyms.items (string_bytes d.texts) d.spans.items × (d.first_keysym ≤ length d.keysyms.items) × IsCharBoundary (string_bytes d.texts) d.first_byte × IsTrue (is_table (rows_of d.keysyms.items (string_bytes d.texts) d.spans.items)) × IsBehind d.spans.items d.first_keysym d.first_byte };
 }
 
 impl Draft {
@@ -46,7 +46,7 @@ impl Draft {
         Draft {
             keysyms: Vec::new(alloc),
             texts: String::new(alloc),
-            places: Vec::new(alloc),
+            spans: Vec::new(alloc),
             first_keysym: 0,
             first_byte: 0,
         }
@@ -59,14 +59,14 @@ impl Draft {
         let many = definitions.saturating_mul(3);
         let _ = self.keysyms.reserve(many);
         let _ = self.texts.reserve(many);
-        let _ = self.places.reserve(definitions);
+        let _ = self.spans.reserve(definitions);
     }
 
     /// How many definitions there are. O(1).
     pub(crate) fn len(&self) -> usize
         ensures { result ≡ length self.now.table }
     {
-        self.places.len()
+        self.spans.len()
     }
 
     /// Begins a definition, and drops one that was not finished. O(keysyms that are dropped).
@@ -111,26 +111,26 @@ impl Draft {
         ensures finished { OnOk result (self.new.table ≡ self.old.table ++ self.old.row ∷ []) }
         ensures unchanged { OnErr result (self.new ≡ self.old) }
     {
-        let place = RowPlace {
+        let span = RowSpan {
             first_keysym: self.first_keysym as u32,
             first_byte: self.first_byte as u32,
             keysym_count: (self.keysyms.len() - self.first_keysym) as u16,
             byte_count: (self.texts.len() - self.first_byte) as u16,
         };
-        self.places.push(place)?;
+        self.spans.push(span)?;
         self.first_keysym = self.keysyms.len();
         self.first_byte = self.texts.len();
         Ok(())
     }
 
-    /// Puts so many definitions from this place on behind the others again; they share their keysyms and texts. A refusal changes nothing. O(definitions).
+    /// Puts so many definitions from this index on after the others again; they share their keysyms and texts. A refusal changes nothing. O(definitions).
     pub(crate) fn repeat(&mut self, first: usize, count: usize) -> Result<(), AllocError>
         requires within { first + count ≤ length self.old.table }
         requires room { length self.old.table + count ≤ max_definitions }
         ensures repeated { OnOk result (self.new.table ≡ self.old.table ++ take count (drop first self.old.table)) }
         ensures unchanged { OnErr result (self.new ≡ self.old) }
     {
-        self.places.extend_from_within(first..first + count)?;
+        self.spans.extend_from_within(first..first + count)?;
         Ok(())
     }
 
@@ -143,7 +143,7 @@ impl Draft {
         Definitions::from_rows(Rows {
             keysyms: self.keysyms,
             texts: self.texts,
-            places: self.places,
+            spans: self.spans,
         })
     }
 }

@@ -10,13 +10,13 @@ pub(crate) struct KeptSource {
     pub(crate) left: usize,
     /// How many lines were read, those of included sources too.
     pub(crate) lines: usize,
-    /// The place of its first definition among all definitions.
+    /// The index of its first definition among all definitions.
     pub(crate) first: usize,
     /// How many definitions it gave.
     pub(crate) count: usize,
 }
 
-/// What is kept of each source, by its place; 2.5 KB, which ask for no memory.
+/// What is kept of each source, by its index; 2.5 KB, which ask for no memory.
 #[derive(Drop)]
 pub(crate) struct Kept {
     by_source: [Option<KeptSource>; Sources::MOST],

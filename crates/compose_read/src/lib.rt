@@ -1,6 +1,6 @@
 //! What a table says is decided by all its files in order: sources, their includes, definitions and settling.
 //!
-//! [`Sources`] keep files by the names under which includes find them. [`read_definitions`] reads one of them with all that it includes, and gives the [`Definitions`] in reading order, or the fault of the first faulty line. [`settle`] gives [`Sequences`]: in rising order, each once with the text of its last definition, and none that begins another. Typing with these is typing with the definitions as they were read.
+//! [`Sources`] keep files by the names under which includes find them. [`read_definitions`] reads one of them with all that it includes, and gives the [`Definitions`] in reading order, or the fault of the first faulty line. [`settle`] gives [`Sequences`]: in rising order, each once with the text of its last definition, and none that is a prefix of another. Typing with these is typing with the definitions as they were read.
 //!
 //! ```text
 //! r:   <Multi_key> <apostrophe> <e> : "x"
@@ -28,6 +28,7 @@ mod reading;
 mod rows;
 mod sequences;
 mod settling;
+mod sorting;
 mod sources;
 mod visits;
 
@@ -42,7 +43,7 @@ use std::alloc::{AllocError, AllocFailed};
 use thiserror::Error;
 pub use visits::{VisitedLine, Visits};
 
-/// The first fault of what is read. `source` is the place among the sources, from 0; `line` counts from 1; `index` is the event's place from 0, or the number of events for the result's name.
+/// The first fault of what is read. `source` is the index of the source, from 0; `line` counts from 1; `index` is that of the event, from 0, or the number of events for the result's name.
 #[derive(Debug, PartialEq, Eq, Drop, Error)]
 pub enum ReadFault {
     /// No source has the root's name.
@@ -120,7 +121,7 @@ impl<T: Drop> From<AllocFailed<T>> for ReadFault {
     }
 }
 
-/// Settling by either rule changes no run; its rows rise, each sequence once, and none begins another.
+/// Settling by either rule changes no run; its rows rise, each sequence once, and none is a prefix of another.
 pub fn law_settle()
     ensures runs { (names : KeysymNames) (rule : rules.Rule) (table rows : List Definition) (keys : List ℕ) → settled rule table ≡ Ok rows → run names rows keys ≡ run names table keys }
     ensures prefix_free { (rule : rules.Rule) (table rows : List Definition) → settled rule table ≡ Ok rows → IsTrue (is_prefix_free rows) }

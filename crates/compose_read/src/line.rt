@@ -6,7 +6,7 @@ ghost use Rattle.compose_lex.specs.Line.{include};
 ghost use Rattle.compose_model.specs.Table.{is_definition};
 ghost use Rattle.compose_read.specs.Lines.{included_by};
 ghost use Rattle.compose_read.specs.Read.{event_keysym, sequence_of, string_text, result_text, definition_of, include_fault};
-ghost use Rattle.compose_read.specs.Given.{ReadGives};
+ghost use Rattle.compose_read.specs.ReadGives.{ReadGives};
 ghost use Rattle.compose_read.specs.Progress.{visit, lifted, no_definition, keysym_text, FindsLine};
 ghost use Rattle.compose_read.specs.Rows.{with_row};
 ghost use Rattle.compose_read.specs.Sequence.{is_fed, AreFed};
@@ -22,7 +22,7 @@ use std::alloc::AllocError;
 /// The most includes that lead to a line.
 pub(crate) const MAX_DEPTH: usize = 8;
 
-/// Where a line stands: the place of its source, its number from 1, and how many includes lead to it.
+/// Where a line stands: the index of its source, its number from 1, and how many includes lead to it.
 #[derive(Clone, Copy)]
 pub(crate) struct Place {
     pub(crate) source: usize,
@@ -100,7 +100,7 @@ fn include(sources: &Sources, place: Place, name: &str) -> Result<usize, ReadFau
 {
     let (source, line) = (place.source, place.line);
     let included = sources
-        .place(name)
+        .index_of(name)
         .ok_or(ReadFault::MissingInclude { source, line })?;
     if place.depth >= MAX_DEPTH {
         return Err(ReadFault::IncludeDepth { source, line });

@@ -29,7 +29,7 @@ impl<'a> OpenSource<'a> {
     ghost use Rattle.compose_read.specs.Lines.{visits_below, max_depth};
     ghost use Rattle.compose_read.specs.Visits.{left_in};
 
-    /// The source at this place, of which no line is visited yet. O(1).
+    /// The source at this index, of which no line is visited yet. O(1).
     pub(crate) fn new(sources: &'a Sources, source: usize) -> OpenSource<'a>
         requires { source < length sources.now }
         ensures { (depth : ℕ) → depth ≤ max_depth → left_in sources.now depth result ≡ visits_below sources.now (max_depth - depth) source }

@@ -3,7 +3,7 @@ ghost use Rattle.std.specs.Prelude.{◌≡◌, ◌≤◌, ◌<◌, ◌+◌, [], 
 ghost use Rattle.compose_model.specs.Table.{Definition, is_table};
 ghost use Rattle.compose_read.specs.Lines.{visits_below, included, without_mark};
 ghost use Rattle.compose_read.specs.Read.{definitions_of};
-ghost use Rattle.compose_read.specs.Given.{ReadGives};
+ghost use Rattle.compose_read.specs.ReadGives.{ReadGives};
 ghost use Rattle.compose_read.specs.Progress.{visit, ReadsOn};
 ghost use Rattle.compose_read.specs.Kept.{AreKept};
 
@@ -24,7 +24,7 @@ pub(crate) const MAX_LINES: usize = 1_000_000;
 /// The most definitions that are read.
 pub(crate) const MAX_DEFINITIONS: usize = 100_000;
 
-/// How many bytes of a source go with one definition. It is a guess, for the room that is asked for.
+/// How many bytes of a source go with one definition. It is an estimate, for the room that is asked for.
 const BYTES_A_DEFINITION: usize = 80;
 
 /// How many lines are read so far, and the draft of their definitions.
@@ -44,7 +44,7 @@ pub fn read_definitions(
     ensures exact { ReadGives (λ (table : List Definition). table) result (definitions_of names.now sources.now root.now) }
     ensures table { IfOk result (λ table. IsTrue (is_table table)) }
 {
-    let Some(source) = sources.place(root) else {
+    let Some(source) = sources.index_of(root) else {
         return Err(ReadFault::MissingRoot);
     };
     let mut progress = Progress {
@@ -136,7 +136,7 @@ fn kept_source(kept: &Kept, source: usize, left: usize, progress: &Progress) -> 
     Some(again)
 }
 
-/// Reads the line at this place on. Where it includes a source, the answer is the place of this one.
+/// Reads the line at this place on. Where it includes a source, the answer is the index of this one.
 fn take_line<'a>(
     names: &Names,
     sources: &Sources,
@@ -179,7 +179,7 @@ fn take_line<'a>(
     }
 }
 
-/// The bytes without a UTF-8 byte order mark at their front.
+/// The bytes without a UTF-8 byte order mark at their beginning.
 pub(crate) fn without_mark(bytes: &[u8]) -> &[u8]
     ensures { result.now ≡ without_mark bytes.now }
 {

@@ -3,9 +3,9 @@
 //! `<a> <b> : "x"` and `<c> : "yz"` make
 //!
 //! ```text
-//! places         row     0      1
-//!                keysyms 0, 2   2, 1       the first one's place, and how many
-//!                text    0, 1   1, 2       the first byte's place, and how many
+//! spans          row     0      1
+//!                keysyms 0, 2   2, 1       the first one's index, and how many
+//!                text    0, 1   1, 2       the first byte's offset, and how many
 //! keysyms                a b    c
 //! texts                  x      y z
 //! ```
@@ -17,7 +17,7 @@ use std::marker::Model;
 
 /// Where the keysyms and the text of a row stand, in 12 bytes without a gap.
 #[derive(Clone, Copy)]
-pub(crate) struct RowPlace {
+pub(crate) struct RowSpan {
     pub(crate) first_keysym: u32,
     pub(crate) first_byte: u32,
     pub(crate) keysym_count: u16,
@@ -29,7 +29,7 @@ pub(crate) struct RowPlace {
 pub(crate) struct Rows {
     pub(crate) keysyms: Vec<Keysym>,
     pub(crate) texts: String,
-    pub(crate) places: Vec<RowPlace>,
+    pub(crate) spans: Vec<RowSpan>,
 }
 
 impl Model for Rows {
@@ -39,9 +39,9 @@ impl Model for Rows {
 
     ghost Value = { List Definition };
 
-    ghost view = { λ r. rows_of r.keysyms.items (string_bytes r.texts) r.places.items };
+    ghost view = { λ r. rows_of r.keysyms.items (string_bytes r.texts) r.spans.items };
 
-    ghost invariant = { λ r. ArePlaced r.keysyms.items (string_bytes r.texts) r.places.items };
+    ghost invariant = { λ r. ArePlaced r.keysyms.items (string_bytes r.texts) r.spans.items };
 }
 
 impl Rows {
@@ -51,7 +51,7 @@ impl Rows {
     pub(crate) fn len(&self) -> usize
         ensures { result ≡ length self.now }
     {
-        self.places.len()
+        self.spans.len()
     }
 
     /// The sequence of the row at this index. O(1).
@@ -59,7 +59,7 @@ impl Rows {
         requires { index < length self.now }
         ensures { option_map (λ d. d.sequence) (slice_get self.now index) ≡ Some result.now }
     {
-        keysyms_at(&self.keysyms, self.places[index])
+        keysyms_at(&self.keysyms, self.spans[index])
     }
 
     /// The text of the row at this index. O(1).
@@ -67,26 +67,26 @@ impl Rows {
         requires { index < length self.now }
         ensures { option_map (λ d. d.text) (slice_get self.now index) ≡ Some result.now }
     {
-        let place = self.places[index];
-        let start = place.first_byte as usize;
+        let span = self.spans[index];
+        let start = span.first_byte as usize;
         let texts = self.texts.as_str();
-        &texts[start..start + place.byte_count as usize]
+        &texts[start..start + span.byte_count as usize]
     }
 }
 
-/// The keysyms of a row with this place; none behind the end. O(1).
-pub(crate) fn keysyms_at(keysyms: &[Keysym], place: RowPlace) -> &[Keysym]
-    ensures { result.now ≡ sequence_at keysyms.now place }
+/// The keysyms of a row with this span; none after the end. O(1).
+pub(crate) fn keysyms_at(keysyms: &[Keysym], span: RowSpan) -> &[Keysym]
+    ensures { result.now ≡ sequence_at keysyms.now span }
 {
-    part_at(keysyms, place)
+    part_at(keysyms, span)
 }
 
-/// What stands at the places of a row's keysyms; nothing behind the end. O(1).
-pub(crate) fn part_at<T>(items: &[T], place: RowPlace) -> &[T]
-    ensures { result.now ≡ take place.keysym_count (drop place.first_keysym items.now) }
+/// The part that a row's span of keysyms has; nothing after the end. O(1).
+pub(crate) fn part_at<T>(items: &[T], span: RowSpan) -> &[T]
+    ensures { result.now ≡ take span.keysym_count (drop span.first_keysym items.now) }
 {
-    let start = items.len().min(place.first_keysym as usize);
+    let start = items.len().min(span.first_keysym as usize);
     let behind = &items[start..];
-    let count = behind.len().min(place.keysym_count as usize);
+    let count = behind.len().min(span.keysym_count as usize);
     &behind[..count]
 }

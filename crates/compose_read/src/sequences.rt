@@ -3,7 +3,7 @@ use crate::rows::Rows;
 use keysym_core::Keysym;
 use std::marker::Model;
 
-/// The settled sequences of a table, in rising order, each once, and none of which begins another. They are at most 100,000.
+/// The settled sequences of a table, in rising order, each once, and none of which is a prefix of another. They are at most 100,000.
 #[derive(Drop)]
 pub struct Sequences {
     rows: Rows,
@@ -45,7 +45,7 @@ impl Sequences {
         self.rows.len()
     }
 
-    /// The sequence at this place. O(1).
+    /// The sequence at this index. O(1).
     pub fn sequence(&self, index: usize) -> &[Keysym]
         requires { index < length self.now }
         ensures { option_map (λ d. d.sequence) (slice_get self.now index) ≡ Some result.now }
@@ -53,7 +53,7 @@ impl Sequences {
         self.rows.sequence(index)
     }
 
-    /// The text of the sequence at this place. O(1).
+    /// The text of the sequence at this index. O(1).
     pub fn text(&self, index: usize) -> &str
         requires { index < length self.now }
         ensures { option_map (λ d. d.text) (slice_get self.now index) ≡ Some result.now }

@@ -75,11 +75,11 @@ impl Sources {
         self.files.len()
     }
 
-    /// The name of the source at this place, if there is one. O(1).
-    pub fn name(&self, place: usize) -> Option<&str>
-        ensures { option_copied result ≡ option_map (λ s. s.name) (slice_get self.now place) }
+    /// The name of the source at this index, if there is one. O(1).
+    pub fn name(&self, index: usize) -> Option<&str>
+        ensures { option_copied result ≡ option_map (λ s. s.name) (slice_get self.now index) }
     {
-        let (name, _) = self.files.get_index(place)?;
+        let (name, _) = self.files.get_index(index)?;
         Some(name.as_str())
     }
 
@@ -90,7 +90,7 @@ impl Sources {
         ensures refused { IfErr result (λ e. e ≢ NoMemory → add_fault self.old name.now ≡ Some e) }
         ensures fault { IsSome (add_fault self.old name.now) → IfErr result (λ e. add_fault self.old name.now ≡ Some e) }
     {
-        if self.place(name).is_some() {
+        if self.index_of(name).is_some() {
             return Err(SourceFault::NameTaken);
         }
         if self.count() >= Sources::MOST {
@@ -100,21 +100,21 @@ impl Sources {
         Ok(())
     }
 
-    /// The place of the source with this name, if there is one. O(1).
-    pub(crate) fn place(&self, name: &str) -> Option<usize>
-        ensures place { result ≡ position (λ s. bytes_eq name.now s.name) self.now }
+    /// The index of the source with this name, if there is one. O(1).
+    pub(crate) fn index_of(&self, name: &str) -> Option<usize>
+        ensures index { result ≡ position (λ s. bytes_eq name.now s.name) self.now }
         ensures within { IfSome result (λ i. i < length self.now) }
         ensures few { length self.now ≤ 64 }
     {
         self.files.get_index_of(name)
     }
 
-    /// The bytes of the source at this place. O(1).
-    pub fn bytes(&self, place: usize) -> &[u8]
-        requires { place < length self.now }
-        ensures { option_map (λ s. s.bytes) (slice_get self.now place) ≡ Some result.now }
+    /// The bytes of the source at this index. O(1).
+    pub fn bytes(&self, index: usize) -> &[u8]
+        requires { index < length self.now }
+        ensures { option_map (λ s. s.bytes) (slice_get self.now index) ≡ Some result.now }
     {
-        self.files[place].as_slice()
+        self.files[index].as_slice()
     }
 
     /// Puts a source with a new name behind the others, if there is memory.

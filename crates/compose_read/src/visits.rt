@@ -16,7 +16,7 @@ use std::marker::Model;
 /// A line as it is met in reading order.
 #[derive(Clone, Copy, Debug, PartialEq, Eq)]
 pub struct VisitedLine<'a> {
-    /// The place of its source among the sources, from 0.
+    /// The index of its source among the sources, from 0.
     pub source: usize,
     /// Its number in that source, from 1.
     pub line: usize,
@@ -57,7 +57,7 @@ impl Sources {
     pub fn visits(&self, root: &str) -> Option<Visits<'_>>
         ensures { result ≡ (if nat_lt (source_named self.now root.now) (length self.now) then Some (visits self.now (source_named self.now root.now)) else None) }
     {
-        let source = self.place(root)?;
+        let source = self.index_of(root)?;
         let mut opened = ArrayVec::new();
         opened.push(OpenSource::new(self, source));
         Some(Visits {
@@ -126,7 +126,7 @@ fn included(sources: &Sources, bytes: &[u8]) -> Option<usize>
     ensures within { IfSome result (λ s. s < length sources.now) }
 {
     let name = raw_include(bytes)?;
-    sources.place(name)
+    sources.index_of(name)
 }
 
 /// The raw text of the line's include, if it is one. O(bytes), and O(blanks) of a line that begins with another word.

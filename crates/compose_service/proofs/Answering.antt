@@ -21,15 +21,15 @@ use Rattle.compose_model.specs.Table.{Definition, is_prefix_free}
 use Rattle.compose_model.specs.Certificate.{Certificate, IsValid}
 use Rattle.compose_model.specs.declared.Rule.{Rule}
 use Rattle.compose_read.specs.declared.settling.SettleFault.TheVariants as settle_faults
-use Rattle.compose_tree.specs.Given.{NoTable, first_table, TableGives}
+use Rattle.compose_tree.specs.TableGives.{NoTable, first_table, TableGives}
 use Rattle.compose_tree.specs.declared.table.BuildFault.TheVariants as build_faults
 use Rattle.compose_tree.specs.declared.reading.TableFault.{TableFault}
 use Rattle.compose_tree.specs.declared.reading.TableFault.TheVariants as table_faults
 use Rattle.compose_cert.specs.Reading.{certificate_of}
-use Rattle.compose_cert.specs.Given.{CertificateGives}
+use Rattle.compose_cert.specs.CertificateGives.{CertificateGives}
 use Rattle.compose_cert.specs.declared.CertFault.{CertFault}
 use Rattle.compose_cert.specs.declared.CertFault.TheVariants as cert_faults
-use Rattle.compose_migration.specs.Given.{TableFails}
+use Rattle.compose_migration.specs.MigrationGives.{TableFails}
 use Rattle.compose_bundle.specs.Bundle.{Bundle, AreBytes}
 use Rattle.compose_bundle.specs.Decoded.{bundle_of}
 use Rattle.compose_bundle.specs.Written.{NotRead}

@@ -6,14 +6,14 @@ use Rattle.keysym_core.specs.Names.{KeysymNames}
 use Rattle.compose_model.specs.Table.{Definition}
 use Rattle.compose_model.specs.Certificate.{Certificate, Repertoire}
 use Rattle.compose_read.specs.declared.settling.SettleFault.TheVariants as settle_faults
-use Rattle.compose_tree.specs.Given.{NoTable, TableGives}
+use Rattle.compose_tree.specs.TableGives.{NoTable, TableGives}
 use Rattle.compose_tree.specs.declared.table.BuildFault.TheVariants as build_faults
 use Rattle.compose_tree.specs.declared.reading.TableFault.{TableFault}
 use Rattle.compose_tree.specs.declared.reading.TableFault.TheVariants as table_faults
 use Rattle.compose_cert.specs.declared.CertFault.{CertFault}
 use Rattle.compose_check.specs.Conditions.{fault_of}
 use Rattle.compose_check.specs.Verdict.{verdict_of}
-use Rattle.compose_migration.specs.Given.{TableFails}
+use Rattle.compose_migration.specs.MigrationGives.{TableFails}
 use Rattle.compose_fresh.specs.declared.fault.CheckFault.{CheckFault}
 use Rattle.compose_check.specs.declared.verdict.Verdict.TheVariants.{Yes, No}
 use Rattle.compose_machine.specs.Machine.{ServiceState}

@@ -4,13 +4,13 @@ use Rattle.keysym_core.specs.Names.{KeysymNames}
 use Rattle.compose_model.specs.Table.{Definition}
 use Rattle.compose_model.specs.Follows.{Waits}
 use Rattle.compose_model.specs.Certificate.{Certificate, Repertoire, TypesAll}
-use Rattle.compose_tree.specs.Given.{NoTable}
+use Rattle.compose_tree.specs.TableGives.{NoTable}
 use Rattle.compose_tree.specs.declared.reading.TableFault.{TableFault}
 use Rattle.compose_tree.specs.declared.reading.TableFault.TheVariants as table_faults
 use Rattle.compose_cert.specs.declared.CertFault.{CertFault}
 use Rattle.compose_cert.specs.declared.CertFault.TheVariants as cert_faults
 use Rattle.compose_check.specs.Conditions.{fault_of}
-use Rattle.compose_migration.specs.Given.{TableFails}
+use Rattle.compose_migration.specs.MigrationGives.{TableFails}
 use Rattle.compose_fresh.specs.declared.fault.CheckFault.{CheckFault}
 use Rattle.compose_machine.specs.Machine.{ServiceState}
 use Rattle.compose_service.specs.declared.service.StartFault.{StartFault}

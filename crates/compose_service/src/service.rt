@@ -109,7 +109,7 @@ impl<T: ComposeTable> Service<T> {
     ghost use Rattle.compose_service.specs.Reading.{reading};
     ghost use Rattle.compose_service.specs.Answered.{Answered, Checked, SayReplies};
     ghost use Rattle.compose_service.specs.Start.{StartGives, started};
-    ghost use Rattle.compose_tree.specs.Given.{first_table};
+    ghost use Rattle.compose_tree.specs.TableGives.{first_table};
     ghost use Rattle.compose_cert.specs.Reading.{certificate_of};
     ghost use Rattle.compose_serve.specs.Ends.{Serves};
 

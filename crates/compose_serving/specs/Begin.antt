@@ -4,8 +4,8 @@ use Rattle.keysym_core.specs.Names.{KeysymNames}
 use Rattle.keysym_core.specs.Header.{names_of}
 use Rattle.compose_model.specs.Certificate.{Repertoire}
 use Rattle.compose_cert.specs.Repertoire.{repertoire_of}
-use Rattle.compose_tree.specs.Given.{NoTable}
-use Rattle.compose_migration.specs.Given.{TableFails}
+use Rattle.compose_tree.specs.TableGives.{NoTable}
+use Rattle.compose_migration.specs.MigrationGives.{TableFails}
 use Rattle.compose_machine.specs.Machine.{ServiceState}
 use Rattle.compose_service.specs.Start.{NoStart, without_table, without_certificate, not_valid, Begun, StartGives}
 use Rattle.compose_tool.specs.declared.refusal.Refusal.{Refusal}

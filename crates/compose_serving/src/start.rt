@@ -1,6 +1,6 @@
 //! How a service begins.
 ghost use Rattle.std.specs.Prelude.{◌≡◌};
-ghost use Rattle.compose_tree.specs.Given.{first_table};
+ghost use Rattle.compose_tree.specs.TableGives.{first_table};
 ghost use Rattle.compose_cert.specs.Reading.{certificate_of};
 ghost use Rattle.compose_service.specs.Start.{started};
 ghost use Rattle.compose_serving.specs.Begin.{BeginGives, names_refused, repertoire_refused, start_refused};

@@ -18,7 +18,7 @@ use Rattle.compose_tree.proofs.Steps.{effect_at, effect_by_target}
 use Rattle.compose_state.specs.declared.fed.Fed.{Fed}
 use Rattle.compose_state.specs.Texts.{text_bytes}
 use Rattle.compose_state.specs.Answers.{IsFed, ComesFrom}
-use Rattle.compose_state.proofs.Places.{to_node, to_leaf, extended_short}
+use Rattle.compose_state.proofs.PathNodes.{to_node, to_leaf, extended_short}
 
 -- the session after a key with this effect
 pub fed_by : (table : List Definition) (s : Session) (k : ℕ) (x : Effect) → effect table s.pending k ≡ x → fed table s k ≡ (let t : Session = record { pending = pending_by x s.pending k; status = status_by x s.status } in t)

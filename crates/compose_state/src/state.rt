@@ -7,7 +7,7 @@ ghost use Rattle.compose_model.specs.Nodes as words;
 ghost use Rattle.compose_model.specs.Nodes.{nodes, leaves};
 ghost use Rattle.compose_model.specs.Session.{Session, rest, fed, loaded};
 ghost use Rattle.compose_state.specs.Answers.{IsFed, ComesFrom};
-ghost use Rattle.compose_state.specs.Places.{node_id};
+ghost use Rattle.compose_state.specs.NodeIds.{node_id};
 ghost use Rattle.compose_state.specs.Texts.{text_bytes};
 ghost use Rattle.compose_tree.specs.Targets.{target_of};
 ghost use Rattle.keysym_core.specs.Keysym.{is_ignored};
@@ -25,7 +25,7 @@ use std::marker::Model;
 pub struct ComposeState {
     pending: ArrayVec<Keysym, 31>,
     // for each pending keysym, where its edge stood in the table that it was fed with: a hint, which is checked and never trusted
-    places: [u32; 31],
+    edge_indexes: [u32; 31],
     status: Status,
 }
 
@@ -44,7 +44,7 @@ impl ComposeState {
     {
         ComposeState {
             pending: ArrayVec::new(),
-            places: [0; 31],
+            edge_indexes: [0; 31],
             status: Status::Nothing,
         }
     }
@@ -91,8 +91,8 @@ impl ComposeState {
                 text: FedText::Empty,
             };
         }
-        match target(table, self.pending.as_slice(), &self.places, keysym) {
-            Some((place, target)) => return self.follow(table, keysym, place, target),
+        match target(table, self.pending.as_slice(), &self.edge_indexes, keysym) {
+            Some((edge_index, target)) => return self.follow(table, keysym, edge_index, target),
             None => return self.feed_apart(names, keysym),
         }
     }
@@ -110,13 +110,13 @@ impl ComposeState {
         ensures told { IsFed names.now (T.definitions table.now) (loaded (T.definitions table.now) self.old) keysym result }
     {
         if !self.pending.is_empty() && !keysym.is_ignored() {
-            if let Some((place, target)) = target(
+            if let Some((edge_index, target)) = target(
                 table,
                 self.pending.as_slice(),
-                &self.places,
+                &self.edge_indexes,
                 keysym,
             ) {
-                return self.follow(table, keysym, place, target);
+                return self.follow(table, keysym, edge_index, target);
             }
         }
         self.refeed(table, names);
@@ -135,7 +135,7 @@ impl ComposeState {
             return;
         }
         if !self.pending.is_empty()
-            && node_of(table, self.pending.as_slice(), &self.places).is_some()
+            && node_of(table, self.pending.as_slice(), &self.edge_indexes).is_some()
         {
             self.status = Status::Composing;
             return;
@@ -147,16 +147,16 @@ impl ComposeState {
             self.status = Status::Nothing;
         }
         self.pending = refed.pending;
-        self.places = refed.places;
+        self.edge_indexes = refed.edge_indexes;
     }
 
-    /// Feeds a key that leads to this target behind what is pending, by the edge at this place.
+    /// Feeds a key that leads to this target behind what is pending, by the edge at this index.
     #[inline(always)]
     fn follow<'t, T: ComposeTable>(
         &mut self,
         table: &'t T,
         keysym: Keysym,
-        place: u32,
+        edge_index: u32,
         target: Target,
     ) -> Fed<'t>
         requires accepted { IsFalse (is_ignored keysym) }
@@ -168,7 +168,7 @@ impl ComposeState {
     {
         match target {
             Target::Node(_) => {
-                self.places[self.pending.len()] = place;
+                self.edge_indexes[self.pending.len()] = edge_index;
                 self.pending.push(keysym);
                 self.status = Status::Composing;
                 return Fed {
@@ -250,14 +250,19 @@ fn child<T: ComposeTable>(table: &T, node: NodeId, keysym: Keysym) -> Option<Nod
     }
 }
 
-/// The node behind the keysym, if a sequence goes on there. Looks at this place among the node's edges first.
+/// The node behind the keysym, if a sequence goes on there. Looks at this index among the node's edges first.
 #[inline(always)]
-fn child_at<T: ComposeTable>(table: &T, node: NodeId, keysym: Keysym, place: u32) -> Option<NodeId>
+fn child_at<T: ComposeTable>(
+    table: &T,
+    node: NodeId,
+    keysym: Keysym,
+    edge_index: u32,
+) -> Option<NodeId>
     requires { node.0 < length (nodes (T.definitions table.now)) }
     ensures { result ≡ node_id (T.definitions table.now) (words.node (T.definitions table.now) node.0 ++ keysym ∷ []) }
 {
-    if place < table.edge_count(node) {
-        let (there, target) = table.edge(node, place);
+    if edge_index < table.edge_count(node) {
+        let (there, target) = table.edge(node, edge_index);
         if there == keysym {
             return match target {
                 Target::Node(next) => Some(next),
@@ -268,9 +273,13 @@ fn child_at<T: ComposeTable>(table: &T, node: NodeId, keysym: Keysym, place: u32
     child(table, node, keysym)
 }
 
-/// The node of these keysyms, if they are a node of the table. The places are hints.
+/// The node of these keysyms, if they are a node of the table. The indexes are hints.
 #[inline(always)]
-fn node_of<T: ComposeTable>(table: &T, keysyms: &[Keysym], places: &[u32; 31]) -> Option<NodeId>
+fn node_of<T: ComposeTable>(
+    table: &T,
+    keysyms: &[Keysym],
+    edge_indexes: &[u32; 31],
+) -> Option<NodeId>
     requires { length keysyms.now ≤ 31 }
     ensures value { result ≡ node_id (T.definitions table.now) keysyms.now }
     ensures again { IsSome result → pending (T.definitions table.now) keysyms.now ≡ keysyms.now }
@@ -279,29 +288,29 @@ fn node_of<T: ComposeTable>(table: &T, keysyms: &[Keysym], places: &[u32; 31]) -
     let _nodes = table.node_count();
     let mut node = NodeId::ROOT;
     for (index, keysym) in keysyms.iter().enumerate() {
-        node = child_at(table, node, *keysym, places[index])?;
+        node = child_at(table, node, *keysym, edge_indexes[index])?;
     }
     Some(node)
 }
 
-/// The place of the keysym's edge and where it leads behind the pending ones, if they are a node of the table and it has such an edge.
+/// The index of the keysym's edge and where it leads behind the pending ones, if they are a node of the table and it has such an edge.
 #[inline(always)]
 fn target<T: ComposeTable>(
     table: &T,
     pending: &[Keysym],
-    places: &[u32; 31],
+    edge_indexes: &[u32; 31],
     keysym: Keysym,
 ) -> Option<(u32, Target)>
     requires { length pending.now ≤ 31 }
     ensures value { option_map (λ found. found.1) result ≡ target_of (T.definitions table.now) pending.now keysym }
-    ensures room { (place : _) → (node : _) → result ≡ Some (place, Target.Node node) → length pending.now < 31 }
-    ensures leaf { (place : _) → (leaf : _) → result ≡ Some (place, Target.Leaf leaf) → leaf.0 < length (leaves (T.definitions table.now)) }
+    ensures room { (edge_index : _) → (node : _) → result ≡ Some (edge_index, Target.Node node) → length pending.now < 31 }
+    ensures leaf { (edge_index : _) → (leaf : _) → result ≡ Some (edge_index, Target.Leaf leaf) → leaf.0 < length (leaves (T.definitions table.now)) }
     ensures again { IsSome result → steps.pending (T.definitions table.now) pending.now ≡ pending.now }
 {
     // every table is settled, which its count of nodes tells
     let _nodes = table.node_count();
-    let node = node_of(table, pending, places)?;
-    let place = table.find(node, keysym)?;
-    let (_, target) = table.edge(node, place);
-    Some((place, target))
+    let node = node_of(table, pending, edge_indexes)?;
+    let edge_index = table.find(node, keysym)?;
+    let (_, target) = table.edge(node, edge_index);
+    Some((edge_index, target))
 }

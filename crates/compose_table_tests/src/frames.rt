@@ -88,25 +88,25 @@ fn expect_both(
     Ok(())
 }
 
-/// Expects the front of that stream to give so many requests, and so many bytes to be held.
-fn expect_front(
+/// Expects the prefix of that stream to give so many requests, and so many bytes to be held.
+fn expect_prefix(
     rt: &impl Abort,
     alloc: Global,
-    front: &[u8],
+    prefix: &[u8],
     size: usize,
     wanted: (usize, usize),
 ) -> Result<(), Fail> {
-    let some = read_stream(alloc, [front, &[]], size)?;
+    let some = read_stream(alloc, [prefix, &[]], size)?;
     assert_eq!(rt; (some.requests.len(), some.held), wanted);
     Ok(())
 }
 
 /// How many requests stand in so many bytes of that stream, and how many bytes are left.
-fn front_of(place: usize) -> (usize, usize) {
-    if place < 9 {
-        (0, place)
-    } else if place < 22 {
-        (1, place - 9)
+fn prefix_of(index: usize) -> (usize, usize) {
+    if index < 9 {
+        (0, index)
+    } else if index < 22 {
+        (1, index - 9)
     } else {
         (2, 0)
     }
@@ -115,11 +115,11 @@ fn front_of(place: usize) -> (usize, usize) {
 #[test]
 fn cut_anywhere(rt: HostRuntime) -> Result<(), Fail> {
     let stream = OPEN_AND_KEY.as_slice();
-    for place in 0..=stream.len() {
-        let (before, after) = stream.split_at(place);
+    for index in 0..=stream.len() {
+        let (before, after) = stream.split_at(index);
         for size in [1, 22] {
             expect_both(&rt, rt.alloc(), before, after, size)?;
-            expect_front(&rt, rt.alloc(), before, size, front_of(place))?;
+            expect_prefix(&rt, rt.alloc(), before, size, prefix_of(index))?;
         }
     }
     Ok(())
@@ -219,7 +219,7 @@ fn expect_load(rt: &impl Abort, bytes: &[u8]) {
         bytes
             .iter()
             .enumerate()
-            .all(|(place, byte)| place % 251 == *byte as usize)
+            .all(|(index, byte)| index % 251 == *byte as usize)
     );
 }
 
@@ -265,8 +265,8 @@ fn push_by_chance(stream: &mut Vec<u8>, seed: u32) -> Result<(), AllocError> {
     let kind = ((seed >> 8) % 8) as u8;
     let size = size_by_chance(kind, seed);
     stream.extend_from_slice(&[kind.max(1), 0, 0, 0, kind, 0, 0, 0, size])?;
-    for place in 0..size {
-        stream.push(((seed >> (place % 25)) % 256) as u8)?;
+    for index in 0..size {
+        stream.push(((seed >> (index % 25)) % 256) as u8)?;
     }
     if seed % 11 == 0 {
         stream.push((seed % 256) as u8)?;

@@ -257,10 +257,10 @@ fn check_lines(rt: &impl Abort, alloc: Global, tables: &[(&str, usize, &str)]) -
 }
 
 /// Adds the source behind which so many stand, which includes the next one.
-fn add_link(sources: &mut Sources, alloc: Global, place: usize) -> Result<(), Fail> {
-    let before = place.saturating_sub(1);
+fn add_link(sources: &mut Sources, alloc: Global, index: usize) -> Result<(), Fail> {
+    let before = index.saturating_sub(1);
     let name = format!(in alloc; "s{before}")?;
-    let line = format!(in alloc; "include \"s{place}\"\n")?;
+    let line = format!(in alloc; "include \"s{index}\"\n")?;
     add_lines(sources, alloc, &name, &line, 1)
 }
 
@@ -268,8 +268,8 @@ fn add_link(sources: &mut Sources, alloc: Global, place: usize) -> Result<(), Fa
 fn chain(alloc: Global, includes: usize) -> Result<Sources, Fail> {
     let mut sources = Sources::new(alloc);
     add_lines(&mut sources, alloc, "r", "include \"s0\"\n", 1)?;
-    for place in 1..includes {
-        add_link(&mut sources, alloc, place)?;
+    for index in 1..includes {
+        add_link(&mut sources, alloc, index)?;
     }
     let last = includes.saturating_sub(1);
     let name = format!(in alloc; "s{last}")?;

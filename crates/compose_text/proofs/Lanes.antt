@@ -1,4 +1,4 @@
--- Sixteen bytes at a time: from the mask of those that are not of a class to how many of the class stand at the front.
+-- Sixteen bytes at a time: from the mask of those that are not of a class to how many of the class stand at the beginning.
 use Rattle.std.proofs.Common.{◌≡◌, ℕ, ◌+◌, ◌*◌, ◌<◌, ◌≤◌, ◌^◌, ◌%◌, Bool, true, false, not, cond, List, [], ◌∷◌, ◌++◌, map, length, drop, replicate, refl, sym, ap, ap₂, ◌∙◌, arith, w8, Fits}
 use Rattle.std.specs.List.{prefix_len}
 use Rattle.std.proofs.lemmas.Bool.{agree_below, agree_below_at}
@@ -29,7 +29,7 @@ pub masked : (f : ℕ → ℕ) (p : ℕ → Bool) (v z : List ℕ) → length v 
 masked f p v z few fits lanes all =
     ap (λ l. mask_l l % 2 ^ 64) (ap (map (top 7)) lanes ∙ each_byte f p all v fits) ∙ mask_l-mod (map p v) 64 (omega (arith, length-map v p))
 
--- ---- what stands at the front
+-- ---- what stands at the beginning
 
 module _ (q : ℕ → Bool) where
   abbrev others : List ℕ → ℕ

@@ -16,9 +16,9 @@ begins p [] = false
 begins p (b ∷ bytes) = p b
 
 -- the bytes up to the first that doesn't pass, and the bytes from there on
-abbrev pub front : (ℕ → Bool) → List ℕ → List ℕ
-front p [] = []
-front p (b ∷ bytes) = if p b then b ∷ front p bytes else []
+abbrev pub leading : (ℕ → Bool) → List ℕ → List ℕ
+leading p [] = []
+leading p (b ∷ bytes) = if p b then b ∷ leading p bytes else []
 
 abbrev pub behind : (ℕ → Bool) → List ℕ → List ℕ
 behind p [] = []

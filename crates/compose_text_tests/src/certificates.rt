@@ -168,11 +168,11 @@ fn faults_have_their_lines(rt: HostRuntime) {
 #[test]
 fn a_changed_byte_is_refused_or_another_text(rt: HostRuntime) {
     let alloc = rt.alloc();
-    for place in 0..TYPED.len() {
+    for index in 0..TYPED.len() {
         for byte in 0..=255u8 {
             let mut changed = *TYPED;
-            changed[place] = byte;
-            assert!(rt; is_refused_or_spells(alloc, &changed), "{byte} at {place}");
+            changed[index] = byte;
+            assert!(rt; is_refused_or_spells(alloc, &changed), "{byte} at {index}");
         }
     }
 }
@@ -228,10 +228,10 @@ fn assert_characters(rt: &impl Abort, repertoire: &Repertoire) {
     assert_eq!(rt; char_at(repertoire, 1), Some('é'));
 }
 
-/// The character at this place, if there is one.
-fn char_at(repertoire: &Repertoire, place: usize) -> Option<char> {
-    if place < repertoire.count() {
-        Some(repertoire.char_at(place))
+/// The character at this index, if there is one.
+fn char_at(repertoire: &Repertoire, index: usize) -> Option<char> {
+    if index < repertoire.count() {
+        Some(repertoire.char_at(index))
     } else {
         None
     }

@@ -282,8 +282,8 @@ fn random_bytes(alloc: Global) -> Result<Vec<u8>, AllocError> {
 #[test]
 fn any_bytes_are_read_or_refused(rt: HostRuntime) -> Result<(), Fail> {
     let bytes = random_bytes(rt.alloc())?;
-    for front in bytes.chunks(97) {
-        let _ = fault_of(rt.alloc(), front);
+    for prefix in bytes.chunks(97) {
+        let _ = fault_of(rt.alloc(), prefix);
     }
     let _ = fault_of(rt.alloc(), bytes.as_slice());
     Ok(())

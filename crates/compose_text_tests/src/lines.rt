@@ -318,15 +318,15 @@ fn reads_strings_of_each_length(rt: HostRuntime) -> Result<(), Fail> {
     Ok(())
 }
 
-/// Expects a string with this escape behind this front to be read, whatever follows.
+/// Expects a string with this escape after this prefix to be read, whatever follows.
 fn expect_escape(
     rt: &impl Abort,
     alloc: Global,
-    front: &str,
+    prefix: &str,
     escape: &str,
 ) -> Result<(), AllocError> {
     for end in ENDS {
-        let raw = format!(in alloc; "{front}{escape}{end}")?;
+        let raw = format!(in alloc; "{prefix}{escape}{end}")?;
         let line = format!(in alloc; "<a>:\"{raw}\"b{end}")?;
         expect_result(rt, &line, Some(&raw), Some("b"));
     }
@@ -336,9 +336,9 @@ fn expect_escape(
 #[test]
 fn reads_escapes_at_each_place(rt: HostRuntime) -> Result<(), Fail> {
     for len in 0..=40 {
-        let front = repeated(rt.alloc(), ["x", " ", "é", ">"], len)?;
+        let prefix = repeated(rt.alloc(), ["x", " ", "é", ">"], len)?;
         for escape in ["\\\"", "\\\\", "\\\\\\\""] {
-            expect_escape(&rt, rt.alloc(), &front, escape)?;
+            expect_escape(&rt, rt.alloc(), &prefix, escape)?;
         }
     }
     Ok(())

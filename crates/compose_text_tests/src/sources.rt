@@ -134,7 +134,7 @@ static MANY_DEFINITIONS: [(&str, usize, &str); 2] = [
 ];
 
 /// Tables whose order the first three keysyms do not tell, and what is printed.
-static GUESSED: [(&str, &str, bool, &str); 8] = [
+static HINTED: [(&str, &str, bool, &str); 8] = [
     (
         "<a> <a> <a> <a> <a> <c> : \"1\"\n<a> <a> <a> <a> <a> <b> <z> : \"2\"\n<a> <a> <a> <a> <a> <b> <y> : \"3\"\n",
         "",
@@ -298,8 +298,8 @@ fn printed_rows(alloc: Global, sequences: &Sequences) -> Result<String, AllocErr
 
 /// The keysyms with commas between them.
 fn print_keys(text: &mut String, keys: &[Keysym]) -> Result<(), AllocError> {
-    for (place, key) in keys.iter().enumerate() {
-        let comma = if place > 0 { "," } else { "" };
+    for (index, key) in keys.iter().enumerate() {
+        let comma = if index > 0 { "," } else { "" };
         let number = key.value();
         write!(text, "{comma}0x{number:x}")?;
     }
@@ -341,8 +341,8 @@ fn tables(rt: HostRuntime) -> Result<(), Fail> {
 }
 
 #[test]
-fn guessed_orders(rt: HostRuntime) -> Result<(), Fail> {
-    check_tables(&rt, rt.alloc(), &GUESSED)
+fn hinted_orders(rt: HostRuntime) -> Result<(), Fail> {
+    check_tables(&rt, rt.alloc(), &HINTED)
 }
 
 #[test]

@@ -5,7 +5,7 @@ use Rattle.std.specs.Option.{option_map_or}
 use Rattle.std.proofs.lemmas.Bool.{le-ltb}
 use Rattle.compose_model.specs.Table.{Definition}
 use Rattle.compose_migration.specs.Migration.{NoMigration, or_because}
-use Rattle.compose_migration.specs.Given.{MigrationRefused}
+use Rattle.compose_migration.specs.MigrationGives.{MigrationRefused}
 use Rattle.compose_migration.specs.declared.fault.MigrationFault.{MigrationFault}
 use Rattle.compose_migration.specs.declared.fault.MigrationFault.TheVariants as migration_faults
 use Rattle.keysym_core.specs.declared.fault.NameFault.TheVariants as name_faults
@@ -14,7 +14,7 @@ use Rattle.compose_cert.specs.declared.RepertoireFault.TheVariants as repertoire
 use Rattle.compose_fresh.specs.Fresh.{fresh_conditions}
 use Rattle.compose_fresh.specs.Conditions.{first_unmet}
 use Rattle.compose_check.specs.Input.{Parts, Unread, no_migration}
-use Rattle.compose_check.specs.Gives.{InputRefused}
+use Rattle.compose_check.specs.CheckGives.{InputRefused}
 use Rattle.compose_fresh.specs.declared.fault.CheckFault.{CheckFault}
 use Rattle.compose_check.specs.declared.input.InputFault.{InputFault}
 use Rattle.compose_check.specs.declared.input.InputFault.TheVariants as input_faults

@@ -2,7 +2,7 @@
 use Rattle.std.proofs.Common.{◌≡◌, ℕ, ◌+◌, List, ◌∷◌, sym, ◌∙◌, ap, arith}
 use Rattle.std.specs.Prelude.{Result, Ok, Err}
 use Rattle.compose_tool.specs.Manifest.{Listing, with_line, lines_on, some_entries}
-use Rattle.compose_tool.specs.Given.{ManifestGives, SaidGives}
+use Rattle.compose_tool.specs.ManifestGives.{ManifestGives, SaidGives}
 use Rattle.compose_tool.specs.declared.manifest.ManifestFault.{ManifestFault}
 use Rattle.compose_tool.specs.declared.manifest.ManifestFault.TheVariants.{BadLine, Empty, NoMemory}
 

@@ -8,14 +8,14 @@ use Rattle.compose_text.specs.Results.{◌>>=◌}
 use Rattle.compose_model.specs.Table.{Definition}
 use Rattle.compose_model.specs.Nodes.{rising}
 use Rattle.compose_model.specs.Certificate.{Certificate, Repertoire}
-use Rattle.compose_tree.specs.Given.{first_table}
+use Rattle.compose_tree.specs.TableGives.{first_table}
 use Rattle.compose_cert.specs.Repertoire.{repertoire_of}
 use Rattle.compose_migration.specs.Migration.{GivenMigration, NamedParts, TableSources, Parts, or_because, migration_of}
 use Rattle.compose_cert.specs.Reading.{certificate_of}
 use Rattle.compose_cert.specs.declared.CertFault.{CertFault}
 use Rattle.compose_check.specs.Input as checks
 use Rattle.compose_check.specs.Input.{Unread, no_repertoire, no_certificate, parts_of}
-use Rattle.compose_tool.specs.Parts.{NoAnswer, TypedParts, AllowedParts, allowed_parts, Explainable, Needs, unread, no_only_table, given_words, type_parts, migration_parts, explainable, explain_parts, makeable, make_parts}
+use Rattle.compose_tool.specs.Parts.{NoAnswer, TypedParts, AllowedParts, allowed_parts, Explainable, Needs, unread, no_only_table, given_key_names, type_parts, migration_parts, explainable, explain_parts, makeable, make_parts}
 use Rattle.compose_tool.specs.Refused.{IsRefused, Gives}
 use Rattle.compose_tool.specs.Answers.{IsChecked, IsCheckedFor}
 use Rattle.compose_tool.specs.declared.answer.Answer.{Answer}
@@ -53,24 +53,24 @@ refusal_gives answers (Err e) refusal said h g = subst (λ (x : Refusal). IsRefu
 
 -- ---- type
 
-module _ (header : List ℕ) (words : List (List ℕ)) (given : TableSources) where
+module _ (header : List ℕ) (key_names : List (List ℕ)) (given : TableSources) where
   abbrev with_table : NamedParts → List Definition → Result TypedParts NoAnswer
   with_table n table = Ok (record { names = n.names; keys = n.keys; table = table })
 
   abbrev with_named : NamedParts → Result TypedParts NoAnswer
   with_named n = or_because no_only_table (first_table n.names given.sources given.rule) >>= with_table n
 
-  pub named_refused : (refusal : Refusal) → IsRefused refusal (given_words header words) → IsRefused refusal (type_parts header words given)
-  named_refused refusal h = step_refused refusal (given_words header words) with_named h
+  pub named_refused : (refusal : Refusal) → IsRefused refusal (given_key_names header key_names) → IsRefused refusal (type_parts header key_names given)
+  named_refused refusal h = step_refused refusal (given_key_names header key_names) with_named h
 
-  module _ (n : NamedParts) (n_read : IsRead (given_words header words) n) where
-    after_named : type_parts header words given ≡ (or_because no_only_table (first_table n.names given.sources given.rule) >>= with_table n)
-    after_named = ap (λ r. r >>= with_named) (is_read (given_words header words) n n_read)
+  module _ (n : NamedParts) (n_read : IsRead (given_key_names header key_names) n) where
+    after_named : type_parts header key_names given ≡ (or_because no_only_table (first_table n.names given.sources given.rule) >>= with_table n)
+    after_named = ap (λ r. r >>= with_named) (is_read (given_key_names header key_names) n n_read)
 
-    pub table_refused : (refusal : Refusal) → IsRefused refusal (or_because no_only_table (first_table n.names given.sources given.rule)) → IsRefused refusal (type_parts header words given)
+    pub table_refused : (refusal : Refusal) → IsRefused refusal (or_because no_only_table (first_table n.names given.sources given.rule)) → IsRefused refusal (type_parts header key_names given)
     table_refused refusal h = subst (λ (s : Result TypedParts NoAnswer). IsRefused refusal s) (sym after_named) (step_refused refusal (or_because no_only_table (first_table n.names given.sources given.rule)) (with_table n) h)
 
-    pub typed_read : (table : List Definition) → IsRead (or_because no_only_table (first_table n.names given.sources given.rule)) table → type_parts header words given ≡ Ok (record { names = n.names; keys = n.keys; table = table })
+    pub typed_read : (table : List Definition) → IsRead (or_because no_only_table (first_table n.names given.sources given.rule)) table → type_parts header key_names given ≡ Ok (record { names = n.names; keys = n.keys; table = table })
     typed_read table table_read = after_named ∙ ap (λ r. r >>= with_table n) (is_read (or_because no_only_table (first_table n.names given.sources given.rule)) table table_read)
 
 -- ---- check, with the keysyms that may be fresh
@@ -100,15 +100,15 @@ certificate_read input p e = go (or_because checks.no_migration (migration_of in
     go (Ok m) (Err f) c e = cc
     go (Err f) r c e = cc
 
-module _ (words : List (List ℕ)) (input : checks.Input) where
+module _ (key_names : List (List ℕ)) (input : checks.Input) where
   abbrev with_parts : NamedParts → checks.Parts → Result AllowedParts NoAnswer
   with_parts n p = Ok (record { checked = p; allowed = n.keys })
 
-  abbrev with_words : NamedParts → Result AllowedParts NoAnswer
-  with_words n = or_because unread (parts_of input) >>= with_parts n
+  abbrev with_key_names : NamedParts → Result AllowedParts NoAnswer
+  with_key_names n = or_because unread (parts_of input) >>= with_parts n
 
-  pub allowed_read : (n : NamedParts) → IsRead (given_words input.migration.header words) n → (p : checks.Parts) → or_because unread (parts_of input) ≡ Ok p → allowed_parts words input ≡ with_parts n p
-  allowed_read n n_read p p_read = ap (λ r. r >>= with_words) (is_read (given_words input.migration.header words) n n_read) ∙ ap (λ r. r >>= with_parts n) p_read
+  pub allowed_read : (n : NamedParts) → IsRead (given_key_names input.migration.header key_names) n → (p : checks.Parts) → or_because unread (parts_of input) ≡ Ok p → allowed_parts key_names input ≡ with_parts n p
+  allowed_read n n_read p p_read = ap (λ r. r >>= with_key_names) (is_read (given_key_names input.migration.header key_names) n n_read) ∙ ap (λ r. r >>= with_parts n) p_read
 
 -- an answer of the check that is not yes stays as it is
 pub other_checked : (p : AllowedParts) (answer : Answer) → ((text : String Global) → answer ≡ Yes text → ⊥) → IsChecked p.checked answer → IsCheckedFor p answer

@@ -3,7 +3,7 @@ use Rattle.std.proofs.Common.{◌≡◌, ◌≢◌, ℕ, ◌<◌, zero, suc, Lis
 use Rattle.std.specs.Prelude.{◌==◌, ◌&&◌}
 use Rattle.std.specs.List.{list_all}
 use Rattle.std.proofs.lemmas.Bool.{eqb-true}
-use Rattle.compose_text.specs.Bytes.{front, behind}
+use Rattle.compose_text.specs.Bytes.{leading, behind}
 use Rattle.compose_tool.specs.Manifest.{Entry, is_no_tab, are_parts, entry_of, entry_of_parts}
 
 other_byte : (b : ℕ) → b ≢ 9 → is_no_tab b ≡ true
@@ -13,9 +13,9 @@ other_byte b h = go (b == 9) refl
     go true e = absurd (h (eqb-true b 9 e))
     go false e = refl
 
--- the first tab stands at this place
+-- the first tab stands at this index
 pub record TabAt (text : List ℕ) (at : ℕ) : Type 0 where
-  pub before : front is_no_tab text ≡ take at text
+  pub before : leading is_no_tab text ≡ take at text
   pub from : behind is_no_tab text ≡ 9 ∷ drop (suc at) text
 
 pub first_tab : (text : List ℕ) (at : ℕ) → at < length text → get_or text at 0 ≡ 9 → ((i : ℕ) → i < at → get_or text i 0 ≢ 9) → TabAt text at
@@ -46,14 +46,14 @@ some_tab (b ∷ text) (suc at) less e = go (is_no_tab b) (some_tab text at (omeg
 
 entry_by : (text : List ℕ) (at : ℕ) → TabAt text at → (name path : List ℕ) → name ≡ take at text → path ≡ drop (at + 1) text → entry_of text ≡ entry_of_parts name (9 ∷ path)
 entry_by text at tab name path n p =
-    ap (entry_of_parts (front is_no_tab text)) tab.from ∙ ap (λ x. entry_of_parts x (9 ∷ drop (suc at) text)) (tab.before ∙ sym n)
+    ap (entry_of_parts (leading is_no_tab text)) tab.from ∙ ap (λ x. entry_of_parts x (9 ∷ drop (suc at) text)) (tab.before ∙ sym n)
     ∙ ap (λ x. entry_of_parts name (9 ∷ x)) (ap (λ i. drop i text) (next at) ∙ sym p)
   where
     next : (i : ℕ) → suc i ≡ i + 1
     next i = omega arith
 
 pub no_entry : (text : List ℕ) → ((i : ℕ) → i < length text → get_or text i 0 ≢ 9) → entry_of text ≡ None
-no_entry text h = ap (entry_of_parts (front is_no_tab text)) (no_tab text h).0
+no_entry text h = ap (entry_of_parts (leading is_no_tab text)) (no_tab text h).0
 
 pub bad_entry : (text : List ℕ) (at : ℕ) → TabAt text at → (name path : List ℕ) → name ≡ take at text → path ≡ drop (at + 1) text → are_parts name path ≡ false → entry_of text ≡ None
 bad_entry text at tab name path n p bad = entry_by text at tab name path n p ∙ rw bad refl

@@ -14,7 +14,7 @@ use Rattle.compose_check.specs.declared.verdict.Verdict.TheVariants as verdicts
 use Rattle.compose_walk.specs.Evidence.{Evidence, IsLeast, AreDifferences}
 use Rattle.compose_walk.specs.Explained.{explained, all_explained}
 use Rattle.compose_make.specs.Least.{AreUntypable, IsUnreachable}
-use Rattle.compose_make.specs.Made.{IsMadeFor}
+use Rattle.compose_make.specs.IsMade.{IsMadeFor}
 use Rattle.compose_migration.specs.Migration.{Parts}
 use Rattle.compose_tool.specs.Parts.{TypedParts, AllowedParts, Explainable, Needs}
 use Rattle.compose_tool.specs.Typed.{typed_lines}

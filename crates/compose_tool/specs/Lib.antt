@@ -1,5 +1,5 @@
 pub mod Manifest
-pub mod Given
+pub mod ManifestGives
 pub mod Typed
 pub mod Parts
 pub mod Ends

@@ -5,7 +5,7 @@ use Rattle.std.specs.Option.{option_map_or}
 use Rattle.std.specs.List.{list_all}
 use Rattle.compose_text.specs.Lines.{lines_of}
 use Rattle.compose_model.specs.Table.{same}
-use Rattle.compose_text.specs.Bytes.{front, behind}
+use Rattle.compose_text.specs.Bytes.{leading, behind}
 use Rattle.compose_model.specs.declared.Rule.{Rule}
 use Rattle.compose_model.specs.declared.Rule.TheVariants.{Refuse, Longest}
 use Rattle.compose_tool.specs.declared.manifest.ManifestFault.{ManifestFault}
@@ -51,7 +51,7 @@ entry_of_parts name (tab ∷ path) = if are_parts name path then Some (record { 
 
 -- a name, one tab and a path: what stands before the first tab, and behind it
 abbrev pub entry_of : List ℕ → Option Entry
-entry_of line = entry_of_parts (front is_no_tab line) (behind is_no_tab line)
+entry_of line = entry_of_parts (leading is_no_tab line) (behind is_no_tab line)
 
 abbrev pub rule_of : List ℕ → Option Rule
 rule_of line = if bytes_eq line (codes "overlap longest") then Some Longest else if bytes_eq line (codes "overlap refuse") then Some Refuse else None

@@ -7,7 +7,7 @@ use Rattle.keysym_core.specs.Names.{KeysymNames}
 use Rattle.compose_model.specs.Table.{Definition}
 use Rattle.compose_model.specs.Nodes.{rising}
 use Rattle.compose_model.specs.Certificate.{Repertoire}
-use Rattle.compose_tree.specs.Given.{NoTable, first_table}
+use Rattle.compose_tree.specs.TableGives.{NoTable, first_table}
 use Rattle.compose_migration.specs.Migration.{GivenMigration, NoMigration, NamedParts, TableSources, Parts, or_because, named, migration_of}
 use Rattle.compose_cert.specs.Repertoire.{repertoire_of}
 use Rattle.compose_fresh.specs.Fresh.{fresh_conditions, max_fresh}
@@ -23,35 +23,35 @@ pub data NoAnswer : Type 0 where
   no_only_table : NoTable → NoAnswer
   no_fresh : MakeFault → NoAnswer
 
--- ---- typing: the names, the keysyms of the words, the table
+-- ---- typing: the names, the keysyms of the key names, the table
 
 pub record TypedParts : Type 0 where
   pub names : KeysymNames
   pub keys : List ℕ
   pub table : List Definition
 
-abbrev pub given_words : List ℕ → List (List ℕ) → Result NamedParts NoAnswer
-given_words header words = or_because (λ why. unread (no_migration why)) (named header words)
+abbrev pub given_key_names : List ℕ → List (List ℕ) → Result NamedParts NoAnswer
+given_key_names header key_names = or_because (λ why. unread (no_migration why)) (named header key_names)
 
 abbrev pub type_parts : List ℕ → List (List ℕ) → TableSources → Result TypedParts NoAnswer
-type_parts header words given = do
-  n ← given_words header words
+type_parts header key_names given = do
+  n ← given_key_names header key_names
   table ← or_because no_only_table (first_table n.names given.sources given.rule)
   Ok (record { names = n.names; keys = n.keys; table = table })
 
--- ---- a check whose fresh keysyms have to be among those of the words, which are read after the names
+-- ---- a check whose fresh keysyms have to be among those of the key names, which are read after the names
 
 pub record AllowedParts : Type 0 where
   pub checked : checks.Parts
   pub allowed : List ℕ
 
 abbrev pub allowed_parts : List (List ℕ) → checks.Input → Result AllowedParts NoAnswer
-allowed_parts words input = do
-  n ← given_words input.migration.header words
+allowed_parts key_names input = do
+  n ← given_key_names input.migration.header key_names
   checked ← or_because unread (parts_of input)
   Ok (record { checked = checked; allowed = n.keys })
 
--- ---- a migration: the names, the keysyms of the words, the old table, the new one
+-- ---- a migration: the names, the keysyms of the key names, the old table, the new one
 
 abbrev pub migration_parts : GivenMigration → Result Parts NoAnswer
 migration_parts given = or_because (λ why. unread (no_migration why)) (migration_of given)
@@ -72,7 +72,7 @@ pub record Explainable : Type 0 where
 abbrev pub explainable : Parts → List ℕ → Result Explainable NoAnswer
 explainable move fresh = accepted fresh move.old (record { move = move; fresh = fresh })
 
--- the fresh keysyms are those of the words in rising order, each once
+-- the fresh keysyms are those of the key names in rising order, each once
 abbrev pub explain_parts : GivenMigration → Result Explainable NoAnswer
 explain_parts given = do
   move ← migration_parts given

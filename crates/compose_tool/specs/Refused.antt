@@ -1,8 +1,8 @@
 -- What is said of a part that is refused; memory that is refused is said of the whole.
 use Rattle.std.specs.Prelude.{◌≡◌, Result, Ok, Err}
-use Rattle.compose_tree.specs.Given.{NoTable}
+use Rattle.compose_tree.specs.TableGives.{NoTable}
 use Rattle.compose_migration.specs.Migration.{no_names, no_key, no_table}
-use Rattle.compose_migration.specs.Given.{TableFails}
+use Rattle.compose_migration.specs.MigrationGives.{TableFails}
 use Rattle.compose_migration.specs.declared.fault.MigrationFault.{MigrationFault}
 use Rattle.compose_migration.specs.declared.fault.MigrationFault.TheVariants as migration_faults
 use Rattle.compose_migration.specs.declared.fault.Side.TheVariants as sides

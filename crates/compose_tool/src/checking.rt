@@ -3,7 +3,7 @@ ghost use Rattle.std.specs.Prelude.{◌≡◌, map};
 ghost use Rattle.compose_cert.specs.Reading.{certificate_of};
 ghost use Rattle.compose_migration.specs.Migration.{or_because};
 ghost use Rattle.compose_check.specs.Input.{parts_of, no_certificate};
-ghost use Rattle.compose_check.specs.Gives.{input_of};
+ghost use Rattle.compose_check.specs.CheckGives.{input_of};
 ghost use Rattle.compose_tool.specs.Parts.{unread, allowed_parts};
 ghost use Rattle.compose_tool.specs.Refused.{Gives};
 ghost use Rattle.compose_tool.specs.Answers.{IsChecked, IsCheckedFor, first_not_among};
@@ -32,17 +32,17 @@ pub fn check_migration<T: ComposeTable>(
     }
 }
 
-/// Checks a certificate as `check_migration` does, and then that its fresh keysyms are all among those of the words: for the others
-/// nothing is promised, and who made the certificate chose them. The words are read after the names. At the cost of `check_bytes`, of
-/// reading the names and the certificate once more, and O(f w) in the fresh keysyms and the words.
+/// Checks a certificate as `check_migration` does, and then that its fresh keysyms are all among those of the key names: for the others
+/// nothing is promised, and who made the certificate chose them. The key names are read after the names. At the cost of `check_bytes`, of
+/// reading the names and the certificate once more, and O(f w) in the fresh keysyms and the key names.
 pub fn check_allowed<T: ComposeTable>(
     alloc: Global,
     input: &CheckInput<'_>,
-    words: &[&str],
+    key_names: &[&str],
 ) -> Result<Answer, Refusal>
-    ensures { Gives IsCheckedFor result (allowed_parts (map (λ word. word.now) words.now) (input_of input.entry.now)) }
+    ensures { Gives IsCheckedFor result (allowed_parts (map (λ word. word.now) key_names.now) (input_of input.entry.now)) }
 {
-    let named = read_named(alloc, input.header, words)?;
+    let named = read_named(alloc, input.header, key_names)?;
     match check_migration::<T>(alloc, input)? {
         Answer::Yes(text) => {
             let certificate = read_certificate(alloc, input.certificate)?;

@@ -1,6 +1,6 @@
 //! `explain`: the keys on which two tables differ.
 ghost use Rattle.std.specs.Prelude.{◌≡◌, string_bytes, IfOk};
-ghost use Rattle.compose_migration.specs.Given.{given_of, parts};
+ghost use Rattle.compose_migration.specs.MigrationGives.{given_of, parts};
 ghost use Rattle.compose_walk.specs.Explained.{explained, all_explained};
 ghost use Rattle.compose_tool.specs.Parts.{explainable, explain_parts};
 ghost use Rattle.compose_tool.specs.Refused.{Gives};
@@ -16,7 +16,7 @@ use keysym_core::{Keysym, Names};
 use std::alloc::{AllocError, Global};
 
 /// Tells the shortest keys on which the tables differ, the first of these in the order of sequences, and what each commits; or that
-/// the new table follows. The words are the fresh keysyms, which are sorted. The parts are read in the order names, words, old
+/// the new table follows. The key names are those of the fresh keysyms, which are sorted. The parts are read in the order names, key names, old
 /// table, new table, and then the fresh keysyms are looked at; the first that is refused decides. At the cost of reading the tables
 /// and of `walk`.
 pub fn explain_migration<T: ComposeTable>(

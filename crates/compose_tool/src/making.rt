@@ -2,7 +2,7 @@
 ghost use Rattle.std.specs.Prelude.{◌≡◌, ◌++◌, string_bytes, codes, true, IfOk};
 ghost use Rattle.std.specs.Fmt.{digits};
 ghost use Rattle.keysym_core.specs.Printed.{at_least_four};
-ghost use Rattle.compose_migration.specs.Given.{given_of, parts};
+ghost use Rattle.compose_migration.specs.MigrationGives.{given_of, parts};
 ghost use Rattle.compose_cert.specs.Spelling.{Spells};
 ghost use Rattle.compose_tool.specs.Parts.{makeable, make_parts};
 ghost use Rattle.compose_tool.specs.Refused.{Gives};
@@ -20,8 +20,8 @@ use keysym_core::{Keysym, ShownChar};
 use std::alloc::{AllocError, Global};
 
 /// Makes the text of a certificate that the new table follows the old one and types what people need; or tells the shortest keys on
-/// which they differ, or the first character that can't be typed. The words are the fresh keysyms, which are sorted. The parts are
-/// read in the order names, words, old table, new table, repertoire, and then the fresh keysyms are looked at; the first that is
+/// which they differ, or the first character that can't be typed. The key names are those of the fresh keysyms, which are sorted. The parts are
+/// read in the order names, key names, old table, new table, repertoire, and then the fresh keysyms are looked at; the first that is
 /// refused decides. At the cost of reading them and of `make`.
 pub fn make_migration<T: ComposeTable>(
     alloc: Global,

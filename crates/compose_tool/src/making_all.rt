@@ -1,6 +1,6 @@
 //! `make --all`: a certificate, or all characters that can't be typed.
 ghost use Rattle.std.specs.Prelude.{◌≡◌, ◌++◌, string_bytes, IfOk};
-ghost use Rattle.compose_migration.specs.Given.{given_of, parts};
+ghost use Rattle.compose_migration.specs.MigrationGives.{given_of, parts};
 ghost use Rattle.compose_make.specs.Least.{AreUntypable};
 ghost use Rattle.compose_tool.specs.Parts.{makeable, make_parts};
 ghost use Rattle.compose_tool.specs.Refused.{Gives};

@@ -5,7 +5,7 @@ ghost use Rattle.std.specs.Option.{option_map};
 ghost use Rattle.compose_model.specs.declared.Rule.TheVariants.{Refuse, Longest};
 ghost use Rattle.compose_tool.specs.Manifest as words;
 ghost use Rattle.compose_tool.specs.Manifest.{listing_of, with_paths_here, with_rule, with_text};
-ghost use Rattle.compose_tool.specs.Given.{ManifestGives, LineGives, SaidGives, entry};
+ghost use Rattle.compose_tool.specs.ManifestGives.{ManifestGives, LineGives, SaidGives, entry};
 
 use compose_model::Rule;
 use compose_text::first_line;
@@ -94,7 +94,7 @@ impl Manifest {
         &self.entries
     }
 
-    /// The name of the source at this place. O(1).
+    /// The name of the source at this index. O(1).
     pub fn name(&self, index: usize) -> Option<&str>
         ensures { option_copied result ≡ option_map (λ e. e.name) (slice_get self.now.entries index) }
     {
@@ -102,7 +102,7 @@ impl Manifest {
         Some(entry.name.as_str())
     }
 
-    /// The path of the file at this place. O(1).
+    /// The path of the file at this index. O(1).
     pub fn path(&self, index: usize) -> Option<&str>
         ensures { option_copied result ≡ option_map (λ e. e.path) (slice_get self.now.entries index) }
     {

@@ -2,12 +2,12 @@
 ghost use Rattle.std.specs.Prelude.{◌≡◌, map, IfOk};
 ghost use Rattle.std.specs.Ordering.{nat_cmp};
 ghost use Rattle.compose_model.specs.Nodes.{rising};
-ghost use Rattle.compose_tree.specs.Given.{first_table};
+ghost use Rattle.compose_tree.specs.TableGives.{first_table};
 ghost use Rattle.compose_cert.specs.Repertoire.{repertoire_of};
 ghost use Rattle.compose_migration.specs.Migration.{or_because};
-ghost use Rattle.compose_migration.specs.Given.{given_of, named_parts, parts};
+ghost use Rattle.compose_migration.specs.MigrationGives.{given_of, named_parts, parts};
 ghost use Rattle.compose_check.specs.Input.{no_repertoire};
-ghost use Rattle.compose_tool.specs.Parts.{unread, no_only_table, given_words, migration_parts};
+ghost use Rattle.compose_tool.specs.Parts.{unread, no_only_table, given_key_names, migration_parts};
 ghost use Rattle.compose_tool.specs.Refused.{Gives};
 
 use crate::refusal::Refusal;
@@ -17,11 +17,11 @@ use compose_tree::{ComposeTable, TableFault, read_first_table};
 use keysym_core::{Keysym, Names};
 use std::alloc::{AllocError, Global};
 
-/// The names of a header, and the keysyms of words.
-pub fn read_named(alloc: Global, header: &[u8], words: &[&str]) -> Result<Named, Refusal>
-    ensures { Gives (λ said read. said ≡ named_parts read) result (given_words header.now (map (λ word. word.now) words.now)) }
+/// The names of a header, and the keysyms of key names.
+pub fn read_named(alloc: Global, header: &[u8], key_names: &[&str]) -> Result<Named, Refusal>
+    ensures { Gives (λ said read. said ≡ named_parts read) result (given_key_names header.now (map (λ word. word.now) key_names.now)) }
 {
-    match Named::read(alloc, header, words) {
+    match Named::read(alloc, header, key_names) {
         Ok(named) => Ok(named),
         Err(fault) => Err(Refusal::from(fault)),
     }
@@ -42,7 +42,7 @@ pub fn read_only_table<T: ComposeTable>(
     }
 }
 
-/// The names, the keysyms of the words, and both tables of a migration.
+/// The names, the keysyms of the key names, and both tables of a migration.
 pub fn read_migration<T: ComposeTable>(
     alloc: Global,
     input: &MigrationInput<'_, '_>,

@@ -9,13 +9,13 @@ use std::alloc::{AllocError, AllocFailed};
 use thiserror::Error;
 
 /// The first part of what a command is given that is refused, and why; or that memory was refused. Printed as the part and the fault
-/// are, but for a word, which its owner prints.
+/// are, but for a key name, which its owner prints.
 #[derive(Debug, PartialEq, Eq, Drop, Error)]
 pub enum Refusal {
     /// The header of names is refused.
     #[error("refused: names: {0}")]
     Names(NameFault),
-    /// The word at this index is the first one that has no keysym.
+    /// The key name at this index is the first one that has no keysym.
     #[error("refused: key: word {index}")]
     Key { index: usize },
     /// The one table that is given is refused.

@@ -2,9 +2,9 @@
 ghost use Rattle.std.specs.Prelude.{◌≡◌, ◌++◌, List, map, Ok, OnOk, IfOk, string_bytes};
 ghost use Rattle.compose_model.specs.Table.{Definition};
 ghost use Rattle.compose_read.specs.Read.{definitions_of};
-ghost use Rattle.compose_tree.specs.Given.{table_of};
-ghost use Rattle.compose_tool.specs.Given.{TypeGives};
-ghost use Rattle.compose_migration.specs.Given.{table_given};
+ghost use Rattle.compose_tree.specs.TableGives.{table_of};
+ghost use Rattle.compose_tool.specs.ManifestGives.{TypeGives};
+ghost use Rattle.compose_migration.specs.MigrationGives.{table_given};
 ghost use Rattle.compose_tool.specs.Typed.{typed_lines, fed_line};
 ghost use Rattle.compose_tool.specs.Parts.{type_parts};
 ghost use Rattle.compose_tool.specs.Refused.{Gives};
@@ -69,17 +69,17 @@ pub fn type_lines<T: ComposeTable>(
     }
 }
 
-/// Types the words with a table, from rest: a line for each key, as `type_lines` gives it. The parts are read in the order names, words,
+/// Types the keys with a table, from rest: a line for each key, as `type_lines` gives it. The parts are read in the order names, key names,
 /// table, and the first that is refused decides.
 pub fn type_keys<T: ComposeTable>(
     alloc: Global,
     header: &[u8],
-    words: &[&str],
+    key_names: &[&str],
     table: &TableInput<'_>,
 ) -> Result<Answer, Refusal>
-    ensures { Gives IsTyped result (type_parts header.now (map (λ word. word.now) words.now) (table_given table.entry.now)) }
+    ensures { Gives IsTyped result (type_parts header.now (map (λ word. word.now) key_names.now) (table_given table.entry.now)) }
 {
-    let named = read_named(alloc, header, words)?;
+    let named = read_named(alloc, header, key_names)?;
     let table: T = read_only_table(alloc, &named.names, table)?;
     let lines = lines_of_keys(alloc, &named.names, &table, &named.keys)?;
     Ok(Answer::Yes(lines))

@@ -1,4 +1,4 @@
--- One definition of a settled table after another: what each adds, by its place.
+-- One definition of a settled table after another: what each adds, by its index.
 use Rattle.std.proofs.Common.{◌≡◌, ℕ, true, suc, ◌+◌, ◌-◌, ◌<◌, ◌≤◌, List, [], ◌∷◌, ◌++◌, length, map, get_or, take, drop, refl, sym, ◌∙◌, ap, subst, arith, nat_cmp, add-one, length-append, length-take, length-take-le, length-set}
 use Rattle.std.specs.Cmp.Lexicographic.{slice_cmp}
 use Rattle.std.proofs.Math.Seq.{take-suc}
@@ -13,7 +13,7 @@ use Rattle.compose_tree.specs.declared.table.Target.TheVariants.{Node}
 use Rattle.compose_tree.specs.Rows.{NodeRow, rows_of, row_of, row_at, next_target, new_rows, with_edge, path_of, last_sequence, shared, shared_with_last, sequence_at, counted}
 use Rattle.compose_tree.proofs.OneMore.{parent_is_node}
 use Rattle.compose_tree.proofs.MoreRows.{map_of_map, rows_more, more_nodes, path_more, last_sequence_more}
-use Rattle.compose_tree.proofs.NextIn.{Next, next_of_settled, settled_front, nodes_grow, head_before, tail_rises}
+use Rattle.compose_tree.proofs.NextIn.{Next, next_of_settled, settled_prefix, nodes_grow, head_before, tail_rises}
 
 -- rising sequences are the leaves as they stand
 pub leaves_are : (table : List Definition) → sequences_rise table ≡ true → leaves table ≡ map (λ d. d.sequence) table
@@ -29,11 +29,11 @@ pub take_more : (all : List Definition) (i : ℕ) → i < length all → take (i
 take_more all i h = rw add-one (take-suc all i (record { sequence = []; text = [] }) h)
 
 pub settled_take : (all : List Definition) (i : ℕ) → IsSettled all → IsSettled (take i all)
-settled_take all i s = settled_front (take i all) (drop i all) (subst IsSettled (sym (take-append-drop i all)) s)
+settled_take all i s = settled_prefix (take i all) (drop i all) (subst IsSettled (sym (take-append-drop i all)) s)
 
--- the last sequence of a front is the one before its end
-pub last_of_front : (all : List Definition) (i : ℕ) → i < length all → last_sequence (take (i + 1) all) ≡ sequence_at all i
-last_of_front all i h = ap last_sequence (take_more all i h) ∙ last_sequence_more (take i all) (get_or all i (record { sequence = []; text = [] }))
+-- the last sequence of a prefix is the one before its end
+pub last_of_prefix : (all : List Definition) (i : ℕ) → i < length all → last_sequence (take (i + 1) all) ≡ sequence_at all i
+last_of_prefix all i h = ap last_sequence (take_more all i h) ∙ last_sequence_more (take i all) (get_or all i (record { sequence = []; text = [] }))
 
 -- the parts of a list around one keysym
 key_at : (p rest : List ℕ) (k : ℕ) → get_or ((p ++ k ∷ []) ++ rest) (length p) 0 ≡ k
@@ -62,28 +62,28 @@ pub record Adds (rows : List NodeRow) (path s : List ℕ) (i c : ℕ) (longer : 
   pub more_path : path_of longer ≡ take (c + 1) path ++ counted (length rows) (drop (c + 1) s)
 
 module _ (table : List Definition) (d : Definition) (i : ℕ) (n : Next table d) (leaf : length (leaves table) ≡ i) where
-  front_length : length (n.front ++ n.key ∷ []) ≡ length n.front + 1
-  front_length = length-append n.front (n.key ∷ [])
+  prefix_length : length (n.prefix ++ n.key ∷ []) ≡ length n.prefix + 1
+  prefix_length = length-append n.prefix (n.key ∷ [])
 
-  sequence_length : length d.sequence ≡ length n.front + 1 + length n.rest
-  sequence_length = ap length n.next.sequence ∙ length-append (n.front ++ n.key ∷ []) n.rest ∙ ap (λ x. x + length n.rest) front_length
+  sequence_length : length d.sequence ≡ length n.prefix + 1 + length n.rest
+  sequence_length = ap length n.next.sequence ∙ length-append (n.prefix ++ n.key ∷ []) n.rest ∙ ap (λ x. x + length n.rest) prefix_length
 
-  key_is : n.key ≡ get_or d.sequence (length n.front) 0
-  key_is = sym (ap (λ s. get_or s (length n.front) 0) n.next.sequence ∙ key_at n.front n.rest n.key)
+  key_is : n.key ≡ get_or d.sequence (length n.prefix) 0
+  key_is = sym (ap (λ s. get_or s (length n.prefix) 0) n.next.sequence ∙ key_at n.prefix n.rest n.key)
 
-  rest_is : n.rest ≡ drop (length n.front + 1) d.sequence
-  rest_is = sym (rw add-one (ap (drop (suc (length n.front))) n.next.sequence ∙ rest_behind n.front n.rest n.key))
+  rest_is : n.rest ≡ drop (length n.prefix + 1) d.sequence
+  rest_is = sym (rw add-one (ap (drop (suc (length n.prefix))) n.next.sequence ∙ rest_behind n.prefix n.rest n.key))
 
-  way_at : take (length n.front + 1) (path_of table) ≡ map (number_of table) (proper_prefixes (n.front ++ n.key ∷ []))
+  way_at : take (length n.prefix + 1) (path_of table) ≡ map (number_of table) (proper_prefixes (n.prefix ++ n.key ∷ []))
   way_at = rw add-one n.way
 
-  on_the_way : length n.front < length (path_of table)
+  on_the_way : length n.prefix < length (path_of table)
   on_the_way =
-      let e : length (take (length n.front + 1) (path_of table)) ≡ suc (length n.front) = ap length way_at ∙ way_length (number_of table) n.front n.key in
-      omega (arith, length-take (length n.front + 1) (path_of table))
+      let e : length (take (length n.prefix + 1) (path_of table)) ≡ suc (length n.prefix) = ap length way_at ∙ way_length (number_of table) n.prefix n.key in
+      omega (arith, length-take (length n.prefix + 1) (path_of table))
 
-  parent_is : number_of table n.front ≡ get_or (path_of table) (length n.front) 0
-  parent_is = sym (sym (get_or-take (length n.front + 1) (path_of table) (length n.front) 0 (omega arith)) ∙ ap (λ xs. get_or xs (length n.front) 0) way_at ∙ number_on (number_of table) n.front n.key)
+  parent_is : number_of table n.prefix ≡ get_or (path_of table) (length n.prefix) 0
+  parent_is = sym (sym (get_or-take (length n.prefix + 1) (path_of table) (length n.prefix) 0 (omega arith)) ∙ ap (λ xs. get_or xs (length n.prefix) 0) way_at ∙ number_on (number_of table) n.prefix n.key)
 
   rows_count : length (nodes table) ≡ length (rows_of table)
   rows_count = sym (length-map (nodes table) (row_of table))
@@ -91,24 +91,24 @@ module _ (table : List Definition) (d : Definition) (i : ℕ) (n : Next table d)
   shape : (number key node leaf' depth : ℕ) (rest : List ℕ) → List NodeRow
   shape number key node leaf' depth rest = with_edge (rows_of table) number (record { keysym = key; target = next_target node leaf' rest }) ++ new_rows node leaf' depth rest
 
-  next_adds : Adds (rows_of table) (path_of table) d.sequence i (length n.front) (table ++ d ∷ [])
+  next_adds : Adds (rows_of table) (path_of table) d.sequence i (length n.prefix) (table ++ d ∷ [])
   unfolding shape
   next_adds = record {
     within = omega (arith, sequence_length);
     way = on_the_way;
-    parent = (let below : number_of table n.front < length (nodes table) = number_below table n.front (parent_is_node table d n.front n.key n.rest n.next) in omega (arith, parent_is, rows_count));
-    nodes_count = (let e : length (nodes (table ++ d ∷ [])) ≡ length (nodes table) + length n.rest = more_nodes table d n.front n.key n.rest n.next in omega (arith, sequence_length, rows_count));
-    more_rows = rows_more table d n.front n.key n.rest n.next
-        ∙ ap (λ x. shape x n.key (length (nodes table)) (length (leaves table)) (length (n.front ++ n.key ∷ [])) n.rest) parent_is
-        ∙ ap (λ x. shape (get_or (path_of table) (length n.front) 0) x (length (nodes table)) (length (leaves table)) (length (n.front ++ n.key ∷ [])) n.rest) key_is
-        ∙ ap (λ x. shape (get_or (path_of table) (length n.front) 0) (get_or d.sequence (length n.front) 0) x (length (leaves table)) (length (n.front ++ n.key ∷ [])) n.rest) rows_count
-        ∙ ap (λ x. shape (get_or (path_of table) (length n.front) 0) (get_or d.sequence (length n.front) 0) (length (rows_of table)) x (length (n.front ++ n.key ∷ [])) n.rest) leaf
-        ∙ ap (λ x. shape (get_or (path_of table) (length n.front) 0) (get_or d.sequence (length n.front) 0) (length (rows_of table)) i x n.rest) front_length
-        ∙ ap (λ x. shape (get_or (path_of table) (length n.front) 0) (get_or d.sequence (length n.front) 0) (length (rows_of table)) i (length n.front + 1) x) rest_is;
-    more_path = path_more table d n.front n.key n.rest n.next n.way
-        ∙ ap (λ x. take x (path_of table) ++ counted (length (nodes table)) n.rest) (sym (add-one (length n.front)))
-        ∙ ap (λ x. take (length n.front + 1) (path_of table) ++ counted x n.rest) rows_count
-        ∙ ap (λ x. take (length n.front + 1) (path_of table) ++ counted (length (rows_of table)) x) rest_is;
+    parent = (let below : number_of table n.prefix < length (nodes table) = number_below table n.prefix (parent_is_node table d n.prefix n.key n.rest n.next) in omega (arith, parent_is, rows_count));
+    nodes_count = (let e : length (nodes (table ++ d ∷ [])) ≡ length (nodes table) + length n.rest = more_nodes table d n.prefix n.key n.rest n.next in omega (arith, sequence_length, rows_count));
+    more_rows = rows_more table d n.prefix n.key n.rest n.next
+        ∙ ap (λ x. shape x n.key (length (nodes table)) (length (leaves table)) (length (n.prefix ++ n.key ∷ [])) n.rest) parent_is
+        ∙ ap (λ x. shape (get_or (path_of table) (length n.prefix) 0) x (length (nodes table)) (length (leaves table)) (length (n.prefix ++ n.key ∷ [])) n.rest) key_is
+        ∙ ap (λ x. shape (get_or (path_of table) (length n.prefix) 0) (get_or d.sequence (length n.prefix) 0) x (length (leaves table)) (length (n.prefix ++ n.key ∷ [])) n.rest) rows_count
+        ∙ ap (λ x. shape (get_or (path_of table) (length n.prefix) 0) (get_or d.sequence (length n.prefix) 0) (length (rows_of table)) x (length (n.prefix ++ n.key ∷ [])) n.rest) leaf
+        ∙ ap (λ x. shape (get_or (path_of table) (length n.prefix) 0) (get_or d.sequence (length n.prefix) 0) (length (rows_of table)) i x n.rest) prefix_length
+        ∙ ap (λ x. shape (get_or (path_of table) (length n.prefix) 0) (get_or d.sequence (length n.prefix) 0) (length (rows_of table)) i (length n.prefix + 1) x) rest_is;
+    more_path = path_more table d n.prefix n.key n.rest n.next n.way
+        ∙ ap (λ x. take x (path_of table) ++ counted (length (nodes table)) n.rest) (sym (add-one (length n.prefix)))
+        ∙ ap (λ x. take (length n.prefix + 1) (path_of table) ++ counted x n.rest) rows_count
+        ∙ ap (λ x. take (length n.prefix + 1) (path_of table) ++ counted (length (rows_of table)) x) rest_is;
   }
 
 -- so many leaves as definitions
@@ -117,7 +117,7 @@ leaf_count all i s h =
     let t = settled_take all i s in
     ap length (leaves_are (take i all) t.rise) ∙ length-map (take i all) (λ (d : Definition). d.sequence) ∙ length-take-le i all h
 
--- what the definition at a place of a settled table adds to those before it
+-- what the definition at an index of a settled table adds to those before it
 pub adds_at : (all : List Definition) (i : ℕ) → IsSettled all → i < length all → Adds (rows_of (take i all)) (path_of (take i all)) (sequence_at all i) i (shared_with_last (take i all) (sequence_at all i)) (take (i + 1) all)
 adds_at all i s h =
     let d = get_or all i (record { sequence = []; text = [] }) in
@@ -127,7 +127,7 @@ adds_at all i s h =
     subst (λ (longer : List Definition). Adds (rows_of table) (path_of table) d.sequence i (shared_with_last table d.sequence) longer) (sym more)
     (subst (λ (c : ℕ). Adds (rows_of table) (path_of table) d.sequence i c (table ++ d ∷ [])) (sym n.count) (next_adds table d i n (leaf_count all i s (omega arith))))
 
--- the same, of what the code has at that place
+-- the same, of what the code has at that index
 pub adds_here : (all : List Definition) (i : ℕ) (rows : List NodeRow) (path s : List ℕ) (c : ℕ) → IsSettled all → i < length all → rows ≡ rows_of (take i all) → path ≡ path_of (take i all)
     → s ≡ sequence_at all i → c ≡ shared_with_last (take i all) (sequence_at all i) → Adds rows path s i c (take (i + 1) all)
 adds_here all i rows path s c settled h rows_are path_is sequence_is shared_is =
@@ -138,18 +138,18 @@ adds_here all i rows path s c settled h rows_are path_is sequence_is shared_is =
     (subst (λ (x : List ℕ). Adds (rows_of (take i all)) (path_of (take i all)) x i c longer) (sym sequence_is)
     (subst (λ (x : ℕ). Adds (rows_of (take i all)) (path_of (take i all)) (sequence_at all i) i x longer) (sym shared_is) (adds_at all i settled h))))
 
--- the nodes of a front are no more than all
-pub front_nodes : (all : List Definition) (i : ℕ) → IsSettled all → length (nodes (take i all)) ≤ length (nodes all)
-front_nodes all i s =
+-- the nodes of a prefix are no more than all
+pub prefix_nodes : (all : List Definition) (i : ℕ) → IsSettled all → length (nodes (take i all)) ≤ length (nodes all)
+prefix_nodes all i s =
     let e = take-append-drop i all in
     let grown = nodes_grow (take i all) (drop i all) (subst IsSettled (sym e) s) in
     let same_count : length (nodes (take i all ++ drop i all)) ≡ length (nodes all) = ap (λ t. length (nodes t)) e in
     omega arith
 
--- what is shared with the sequence at a place is shared with the last one up to it
+-- what is shared with the sequence at an index is shared with the last one up to it
 pub shared_on : (all : List Definition) (i : ℕ) (t s : List ℕ) → i < length all → t ≡ sequence_at all i → shared t s ≡ shared_with_last (take (i + 1) all) s
 shared_on all i t s h is =
-    ap (λ x. shared x s) (is ∙ sym (last_of_front all i h))
+    ap (λ x. shared x s) (is ∙ sym (last_of_prefix all i h))
 
 -- nothing is shared with nothing
 pub shared_nothing : (s : List ℕ) → shared s [] ≡ 0

@@ -114,10 +114,10 @@ total_added rows path s i c longer a =
     let left = length-drop (c + 1) s in
     omega (arith, whole, join, one, opened, left, a.within)
 
-total_front : (all : List Definition) (i : ℕ) → IsSettled all → i ≤ length all → edge_total (rows_of (take i all)) ≤ 32 * i
-total_front all zero settled h = omega arith
-total_front all (suc i) settled h =
-    let before = total_front all i settled (omega arith) in
+total_prefix : (all : List Definition) (i : ℕ) → IsSettled all → i ≤ length all → edge_total (rows_of (take i all)) ≤ 32 * i
+total_prefix all zero settled h = omega arith
+total_prefix all (suc i) settled h =
+    let before = total_prefix all i settled (omega arith) in
     let added = total_added (rows_of (take i all)) (path_of (take i all)) (sequence_at all i) i _ (take (i + 1) all) (adds_at all i settled (omega arith)) in
     let d : Definition = record { sequence = []; text = [] } in
     let few = sequence_few (get_or all i d) (definition_at all i d settled.definitions (omega arith)) in
@@ -128,20 +128,20 @@ total_front all (suc i) settled h =
 pub edges_few_in_all : (table : List Definition) (ds : List ℕ) (es : List NodeEdge) → IsSettled table → AreAtNodes (length ds) es → gathered 0 ds es ≡ rows_of table → length es ≤ 32 * length table
 edges_few_in_all table ds es settled at_nodes is =
     let total = edges_total ds es at_nodes in let same = ap edge_total is in
-    let front = total_front table (length table) settled (omega arith) in let whole = ap (λ t. edge_total (rows_of t)) (take-length table) in
-    omega (arith, total, same, front, whole)
+    let prefix = total_prefix table (length table) settled (omega arith) in let whole = ap (λ t. edge_total (rows_of t)) (take-length table) in
+    omega (arith, total, same, prefix, whole)
 
 -- ---- numbers
 
-place_few : {X : Type 0} (p : X → Bool) (xs : List X) → position_or_len p xs ≤ length xs
-place_few p xs = prefix_len-le-length (λ x. not (p x)) xs
+offset_few : {X : Type 0} (p : X → Bool) (xs : List X) → position_or_len p xs ≤ length xs
+offset_few p xs = prefix_len-le-length (λ x. not (p x)) xs
 
 where_few : (table : List Definition) (q : List ℕ) (end : ℕ) → length (nodes table) < end → length (leaves table) < end → target_number (where_to table q) < end
 where_few table q end n l = go (is_node table q)
   where
     go : (b : Bool) → target_number (cond b (Node (record { 0 = position_or_len (same q) (nodes table) })) (Leaf (record { 0 = position_or_len (same q) (leaves table) }))) < end
-    go true = let few = place_few (same q) (nodes table) in omega arith
-    go false = let few = place_few (same q) (leaves table) in omega arith
+    go true = let few = offset_few (same q) (nodes table) in omega arith
+    go false = let few = offset_few (same q) (leaves table) in omega arith
 
 -- what holds of all edges of a node holds of each one that is there
 known_at : (P : Edge → Type 0) (n : ℕ) (es : List NodeEdge) → All P (edges_at n es) → (k : ℕ) (d : NodeEdge) → k < length es → (get_or es k d).node ≡ n → P (get_or es k d).edge

@@ -91,11 +91,11 @@ row_opened ds ds' es es' depth node edge below last longer more =
 
 -- ---- along the edges
 
--- the edges before a place and the one there
+-- the edges before an index and the one there
 pub one_more_edge : (es : List NodeEdge) (k : ℕ) (e : NodeEdge) → k < length es → e ≡ get_or es k e → take (k + 1) es ≡ take k es ++ e ∷ []
 one_more_edge es k e h is = rw add-one (take-suc es k e h ∙ ap (λ x. take k es ++ x ∷ []) (sym is))
 
--- the edge at a place and those behind it
+-- the edge at an index and those behind it
 pub edges_left : (es : List NodeEdge) (k : ℕ) (e : NodeEdge) → k < length es → e ≡ get_or es k e → drop k es ≡ e ∷ drop (k + 1) es
 edges_left es k e h is = rw add-one (drop-cons es k e h ∙ ap (λ x. x ∷ drop (suc k) es) (sym is))
 
@@ -103,7 +103,7 @@ edges_left es k e h is = rw add-one (drop-cons es k e h ∙ ap (λ x. x ∷ drop
 pub node_there : (ds : List ℕ) (es : List NodeEdge) (k : ℕ) (e : NodeEdge) → AreAtNodes (length ds) es → k < length es → e ≡ get_or es k e → e.node < length ds
 node_there ds es k e at_nodes h is = let n : e.node ≡ (get_or es k e).node = ap (λ (x : NodeEdge). x.node) is in omega (arith, n, at_nodes k e h)
 
--- the rows with the edges up to and with the one at a place
+-- the rows with the edges up to and with the one at an index
 pub next_gathered : (ds : List ℕ) (es : List NodeEdge) (k : ℕ) (e : NodeEdge) → AreAtNodes (length ds) es → k < length es → e ≡ get_or es k e → gathered 0 ds (take (k + 1) es) ≡ with_edge (gathered 0 ds (take k es)) e.node e.edge
 next_gathered ds es k e at_nodes h is = ap (gathered 0 ds) (one_more_edge es k e h is) ∙ edge_gathered ds (take k es) e (node_there ds es k e at_nodes h is)
 

@@ -69,7 +69,7 @@ target_is table p k = lead_by (is_node table (p ++ k ∷ [])) (is_sequence table
 pub target_at_edge : (table : List Definition) (p : List ℕ) (k : ℕ) → has_edge table p k ≡ true → target_of table p k ≡ Some (where_to table (p ++ k ∷ []))
 target_at_edge table p k h = target_is table p k ∙ ap (λ b. cond {A = Option Target} b (Some (where_to table (p ++ k ∷ []))) None) h
 
--- the edge at a place leads where its keysym does
+-- the edge at an index leads where its keysym does
 pub target_found : (table : List Definition) (p : List ℕ) (i : ℕ) (edge : Edge) → i < length (edges table p) → edge ≡ get_or (map (edge_of table p) (edges table p)) i edge → target_of table p edge.keysym ≡ Some edge.target
 target_found table p i edge h at =
     let k = get_or (edges table p) i 0 in
@@ -77,11 +77,11 @@ target_found table p i edge h at =
     let listed = any_passes_from_place (λ j. k == j) (edges table p) i k (slice_get-get_or (edges table p) i 0 h) (eq-eqb k k refl) in
     ap (λ (e : Edge). target_of table p e.keysym) is ∙ target_at_edge table p k (listed_edge table p k listed) ∙ ap (λ (e : Edge). Some e.target) (sym is)
 
-place_in : (k : ℕ) (ks : List ℕ) → list_any (λ j. k == j) ks ≡ true → (m : ℕ) × (m < length ks) × (get_or ks m 0 ≡ k)
-place_in k [] h = cc
-place_in k (j ∷ ks) h = elim (or_cases (k == j) (list_any (λ i. k == i) ks) h) [
+index_in : (k : ℕ) (ks : List ℕ) → list_any (λ j. k == j) ks ≡ true → (m : ℕ) × (m < length ks) × (get_or ks m 0 ≡ k)
+index_in k [] h = cc
+index_in k (j ∷ ks) h = elim (or_cases (k == j) (list_any (λ i. k == i) ks) h) [
   | inl e ↦ (0, omega arith, sym (eqb-true k j e))
-  | inr e ↦ (let q = place_in k ks e in (suc q.0, (let l = q.1 in omega arith), q.2))
+  | inr e ↦ (let q = index_in k ks e in (suc q.0, (let l = q.1 in omega arith), q.2))
 ]
 
 -- where none of a node's keysyms is this one, it leads nowhere
@@ -90,7 +90,7 @@ leads_nowhere table p k keys are none = sym (target_is table p k ∙ ap (λ b. c
   where
     no_edge : (has_edge table p k ≡ true) ⊎ (has_edge table p k ≡ false) → has_edge table p k ≡ false
     no_edge (inl f) =
-        let q = place_in k (edges table p) (edge_is_listed table p k ∙ f) in
+        let q = index_in k (edges table p) (edge_is_listed table p k ∙ f) in
         let n : length keys ≡ length (edges table p) = ap length are in
         let l = q.1 in
         absurd (none q.0 (omega arith) (ap (λ ks. get_or ks q.0 0) are ∙ q.2))
@@ -188,25 +188,25 @@ no_text table v h = go (text_at table v) (sequence_text table v ∙ h)
     go None e = refl
     go (Some t) e = cc
 
--- a sequence has the text at its place
-text_at_place : (table : List Definition) (i : ℕ) (d : Definition) → sequences_rise table ≡ true → i < length table → text_at table (get_or table i d).sequence ≡ Some (get_or table i d).text
-text_at_place [] i d r h = absurd (omega arith)
-text_at_place (e ∷ table) zero d r h =
+-- a sequence has the text at its index
+text_at_index : (table : List Definition) (i : ℕ) (d : Definition) → sequences_rise table ≡ true → i < length table → text_at table (get_or table i d).sequence ≡ Some (get_or table i d).text
+text_at_index [] i d r h = absurd (omega arith)
+text_at_index (e ∷ table) zero d r h =
     ap (λ o. option_or o (cond (same e.sequence e.sequence) (Some e.text) None)) (no_text table e.sequence (only_first (cases_Bool (is_sequence table e.sequence))))
     ∙ ap (λ b. cond {A = Option (List ℕ)} b (Some e.text) None) (same_from e.sequence e.sequence refl)
   where
     only_first : (is_sequence table e.sequence ≡ true) ⊎ (is_sequence table e.sequence ≡ false) → is_sequence table e.sequence ≡ false
     only_first (inl f) = absurd (not_before_itself e.sequence e.sequence refl (first_before e table e.sequence r f))
     only_first (inr f) = f
-text_at_place (e ∷ table) (suc i) d r h =
-    ap (λ o. option_or o (cond (same (get_or table i d).sequence e.sequence) (Some e.text) None)) (text_at_place table i d (tail_rises_on e table r) (omega arith))
+text_at_index (e ∷ table) (suc i) d r h =
+    ap (λ o. option_or o (cond (same (get_or table i d).sequence e.sequence) (Some e.text) None)) (text_at_index table i d (tail_rises_on e table r) (omega arith))
 
--- the text of a leaf is that of the definition at its place
+-- the text of a leaf is that of the definition at its index
 pub leaf_text_is : (table : List Definition) (i : ℕ) (d : Definition) → IsSettled table → i < length table → leaf_text table i ≡ Some (get_or table i d).text
 leaf_text_is table i d s h =
-    ap (λ ls. text_at table (get_or ls i [])) (leaves_are table s.rise) ∙ ap (text_at table) (get_or-map (λ (e : Definition). e.sequence) table i d [] h) ∙ text_at_place table i d s.rise h
+    ap (λ ls. text_at table (get_or ls i [])) (leaves_are table s.rise) ∙ ap (text_at table) (get_or-map (λ (e : Definition). e.sequence) table i d [] h) ∙ text_at_index table i d s.rise h
 
--- what is read at a definition's place is its text
+-- what is read at a definition's index is its text
 pub text_read : (table : List Definition) (i : ℕ) (t : List ℕ) (d : Definition) → i < length table → option_map (λ (e : Definition). e.text) (slice_get table i) ≡ Some t → t ≡ (get_or table i d).text
 text_read table i t d h e = let f : Some (get_or table i d).text ≡ Some t = ap (option_map (λ (e : Definition). e.text)) (sym (slice_get-get_or table i d h)) ∙ e in cc
 

@@ -52,7 +52,7 @@ last_sequence_more [] d = refl
 last_sequence_more (c ∷ []) d = refl
 last_sequence_more (c ∷ e ∷ table) d = last_sequence_more (e ∷ table) d
 
--- along a sorted list, maps that agree but at p differ in one place
+-- along a sorted list, maps that agree but at p differ at one index
 changed_at : {Y : Type 0} (f g : List ℕ → Y) (p : List ℕ) (xs : List (List ℕ)) → IsStrictlySortedBy (slice_cmp nat_cmp) xs → ((x : List ℕ) → list_any (same x) xs ≡ true → same x p ≡ false → g x ≡ f x)
     → list_any (same p) xs ≡ true → map g xs ≡ set (map f xs) (position_or_len (same p) xs) (g p)
 unfolding IsStrictlySortedBy

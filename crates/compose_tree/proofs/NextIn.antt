@@ -28,17 +28,17 @@ apart j k h = elim (cases_Bool (j == k)) [
   | inr e ↦ e
 ]
 
--- two lists, neither of which begins the other: what they share, and where they part
+-- two lists, neither of which is a prefix of the other: what they share, and where they part
 pub record Parts (a b : List ℕ) : Type 0 where
-  pub front : List ℕ
+  pub prefix : List ℕ
   pub first : ℕ
   pub first_rest : List ℕ
   pub second : ℕ
   pub second_rest : List ℕ
-  pub first_is : a ≡ front ++ first ∷ first_rest
-  pub second_is : b ≡ front ++ second ∷ second_rest
+  pub first_is : a ≡ prefix ++ first ∷ first_rest
+  pub second_is : b ≡ prefix ++ second ∷ second_rest
   pub less : nat_cmp first second ≡ Less
-  pub count : shared a b ≡ length front
+  pub count : shared a b ≡ length prefix
 
 pub parts : (a b : List ℕ) → Before a b → is_proper_prefix a b ≡ false → Parts a b
 parts [] [] h f = cc
@@ -47,12 +47,12 @@ parts (j ∷ a) [] h f = cc
 parts (j ∷ a) (k ∷ b) h f = go (nat_cmp j k) refl h (λ l g. parts a b l g)
   where
     go : (o : Ordering) → nat_cmp j k ≡ o → ordering_then o (slice_cmp nat_cmp a b) ≡ Less → (Before a b → is_proper_prefix a b ≡ false → Parts a b) → Parts (j ∷ a) (k ∷ b)
-    go Less e l later = record { front = []; first = j; first_rest = a; second = k; second_rest = b; first_is = refl; second_is = refl; less = e; count = ap (λ t. cond t (1 + shared a b) 0) (apart j k (ranked j k Less (sym e))) }
+    go Less e l later = record { prefix = []; first = j; first_rest = a; second = k; second_rest = b; first_is = refl; second_is = refl; less = e; count = ap (λ t. cond t (1 + shared a b) 0) (apart j k (ranked j k Less (sym e))) }
     go Equal e l later =
         let is : j ≡ k = ranked j k Equal (sym e) in
         let q = later l (ap (λ t. t && is_proper_prefix a b) (sym (eq-eqb j k is)) ∙ f) in
         record {
-          front = j ∷ q.front;
+          prefix = j ∷ q.prefix;
           first = q.first;
           first_rest = q.first_rest;
           second = q.second;
@@ -114,31 +114,31 @@ before_last (c ∷ e ∷ table) t r h = elim (or_cases (same t c.sequence) (is_s
   | inr f ↦ before_last (e ∷ table) t (tail_rises c e table r) f
 ]
 
--- ---- fronts of settled tables
+-- ---- prefixes of settled tables
 
-rise_front : (xs ys : List Definition) → sequences_rise (xs ++ ys) ≡ true → sequences_rise xs ≡ true
-rise_front [] ys h = refl
-rise_front (c ∷ []) ys h = refl
-rise_front (c ∷ e ∷ xs) ys h =
-    and_from (is_lt (slice_cmp nat_cmp c.sequence e.sequence)) (sequences_rise (e ∷ xs)) (and_parts (is_lt (slice_cmp nat_cmp c.sequence e.sequence)) (sequences_rise (e ∷ xs ++ ys)) h).0 (rise_front (e ∷ xs) ys (tail_rises c e (xs ++ ys) h))
+rise_prefix : (xs ys : List Definition) → sequences_rise (xs ++ ys) ≡ true → sequences_rise xs ≡ true
+rise_prefix [] ys h = refl
+rise_prefix (c ∷ []) ys h = refl
+rise_prefix (c ∷ e ∷ xs) ys h =
+    and_from (is_lt (slice_cmp nat_cmp c.sequence e.sequence)) (sequences_rise (e ∷ xs)) (and_parts (is_lt (slice_cmp nat_cmp c.sequence e.sequence)) (sequences_rise (e ∷ xs ++ ys)) h).0 (rise_prefix (e ∷ xs) ys (tail_rises c e (xs ++ ys) h))
 
-all_front : (p q : Definition → Bool) → ((d : Definition) → p d ≡ true → q d ≡ true) → (xs ys : List Definition) → list_all p (xs ++ ys) ≡ true → list_all q xs ≡ true
-all_front p q f [] ys h = refl
-all_front p q f (d ∷ xs) ys h = let both = and_parts (p d) (list_all p (xs ++ ys)) h in and_from (q d) (list_all q xs) (f d both.0) (all_front p q f xs ys both.1)
+all_prefix : (p q : Definition → Bool) → ((d : Definition) → p d ≡ true → q d ≡ true) → (xs ys : List Definition) → list_all p (xs ++ ys) ≡ true → list_all q xs ≡ true
+all_prefix p q f [] ys h = refl
+all_prefix p q f (d ∷ xs) ys h = let both = and_parts (p d) (list_all p (xs ++ ys)) h in and_from (q d) (list_all q xs) (f d both.0) (all_prefix p q f xs ys both.1)
 
-free_front : (xs ys : List Definition) → is_prefix_free (xs ++ ys) ≡ true → is_prefix_free xs ≡ true
-free_front xs ys h = all_front (λ d. not (is_extended (xs ++ ys) d.sequence)) (λ d. not (is_extended xs d.sequence)) weaker xs ys h
+free_prefix : (xs ys : List Definition) → is_prefix_free (xs ++ ys) ≡ true → is_prefix_free xs ≡ true
+free_prefix xs ys h = all_prefix (λ d. not (is_extended (xs ++ ys) d.sequence)) (λ d. not (is_extended xs d.sequence)) weaker xs ys h
   where
     weaker : (d : Definition) → not (is_extended (xs ++ ys) d.sequence) ≡ true → not (is_extended xs d.sequence) ≡ true
     weaker d e = not_from_false (is_extended xs d.sequence)
         (or_parts (is_extended xs d.sequence) (is_extended ys d.sequence) (sym (list_any-append (λ (c : Definition). is_proper_prefix d.sequence c.sequence) xs ys) ∙ not-true (is_extended (xs ++ ys) d.sequence) e)).0
 
--- the front of a settled table is settled
-pub settled_front : (xs ys : List Definition) → IsSettled (xs ++ ys) → IsSettled xs
-settled_front xs ys s = record {
-  definitions = all_front is_definition is_definition (λ d h. h) xs ys s.definitions;
-  rise = rise_front xs ys s.rise;
-  prefix_free = free_front xs ys s.prefix_free;
+-- the prefix of a settled table is settled
+pub settled_prefix : (xs ys : List Definition) → IsSettled (xs ++ ys) → IsSettled xs
+settled_prefix xs ys s = record {
+  definitions = all_prefix is_definition is_definition (λ d h. h) xs ys s.definitions;
+  rise = rise_prefix xs ys s.rise;
+  prefix_free = free_prefix xs ys s.prefix_free;
 }
 
 -- ---- the next sequence
@@ -152,16 +152,16 @@ way_to f (i ∷ p) j r k =
 
 -- how the definition goes on behind the table, and the way there
 pub record Next (table : List Definition) (d : Definition) : Type 0 where
-  pub front : List ℕ
+  pub prefix : List ℕ
   pub key : ℕ
   pub rest : List ℕ
-  pub next : IsNext table d front key rest
-  pub count : shared_with_last table d.sequence ≡ length front
-  pub way : take (suc (length front)) (path_of table) ≡ map (number_of table) (proper_prefixes (front ++ key ∷ []))
+  pub next : IsNext table d prefix key rest
+  pub count : shared_with_last table d.sequence ≡ length prefix
+  pub way : take (suc (length prefix)) (path_of table) ≡ map (number_of table) (proper_prefixes (prefix ++ key ∷ []))
 
 first_next : (d : Definition) (k : ℕ) (rest : List ℕ) → d.sequence ≡ k ∷ rest → is_prefix_free ([] ++ d ∷ []) ≡ true → Next [] d
 first_next d k rest e free = record {
-  front = [];
+  prefix = [];
   key = k;
   rest = rest;
   next = record { sequence = e; below = λ t h. cc; opened = opens; free = free };
@@ -183,39 +183,39 @@ module _ (c : Definition) (rows : List Definition) (d : Definition) (rise : sequ
       (sym (extended_more (c ∷ rows) d s) ∙ not_extended (c ∷ rows ++ d ∷ []) s free (sequence_more (c ∷ rows) d s ∙ or_left (is_sequence (c ∷ rows) s) (same s d.sequence) (last_in c rows)))).1
 
   module _ (q : Parts (last_sequence (c ∷ rows)) d.sequence) where
-    last_before : Before (last_sequence (c ∷ rows)) (q.front ++ q.second ∷ [])
+    last_before : Before (last_sequence (c ∷ rows)) (q.prefix ++ q.second ∷ [])
     last_before =
-        ap (λ y. slice_cmp nat_cmp y (q.front ++ q.second ∷ [])) q.first_is ∙ behind_prefix q.front (q.first ∷ q.first_rest) (q.second ∷ []) ∙ ap (λ o. ordering_then o (slice_cmp nat_cmp q.first_rest [])) q.less
+        ap (λ y. slice_cmp nat_cmp y (q.prefix ++ q.second ∷ [])) q.first_is ∙ behind_prefix q.prefix (q.first ∷ q.first_rest) (q.second ∷ []) ∙ ap (λ o. ordering_then o (slice_cmp nat_cmp q.first_rest [])) q.less
 
-    all_before : (t : List ℕ) → is_sequence (c ∷ rows) t ≡ true → Before t (q.front ++ q.second ∷ [])
-    all_before t h = elim (before_last (c ∷ rows) t (rise_front (c ∷ rows) (d ∷ []) rise) h) [
-      | inl e ↦ ap (λ y. slice_cmp nat_cmp y (q.front ++ q.second ∷ [])) e ∙ last_before
-      | inr e ↦ nat_list_cmp_total.trans t (last_sequence (c ∷ rows)) (q.front ++ q.second ∷ []) e last_before
+    all_before : (t : List ℕ) → is_sequence (c ∷ rows) t ≡ true → Before t (q.prefix ++ q.second ∷ [])
+    all_before t h = elim (before_last (c ∷ rows) t (rise_prefix (c ∷ rows) (d ∷ []) rise) h) [
+      | inl e ↦ ap (λ y. slice_cmp nat_cmp y (q.prefix ++ q.second ∷ [])) e ∙ last_before
+      | inr e ↦ nat_list_cmp_total.trans t (last_sequence (c ∷ rows)) (q.prefix ++ q.second ∷ []) e last_before
     ]
 
-    along_last : (x : List ℕ) → is_proper_prefix x (q.front ++ q.first ∷ q.first_rest) ≡ true → is_node (c ∷ rows) x ≡ true
+    along_last : (x : List ℕ) → is_proper_prefix x (q.prefix ++ q.first ∷ q.first_rest) ≡ true → is_node (c ∷ rows) x ≡ true
     along_last x h = extended_is_node (c ∷ rows) x (extended_from (c ∷ rows) x (last_sequence (c ∷ rows)) (ap (is_proper_prefix x) q.first_is ∙ h) (last_in c rows))
 
-    opens : (x : List ℕ) → is_proper_prefix x (q.front ++ q.second ∷ []) ≡ true → is_node (c ∷ rows) x ≡ true
-    opens x h = elim (prefix_of_more x q.front q.second h) [
-      | inl e ↦ along_last x (ap (λ y. is_proper_prefix y (q.front ++ q.first ∷ q.first_rest)) e ∙ prefix_of_longer q.front q.first_rest q.first)
-      | inr e ↦ along_last x (prefix_on x q.front (q.first ∷ q.first_rest) e)
+    opens : (x : List ℕ) → is_proper_prefix x (q.prefix ++ q.second ∷ []) ≡ true → is_node (c ∷ rows) x ≡ true
+    opens x h = elim (prefix_of_more x q.prefix q.second h) [
+      | inl e ↦ along_last x (ap (λ y. is_proper_prefix y (q.prefix ++ q.first ∷ q.first_rest)) e ∙ prefix_of_longer q.prefix q.first_rest q.first)
+      | inr e ↦ along_last x (prefix_on x q.prefix (q.first ∷ q.first_rest) e)
     ]
 
     next_by : Next (c ∷ rows) d
     next_by = record {
-      front = q.front;
+      prefix = q.prefix;
       key = q.second;
       rest = q.second_rest;
-      next = record { sequence = q.second_is ∙ sym (append_assoc q.front (q.second ∷ []) q.second_rest); below = all_before; opened = opens; free = free };
+      next = record { sequence = q.second_is ∙ sym (append_assoc q.prefix (q.second ∷ []) q.second_rest); below = all_before; opened = opens; free = free };
       count = q.count;
-      way = ap (λ s. take (suc (length q.front)) (map (number_of (c ∷ rows)) (proper_prefixes s))) q.first_is ∙ way_to (number_of (c ∷ rows)) q.front q.first q.first_rest q.second;
+      way = ap (λ s. take (suc (length q.prefix)) (map (number_of (c ∷ rows)) (proper_prefixes s))) q.first_is ∙ way_to (number_of (c ∷ rows)) q.prefix q.first q.first_rest q.second;
     }
 
   later_next : Next (c ∷ rows) d
   later_next = next_by (parts (last_sequence (c ∷ rows)) d.sequence last_before_next last_does_not_begin)
 
--- behind each front of a settled table the next definition goes on
+-- behind each prefix of a settled table the next definition goes on
 pub next_of_settled : (table : List Definition) (d : Definition) → IsSettled (table ++ d ∷ []) → Next table d
 next_of_settled [] d s = go d.sequence refl (sequence_some d (and_parts (is_definition d) true s.definitions).0)
   where
@@ -233,8 +233,8 @@ nodes_grow table [] s = ap_le (append-nil table)
 nodes_grow table (d ∷ later) s =
     let e : (table ++ d ∷ []) ++ later ≡ table ++ d ∷ later = append_assoc table (d ∷ []) later in
     let s' : IsSettled ((table ++ d ∷ []) ++ later) = subst IsSettled (sym e) s in
-    let n = next_of_settled table d (settled_front (table ++ d ∷ []) later s') in
-    let more : length (nodes (table ++ d ∷ [])) ≡ length (nodes table) + length n.rest = more_nodes table d n.front n.key n.rest n.next in
+    let n = next_of_settled table d (settled_prefix (table ++ d ∷ []) later s') in
+    let more : length (nodes (table ++ d ∷ [])) ≡ length (nodes table) + length n.rest = more_nodes table d n.prefix n.key n.rest n.next in
     let on : length (nodes (table ++ d ∷ [])) ≤ length (nodes ((table ++ d ∷ []) ++ later)) = nodes_grow (table ++ d ∷ []) later s' in
     let same_count : length (nodes ((table ++ d ∷ []) ++ later)) ≡ length (nodes (table ++ d ∷ later)) = ap (λ t. length (nodes t)) e in
     omega arith

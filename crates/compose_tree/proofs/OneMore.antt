@@ -73,19 +73,19 @@ pub not_root : (x : List ℕ) (j : ℕ) → same (x ++ j ∷ []) [] ≡ false
 not_root [] j = refl
 not_root (i ∷ x) j = refl
 
--- ---- places in lists
+-- ---- indexes in lists
 
-pub place_in_front : {X : Type 0} (q : X → Bool) (xs ys : List X) → list_any q xs ≡ true → position_or_len q (xs ++ ys) ≡ position_or_len q xs
-place_in_front q [] ys h = cc
-place_in_front q (x ∷ xs) ys h = go (q x) h (place_in_front q xs ys)
+pub index_in_prefix : {X : Type 0} (q : X → Bool) (xs ys : List X) → list_any q xs ≡ true → position_or_len q (xs ++ ys) ≡ position_or_len q xs
+index_in_prefix q [] ys h = cc
+index_in_prefix q (x ∷ xs) ys h = go (q x) h (index_in_prefix q xs ys)
   where
     go : (b : Bool) → b || list_any q xs ≡ true → (list_any q xs ≡ true → position_or_len q (xs ++ ys) ≡ position_or_len q xs) → cond (not b) (1 + position_or_len q (xs ++ ys)) 0 ≡ cond (not b) (1 + position_or_len q xs) 0
     go true h f = refl
     go false h f = ap (λ n. 1 + n) (f h)
 
-pub place_behind : {X : Type 0} (q : X → Bool) (xs ys : List X) → list_any q xs ≡ false → position_or_len q (xs ++ ys) ≡ length xs + position_or_len q ys
-place_behind q [] ys h = omega arith
-place_behind q (x ∷ xs) ys h = go (q x) h (place_behind q xs ys)
+pub index_behind : {X : Type 0} (q : X → Bool) (xs ys : List X) → list_any q xs ≡ false → position_or_len q (xs ++ ys) ≡ length xs + position_or_len q ys
+index_behind q [] ys h = omega arith
+index_behind q (x ∷ xs) ys h = go (q x) h (index_behind q xs ys)
   where
     go : (b : Bool) → b || list_any q xs ≡ false → (list_any q xs ≡ false → position_or_len q (xs ++ ys) ≡ length xs + position_or_len q ys) → cond (not b) (1 + position_or_len q (xs ++ ys)) 0 ≡ length (x ∷ xs) + position_or_len q ys
     go true h f = cc
@@ -95,16 +95,16 @@ same_behind : (q x y : List ℕ) → same (q ++ x) (q ++ y) ≡ same x y
 same_behind [] x y = refl
 same_behind (k ∷ q) x y = rw (eq-eqb k k refl) (same_behind q x y)
 
--- behind a common prefix places stay
-pub place_behind_prefix : (q y : List ℕ) (zs : List (List ℕ)) → position_or_len (same (q ++ y)) (map (λ z. q ++ z) zs) ≡ position_or_len (same y) zs
-place_behind_prefix q y [] = refl
-place_behind_prefix q y (z ∷ zs) =
-    ap (λ b. cond (not b) (1 + position_or_len (same (q ++ y)) (map (λ z. q ++ z) zs)) 0) (same_behind q y z) ∙ ap (λ n. cond (not (same y z)) (1 + n) 0) (place_behind_prefix q y zs)
+-- behind a common prefix indexes stay
+pub index_behind_prefix : (q y : List ℕ) (zs : List (List ℕ)) → position_or_len (same (q ++ y)) (map (λ z. q ++ z) zs) ≡ position_or_len (same y) zs
+index_behind_prefix q y [] = refl
+index_behind_prefix q y (z ∷ zs) =
+    ap (λ b. cond (not b) (1 + position_or_len (same (q ++ y)) (map (λ z. q ++ z) zs)) 0) (same_behind q y z) ∙ ap (λ n. cond (not (same y z)) (1 + n) 0) (index_behind_prefix q y zs)
 
--- the place of a proper prefix is its length
-pub place_of_prefix : (y : List ℕ) (j : ℕ) (r : List ℕ) → position_or_len (same y) (proper_prefixes (y ++ j ∷ r)) ≡ length y
-place_of_prefix [] j r = refl
-place_of_prefix (i ∷ y) j r = ap (λ n. 1 + n) (place_behind_prefix (i ∷ []) y (proper_prefixes (y ++ j ∷ r)) ∙ place_of_prefix y j r) ∙ one-add (length y)
+-- the index of a proper prefix is its length
+pub index_of_prefix : (y : List ℕ) (j : ℕ) (r : List ℕ) → position_or_len (same y) (proper_prefixes (y ++ j ∷ r)) ≡ length y
+index_of_prefix [] j r = refl
+index_of_prefix (i ∷ y) j r = ap (λ n. 1 + n) (index_behind_prefix (i ∷ []) y (proper_prefixes (y ++ j ∷ r)) ∙ index_of_prefix y j r) ∙ one-add (length y)
 
 -- ---- small facts
 
@@ -145,7 +145,7 @@ at_leaf table z h = ap (λ b. cond {A = Target} b (Node (record { 0 = number_of 
 -- ---- one sequence more
 
 module _ (table : List Definition) (d : Definition) (p : List ℕ) (k : ℕ) (rest : List ℕ) (n : IsNext table d p k rest) where
-  -- a node comes before the new sequence's first new place
+  -- a node comes before the new sequence's first new index
   pub node_before : (x : List ℕ) → is_node table x ≡ true → Before x (p ++ k ∷ [])
   node_before x h = elim (or_cases (same x []) (is_extended table x) (sym (node_means table x) ∙ h)) [
     | inl e ↦ ap (λ y. slice_cmp nat_cmp y (p ++ k ∷ [])) (same_is x [] e) ∙ root_before p k
@@ -179,7 +179,7 @@ module _ (table : List Definition) (d : Definition) (p : List ℕ) (k : ℕ) (re
       (all_found (λ x. AllByRecursion (λ y. slice_cmp nat_cmp x y ≡ Less) new_nodes) (nodes table) (λ x h. all_before_longer x (p ++ k ∷ []) (proper_prefixes rest) (node_before x h))))
       node_more
 
-  -- what follows the new place is no node and no sequence of the table
+  -- what follows the new index is no node and no sequence of the table
   pub no_node : (y : List ℕ) → is_node table ((p ++ k ∷ []) ++ y) ≡ false
   no_node y = elim (cases_Bool (is_node table ((p ++ k ∷ []) ++ y))) [
     | inl e ↦ absurd (not_before_prefix (p ++ k ∷ []) y (node_before ((p ++ k ∷ []) ++ y) e))
@@ -199,14 +199,14 @@ module _ (table : List Definition) (d : Definition) (p : List ℕ) (k : ℕ) (re
   node_stays x h = node_more x ∙ list_any-append (same x) (nodes table) new_nodes ∙ or_left (is_node table x) (list_any (same x) new_nodes) h
 
   pub number_stays : (x : List ℕ) → is_node table x ≡ true → number_of (table ++ d ∷ []) x ≡ number_of table x
-  number_stays x h = ap (position_or_len (same x)) nodes_more ∙ place_in_front (same x) (nodes table) new_nodes h
+  number_stays x h = ap (position_or_len (same x)) nodes_more ∙ index_in_prefix (same x) (nodes table) new_nodes h
 
   -- a new node is numbered behind the others
   pub new_number : (y : List ℕ) (j : ℕ) (r : List ℕ) → rest ≡ y ++ j ∷ r → number_of (table ++ d ∷ []) ((p ++ k ∷ []) ++ y) ≡ length (nodes table) + length y
   new_number y j r e =
       let q = p ++ k ∷ [] in
-      ap (position_or_len (same (q ++ y))) nodes_more ∙ place_behind (same (q ++ y)) (nodes table) new_nodes (no_node y)
-      ∙ ap (λ i. length (nodes table) + i) (place_behind_prefix q y (proper_prefixes rest) ∙ ap (λ z. position_or_len (same y) (proper_prefixes z)) e ∙ place_of_prefix y j r)
+      ap (position_or_len (same (q ++ y))) nodes_more ∙ index_behind (same (q ++ y)) (nodes table) new_nodes (no_node y)
+      ∙ ap (λ i. length (nodes table) + i) (index_behind_prefix q y (proper_prefixes rest) ∙ ap (λ z. position_or_len (same y) (proper_prefixes z)) e ∙ index_of_prefix y j r)
 
   pub new_node : (y : List ℕ) (j : ℕ) (r : List ℕ) → rest ≡ y ++ j ∷ r → is_node (table ++ d ∷ []) ((p ++ k ∷ []) ++ y) ≡ true
   new_node y j r e =
@@ -316,7 +316,7 @@ module _ (table : List Definition) (d : Definition) (p : List ℕ) (k : ℕ) (re
           let z = x ++ j ∷ [] in
           let s : is_sequence table z ≡ true = ap (λ b. b || is_sequence table z) (sym e) ∙ h in
           at_leaf (table ++ d ∷ []) z (sequence_no_node x j (sequence_more table d z ∙ or_left (is_sequence table z) (same z d.sequence) s))
-          ∙ ap (λ i. Leaf (record { 0 = i })) (ap (position_or_len (same z)) leaves_more ∙ place_in_front (same z) (leaves table) (d.sequence ∷ []) (is_leaf table z ∙ s)) ∙ sym (at_leaf table z e)
+          ∙ ap (λ i. Leaf (record { 0 = i })) (ap (position_or_len (same z)) leaves_more ∙ index_in_prefix (same z) (leaves table) (d.sequence ∷ []) (is_leaf table z ∙ s)) ∙ sym (at_leaf table z e)
 
   -- the new sequence leads to the new nodes in turn, and then to the new leaf
   pub new_lead : (y r : List ℕ) → rest ≡ y ++ r → where_to (table ++ d ∷ []) ((p ++ k ∷ []) ++ y) ≡ next_target (length (nodes table) + length y) (length (leaves table)) r
@@ -326,6 +326,6 @@ module _ (table : List Definition) (d : Definition) (p : List ℕ) (k : ℕ) (re
       ∙ at_leaf (table ++ d ∷ []) d.sequence (node_means (table ++ d ∷ []) d.sequence ∙ or_from (same d.sequence []) (is_extended (table ++ d ∷ []) d.sequence)
       (ap (λ z. same z []) n.sequence ∙ never_root p k rest) (not_extended (table ++ d ∷ []) d.sequence n.free new_sequence))
       ∙ ap (λ i. Leaf (record { 0 = i })) (ap (position_or_len (same d.sequence)) leaves_more
-      ∙ place_behind (same d.sequence) (leaves table) (d.sequence ∷ []) (is_leaf table d.sequence ∙ ap (is_sequence table) n.sequence ∙ no_sequence rest)
+      ∙ index_behind (same d.sequence) (leaves table) (d.sequence ∷ []) (is_leaf table d.sequence ∙ ap (is_sequence table) n.sequence ∙ no_sequence rest)
       ∙ ap (λ b. length (leaves table) + cond (not b) (1 + 0) 0) (same_from d.sequence d.sequence refl) ∙ add-zero (length (leaves table)))
   new_lead y (j ∷ r) e = at_node (table ++ d ∷ []) ((p ++ k ∷ []) ++ y) (new_node y j r e) ∙ ap (λ i. Node (record { 0 = i })) (new_number y j r e)

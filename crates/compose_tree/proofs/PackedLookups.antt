@@ -19,7 +19,7 @@ use Rattle.compose_tree.specs.declared.packed.PackedNode.{PackedNode}
 use Rattle.compose_tree.specs.declared.table.Target.{Target}
 use Rattle.compose_tree.specs.Targets.{target_of}
 use Rattle.compose_tree.specs.Rows.{NodeRow, row_at, rows_of, row_of, edge_of, where_to}
-use Rattle.compose_tree.specs.Packed.{packed_edge, packed_nodes, packed_edges, packed_places, pool, texts_of, unpacked_target, unpacked, keys_of, with_texts, spelled, unpacked_texts, IsPacked}
+use Rattle.compose_tree.specs.Packed.{packed_edge, packed_nodes, packed_edges, packed_offsets, pool, texts_of, unpacked_target, unpacked, keys_of, with_texts, spelled, unpacked_texts, IsPacked}
 use Rattle.compose_tree.proofs.OneMore.{edges_sorted}
 use Rattle.compose_tree.proofs.Lookups.{text_read, target_at_edge, leads_nowhere, key_read}
 use Rattle.compose_tree.proofs.Unpacking.{piece, unpack_rows, unpack_texts, unpack_target, put_together}
@@ -27,18 +27,18 @@ use Rattle.compose_tree.proofs.Spelling.{spelled_all}
 
 -- ---- making the pool
 
--- the texts from a place on
+-- the texts from an index on
 pub texts_on : (all : List Definition) (i : ℕ) (t : List ℕ) → i < length all → option_map (λ (d : Definition). d.text) (slice_get all i) ≡ Some t → texts_of (drop i all) ≡ t ∷ texts_of (drop (i + 1) all)
 texts_on all i t h e =
     let d : Definition = record { sequence = []; text = [] } in
     rw add-one (ap texts_of (drop-cons all i d h) ∙ ap (λ x. x ∷ texts_of (drop (suc i) all)) (sym (text_read all i t d h e)))
 
-pub places_step : (all : List Definition) (i place next : ℕ) (whole places more t : List ℕ) → whole ≡ places ++ packed_places place (texts_of (drop i all)) → texts_of (drop i all) ≡ t ∷ texts_of (drop (i + 1) all)
-    → more ≡ places ++ place ∷ [] → next ≡ place + length t → whole ≡ more ++ packed_places next (texts_of (drop (i + 1) all))
-places_step all i place next whole places more t e f g h =
+pub offsets_step : (all : List Definition) (i offset next : ℕ) (whole offsets more t : List ℕ) → whole ≡ offsets ++ packed_offsets offset (texts_of (drop i all)) → texts_of (drop i all) ≡ t ∷ texts_of (drop (i + 1) all)
+    → more ≡ offsets ++ offset ∷ [] → next ≡ offset + length t → whole ≡ more ++ packed_offsets next (texts_of (drop (i + 1) all))
+offsets_step all i offset next whole offsets more t e f g h =
     let rest = texts_of (drop (i + 1) all) in
-    e ∙ ap (λ ts. places ++ packed_places place ts) f ∙ sym (append_assoc places (place ∷ []) (packed_places (place + length t) rest))
-    ∙ ap (λ x. x ++ packed_places (place + length t) rest) (sym g) ∙ ap (λ n. more ++ packed_places n rest) (sym h)
+    e ∙ ap (λ ts. offsets ++ packed_offsets offset ts) f ∙ sym (append_assoc offsets (offset ∷ []) (packed_offsets (offset + length t) rest))
+    ∙ ap (λ x. x ++ packed_offsets (offset + length t) rest) (sym g) ∙ ap (λ n. more ++ packed_offsets n rest) (sym h)
 
 pub pool_step : (all : List Definition) (i : ℕ) (whole bytes more t : List ℕ) → whole ≡ bytes ++ pool (texts_of (drop i all)) → texts_of (drop i all) ≡ t ∷ texts_of (drop (i + 1) all) → more ≡ bytes ++ t → whole ≡ more ++ pool (texts_of (drop (i + 1) all))
 pool_step all i whole bytes more t e f g =
@@ -71,7 +71,7 @@ greater_from edges key m rise greater k le h = go (eq-or-lt_of_le le)
     go (inl same) = let P : ℕ → Type 0 = λ n. key < slice_index (keys_of edges) n in subst P same greater
     go (inr lower) = (let n = keys_length edges in let l : slice_index (keys_of edges) m < slice_index (keys_of edges) k = below_from_sorted (keys_of edges) m k 0 (sorted_from_strictly_increasing (keys_of edges) rise) lower (omega arith) in omega arith)
 
--- where the keysym can be at one place alone and is not there, it is nowhere
+-- where the keysym can be at one index alone and is not there, it is nowhere
 pub nowhere_else : (edges : List PackedEdge) (key first count : ℕ) → count ≤ 1 → ((k : ℕ) → k < first → slice_index (keys_of edges) k < key) → ((k : ℕ) → first + count ≤ k → k < length edges → key < slice_index (keys_of edges) k)
     → (count ≡ 1 → slice_index (keys_of edges) first ≡ key → ⊥) → (k : ℕ) → k < length edges → slice_index (keys_of edges) k ≡ key → ⊥
 nowhere_else edges key first count few below above not_there k h same = elim (cases_lt k first) [
@@ -84,62 +84,62 @@ nowhere_else edges key first count few below above not_there k h same = elim (ca
 
 -- ---- the arrays of a table spell it
 
-pub unpack : (table : List Definition) → IsSettled table → unpacked (packed_nodes 0 (rows_of table)) (packed_edges (rows_of table)) (packed_places 0 (texts_of table)) (pool (texts_of table)) ≡ table
+pub unpack : (table : List Definition) → IsSettled table → unpacked (packed_nodes 0 (rows_of table)) (packed_edges (rows_of table)) (packed_offsets 0 (texts_of table)) (pool (texts_of table)) ≡ table
 unfolding unpacked
 unpack table s =
-    ap (λ rows. with_texts (spelled rows 32 0) (unpacked_texts (packed_places 0 (texts_of table)) (pool (texts_of table)))) (unpack_rows (rows_of table))
+    ap (λ rows. with_texts (spelled rows 32 0) (unpacked_texts (packed_offsets 0 (texts_of table)) (pool (texts_of table)))) (unpack_rows (rows_of table))
     ∙ ap (with_texts (spelled (rows_of table) 32 0)) (unpack_texts (texts_of table))
     ∙ ap (λ ss. with_texts ss (texts_of table)) (spelled_all table s 32 (omega arith)) ∙ put_together table
 
 -- ---- a node's entries
 
--- the entries of node i and of the one behind it, counted from a place, and its edges among all
-pub record NodePiece (nodes : List PackedNode) (edges : List PackedEdge) (place i : ℕ) (row : NodeRow) : Type 0 where
-  pub front : List PackedEdge
+-- the entries of node i and of the one behind it, counted from an index, and its edges among all
+pub record NodePiece (nodes : List PackedNode) (edges : List PackedEdge) (offset i : ℕ) (row : NodeRow) : Type 0 where
+  pub prefix : List PackedEdge
   pub back : List PackedEdge
-  pub edges_are : edges ≡ front ++ (map packed_edge row.edges ++ back)
+  pub edges_are : edges ≡ prefix ++ (map packed_edge row.edges ++ back)
   pub depth : (d : PackedNode) → (get_or nodes i d).depth ≡ row.depth
-  pub first : (d : PackedNode) → (get_or nodes i d).first ≡ place + length front
-  pub end : (d : PackedNode) → (get_or nodes (suc i) d).first ≡ place + length front + length row.edges
+  pub first : (d : PackedNode) → (get_or nodes i d).first ≡ offset + length prefix
+  pub end : (d : PackedNode) → (get_or nodes (suc i) d).first ≡ offset + length prefix + length row.edges
   pub within : suc i < length nodes
 
-first_place : (rows : List NodeRow) (place : ℕ) (d : PackedNode) → (get_or (packed_nodes place rows) 0 d).first ≡ place
-first_place [] place d = refl
-first_place (r ∷ rows) place d = refl
+first_offset : (rows : List NodeRow) (offset : ℕ) (d : PackedNode) → (get_or (packed_nodes offset rows) 0 d).first ≡ offset
+first_offset [] offset d = refl
+first_offset (r ∷ rows) offset d = refl
 
-pub packed_count : (rows : List NodeRow) (place : ℕ) → length (packed_nodes place rows) ≡ length rows + 1
-packed_count [] place = refl
-packed_count (r ∷ rows) place = let e = packed_count rows (place + length r.edges) in omega arith
+pub packed_count : (rows : List NodeRow) (offset : ℕ) → length (packed_nodes offset rows) ≡ length rows + 1
+packed_count [] offset = refl
+packed_count (r ∷ rows) offset = let e = packed_count rows (offset + length r.edges) in omega arith
 
-node_piece : (rows : List NodeRow) (place i : ℕ) → i < length rows → NodePiece (packed_nodes place rows) (packed_edges rows) place i (row_at rows i)
-node_piece [] place i h = absurd (omega arith)
-node_piece (r ∷ rows) place zero h = record {
-  front = [];
+node_piece : (rows : List NodeRow) (offset i : ℕ) → i < length rows → NodePiece (packed_nodes offset rows) (packed_edges rows) offset i (row_at rows i)
+node_piece [] offset i h = absurd (omega arith)
+node_piece (r ∷ rows) offset zero h = record {
+  prefix = [];
   back = packed_edges rows;
   edges_are = refl;
   depth = λ d. refl;
-  first = λ d. sym (add-zero place);
-  end = λ d. first_place rows (place + length r.edges) d ∙ ap (λ n. n + length r.edges) (sym (add-zero place));
-  within = (let n = packed_count rows (place + length r.edges) in omega arith);
+  first = λ d. sym (add-zero offset);
+  end = λ d. first_offset rows (offset + length r.edges) d ∙ ap (λ n. n + length r.edges) (sym (add-zero offset));
+  within = (let n = packed_count rows (offset + length r.edges) in omega arith);
 }
-node_piece (r ∷ rows) place (suc i) h =
-    let q = node_piece rows (place + length r.edges) i (omega arith) in
+node_piece (r ∷ rows) offset (suc i) h =
+    let q = node_piece rows (offset + length r.edges) i (omega arith) in
     let es = map packed_edge r.edges in
-    let n : length (es ++ q.front) ≡ length r.edges + length q.front = length-append es q.front ∙ ap (λ m. m + length q.front) (length-map r.edges packed_edge) in
+    let n : length (es ++ q.prefix) ≡ length r.edges + length q.prefix = length-append es q.prefix ∙ ap (λ m. m + length q.prefix) (length-map r.edges packed_edge) in
     record {
-      front = es ++ q.front;
+      prefix = es ++ q.prefix;
       back = q.back;
-      edges_are = ap (λ x. es ++ x) q.edges_are ∙ sym (append_assoc es q.front (map packed_edge (row_at rows i).edges ++ q.back));
+      edges_are = ap (λ x. es ++ x) q.edges_are ∙ sym (append_assoc es q.prefix (map packed_edge (row_at rows i).edges ++ q.back));
       depth = q.depth;
-      first = λ d. q.first d ∙ placed place (length r.edges) (length q.front) (length (es ++ q.front)) n;
-      end = λ d. q.end d ∙ ap (λ m. m + length (row_at rows i).edges) (placed place (length r.edges) (length q.front) (length (es ++ q.front)) n);
+      first = λ d. q.first d ∙ placed offset (length r.edges) (length q.prefix) (length (es ++ q.prefix)) n;
+      end = λ d. q.end d ∙ ap (λ m. m + length (row_at rows i).edges) (placed offset (length r.edges) (length q.prefix) (length (es ++ q.prefix)) n);
       within = (let m = q.within in omega arith);
     }
   where
-    placed : (place a b c : ℕ) → c ≡ a + b → place + a + b ≡ place + c
-    placed place a b c e = omega arith
+    placed : (offset a b c : ℕ) → c ≡ a + b → offset + a + b ≡ offset + c
+    placed offset a b c e = omega arith
 
-module _ (nodes' : List PackedNode) (edges' : List PackedEdge) (places bytes : List ℕ) (table : List Definition) (p : IsPacked nodes' edges' places bytes table) where
+module _ (nodes' : List PackedNode) (edges' : List PackedEdge) (offsets bytes : List ℕ) (table : List Definition) (p : IsPacked nodes' edges' offsets bytes table) where
   row_at_node : (i : ℕ) → i < length (nodes table) → row_at (rows_of table) i ≡ row_of table (node table i)
   row_at_node i h = get_or-map (row_of table) (nodes table) i [] (record { depth = 0; edges = [] }) h
 
@@ -154,17 +154,17 @@ module _ (nodes' : List PackedNode) (edges' : List PackedEdge) (places bytes : L
   pub nodes_count : length nodes' ≡ length (nodes table) + 1
   nodes_count = ap length p.nodes_are ∙ packed_count (rows_of table) 0 ∙ ap (λ n. n + 1) (length-map (nodes table) (row_of table))
 
-  -- the edges between two places are the node's
+  -- the edges between two indexes are the node's
   pub edges_between : (i first end : ℕ) (a b : PackedNode) → i < length (nodes table) → a ≡ get_or nodes' i a → b ≡ get_or nodes' (i + 1) b → first ≡ a.first → end ≡ b.first
       → (first ≤ end) × (end ≤ length edges') × (take (end - first) (drop first edges') ≡ map packed_edge (row_of table (node table i)).edges)
   edges_between i first end a b h at behind f g =
       let q = node_entries i h in
       let es = map packed_edge (row_of table (node table i)).edges in
       let n : length es ≡ length (row_of table (node table i)).edges = length-map (row_of table (node table i)).edges packed_edge in
-      let from : first ≡ length q.front = f ∙ ap (λ (x : PackedNode). x.first) at ∙ q.first a ∙ zero-add (length q.front) in
-      let to : end ≡ 0 + length q.front + length (row_of table (node table i)).edges = g ∙ ap (λ (x : PackedNode). x.first) (behind ∙ ap (λ j. get_or nodes' j b) (add-one i)) ∙ q.end b in
-      let all : length edges' ≡ length q.front + (length es + length q.back) = ap length q.edges_are ∙ length-append q.front (es ++ q.back) ∙ ap (λ m. length q.front + m) (length-append es q.back) in
-      (omega arith, omega arith, ap (λ x. take (end - first) (drop first x)) q.edges_are ∙ piece first end q.front es q.back (sym from) (omega arith))
+      let from : first ≡ length q.prefix = f ∙ ap (λ (x : PackedNode). x.first) at ∙ q.first a ∙ zero-add (length q.prefix) in
+      let to : end ≡ 0 + length q.prefix + length (row_of table (node table i)).edges = g ∙ ap (λ (x : PackedNode). x.first) (behind ∙ ap (λ j. get_or nodes' j b) (add-one i)) ∙ q.end b in
+      let all : length edges' ≡ length q.prefix + (length es + length q.back) = ap length q.edges_are ∙ length-append q.prefix (es ++ q.back) ∙ ap (λ m. length q.prefix + m) (length-append es q.back) in
+      (omega arith, omega arith, ap (λ x. take (end - first) (drop first x)) q.edges_are ∙ piece first end q.prefix es q.back (sym from) (omega arith))
 
 -- ---- what a search of a node's edges tells
 
@@ -181,10 +181,10 @@ step_none table x k es e none =
     let n : length (keys_of es) ≡ length es = keys_length es in
     leads_nowhere table x k (keys_of es) (ap keys_of e ∙ packed_keys table x (edges table x)) (λ m h. none m (omega arith))
 
--- the keysym at a place is that of the node's edge
-pub place_read : (table : List Definition) (x : List ℕ) (k i : ℕ) (es : List PackedEdge) → es ≡ map packed_edge (map (edge_of table x) (edges table x)) → i < length es → slice_index (keys_of es) i ≡ k
+-- the keysym at an index is that of the node's edge
+pub index_read : (table : List Definition) (x : List ℕ) (k i : ℕ) (es : List PackedEdge) → es ≡ map packed_edge (map (edge_of table x) (edges table x)) → i < length es → slice_index (keys_of es) i ≡ k
     → (i < length (edges table x)) × (slice_get (edges table x) i ≡ Some k)
-place_read table x k i es e h is =
+index_read table x k i es e h is =
     let n : length (keys_of es) ≡ length es = keys_length es in
     key_read (edges table x) (keys_of es) k i (ap keys_of e ∙ packed_keys table x (edges table x)) (omega arith) is
 
@@ -212,12 +212,12 @@ pub edges_counted : (table : List Definition) (x : List ℕ) (es : List PackedEd
 edges_counted table x es e = ap length e ∙ length-map (map (edge_of table x) (edges table x)) packed_edge ∙ length-map (edges table x) (edge_of table x)
 
 -- arrays that are those of what they spell are those of what this is
-pub packed_as : (nodes' : List PackedNode) (edges' : List PackedEdge) (places bytes : List ℕ) (table : List Definition) → IsPacked nodes' edges' places bytes (unpacked nodes' edges' places bytes) → unpacked nodes' edges' places bytes ≡ table → IsPacked nodes' edges' places bytes table
-packed_as nodes' edges' places bytes table p e = subst (IsPacked nodes' edges' places bytes) e p
+pub packed_as : (nodes' : List PackedNode) (edges' : List PackedEdge) (offsets bytes : List ℕ) (table : List Definition) → IsPacked nodes' edges' offsets bytes (unpacked nodes' edges' offsets bytes) → unpacked nodes' edges' offsets bytes ≡ table → IsPacked nodes' edges' offsets bytes table
+packed_as nodes' edges' offsets bytes table p e = subst (IsPacked nodes' edges' offsets bytes) e p
 
 -- the arrays of a table spell it
-pub unpack_packed : (nodes' : List PackedNode) (edges' : List PackedEdge) (places bytes : List ℕ) (table : List Definition) → IsPacked nodes' edges' places bytes table → unpacked nodes' edges' places bytes ≡ table
-unpack_packed nodes' edges' places bytes table p =
-    ap (λ x. unpacked x edges' places bytes) p.nodes_are ∙ ap (λ x. unpacked (packed_nodes 0 (rows_of table)) x places bytes) p.edges_are
-    ∙ ap (λ x. unpacked (packed_nodes 0 (rows_of table)) (packed_edges (rows_of table)) x bytes) p.places_are
-    ∙ ap (unpacked (packed_nodes 0 (rows_of table)) (packed_edges (rows_of table)) (packed_places 0 (texts_of table))) p.bytes_are ∙ unpack table p.settled
+pub unpack_packed : (nodes' : List PackedNode) (edges' : List PackedEdge) (offsets bytes : List ℕ) (table : List Definition) → IsPacked nodes' edges' offsets bytes table → unpacked nodes' edges' offsets bytes ≡ table
+unpack_packed nodes' edges' offsets bytes table p =
+    ap (λ x. unpacked x edges' offsets bytes) p.nodes_are ∙ ap (λ x. unpacked (packed_nodes 0 (rows_of table)) x offsets bytes) p.edges_are
+    ∙ ap (λ x. unpacked (packed_nodes 0 (rows_of table)) (packed_edges (rows_of table)) x bytes) p.offsets_are
+    ∙ ap (unpacked (packed_nodes 0 (rows_of table)) (packed_edges (rows_of table)) (packed_offsets 0 (texts_of table))) p.bytes_are ∙ unpack table p.settled

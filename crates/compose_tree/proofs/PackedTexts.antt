@@ -11,19 +11,19 @@ use Rattle.compose_model.specs.Nodes.{leaves}
 use Rattle.compose_tree.specs.declared.packed.PackedEdge.{PackedEdge}
 use Rattle.compose_tree.specs.declared.packed.PackedNode.{PackedNode}
 use Rattle.compose_tree.specs.Targets.{leaf_text}
-use Rattle.compose_tree.specs.Packed.{packed_places, pool, texts_of, IsPacked}
+use Rattle.compose_tree.specs.Packed.{packed_offsets, pool, texts_of, IsPacked}
 use Rattle.compose_model.proofs.Definitions.{text_few, definition_at}
 use Rattle.compose_tree.proofs.Lookups.{leaves_count, leaf_text_is}
 use Rattle.compose_tree.proofs.Unpacking.{piece}
 
--- the place of text i and of the one behind it, counted from a place, and its bytes in the pool
-pub record TextPiece (places bytes : List ℕ) (place i : ℕ) (text : List ℕ) : Type 0 where
-  pub front : List ℕ
+-- the index of text i and of the one behind it, counted from an index, and its bytes in the pool
+pub record TextPiece (offsets bytes : List ℕ) (offset i : ℕ) (text : List ℕ) : Type 0 where
+  pub prefix : List ℕ
   pub back : List ℕ
-  pub bytes_are : bytes ≡ front ++ (text ++ back)
-  pub first : (d : ℕ) → get_or places i d ≡ place + length front
-  pub end : (d : ℕ) → get_or places (suc i) d ≡ place + length front + length text
-  pub within : suc i < length places
+  pub bytes_are : bytes ≡ prefix ++ (text ++ back)
+  pub first : (d : ℕ) → get_or offsets i d ≡ offset + length prefix
+  pub end : (d : ℕ) → get_or offsets (suc i) d ≡ offset + length prefix + length text
+  pub within : suc i < length offsets
   pub text_utf8 : IsUtf8 text
   pub back_utf8 : IsUtf8 back
 
@@ -31,44 +31,44 @@ pool_utf8 : (texts : List (List ℕ)) → list_all is_utf8 texts ≡ true → Is
 pool_utf8 [] h = ([], (refl, refl))
 pool_utf8 (t ∷ texts) h = let both = and_parts (is_utf8 t) (list_all is_utf8 texts) h in IsUtf8-append t (pool texts) (IsUtf8-from_is_utf8 t both.0) (pool_utf8 texts both.1)
 
-first_place : (texts : List (List ℕ)) (place d : ℕ) → get_or (packed_places place texts) 0 d ≡ place
-first_place [] place d = refl
-first_place (t ∷ texts) place d = refl
+first_offset : (texts : List (List ℕ)) (offset d : ℕ) → get_or (packed_offsets offset texts) 0 d ≡ offset
+first_offset [] offset d = refl
+first_offset (t ∷ texts) offset d = refl
 
-pub places_count : (texts : List (List ℕ)) (place : ℕ) → length (packed_places place texts) ≡ length texts + 1
-places_count [] place = refl
-places_count (t ∷ texts) place = let e = places_count texts (place + length t) in omega arith
+pub offsets_count : (texts : List (List ℕ)) (offset : ℕ) → length (packed_offsets offset texts) ≡ length texts + 1
+offsets_count [] offset = refl
+offsets_count (t ∷ texts) offset = let e = offsets_count texts (offset + length t) in omega arith
 
-text_piece : (texts : List (List ℕ)) (place i : ℕ) → i < length texts → list_all is_utf8 texts ≡ true → TextPiece (packed_places place texts) (pool texts) place i (get_or texts i [])
-text_piece [] place i h u = absurd (omega arith)
-text_piece (t ∷ texts) place zero h u = record {
-  front = [];
+text_piece : (texts : List (List ℕ)) (offset i : ℕ) → i < length texts → list_all is_utf8 texts ≡ true → TextPiece (packed_offsets offset texts) (pool texts) offset i (get_or texts i [])
+text_piece [] offset i h u = absurd (omega arith)
+text_piece (t ∷ texts) offset zero h u = record {
+  prefix = [];
   back = pool texts;
   bytes_are = refl;
-  first = λ d. sym (add-zero place);
-  end = λ d. first_place texts (place + length t) d ∙ ap (λ n. n + length t) (sym (add-zero place));
-  within = (let n = places_count texts (place + length t) in omega arith);
+  first = λ d. sym (add-zero offset);
+  end = λ d. first_offset texts (offset + length t) d ∙ ap (λ n. n + length t) (sym (add-zero offset));
+  within = (let n = offsets_count texts (offset + length t) in omega arith);
   text_utf8 = IsUtf8-from_is_utf8 t (and_parts (is_utf8 t) (list_all is_utf8 texts) u).0;
   back_utf8 = pool_utf8 texts (and_parts (is_utf8 t) (list_all is_utf8 texts) u).1;
 }
-text_piece (t ∷ texts) place (suc i) h u =
-    let q = text_piece texts (place + length t) i (omega arith) (and_parts (is_utf8 t) (list_all is_utf8 texts) u).1 in
-    let n : length (t ++ q.front) ≡ length t + length q.front = length-append t q.front in
+text_piece (t ∷ texts) offset (suc i) h u =
+    let q = text_piece texts (offset + length t) i (omega arith) (and_parts (is_utf8 t) (list_all is_utf8 texts) u).1 in
+    let n : length (t ++ q.prefix) ≡ length t + length q.prefix = length-append t q.prefix in
     record {
-      front = t ++ q.front;
+      prefix = t ++ q.prefix;
       back = q.back;
-      bytes_are = ap (λ x. t ++ x) q.bytes_are ∙ sym (append_assoc t q.front (get_or texts i [] ++ q.back));
-      first = λ d. q.first d ∙ placed place (length t) (length q.front) (length (t ++ q.front)) n;
-      end = λ d. q.end d ∙ ap (λ m. m + length (get_or texts i [])) (placed place (length t) (length q.front) (length (t ++ q.front)) n);
+      bytes_are = ap (λ x. t ++ x) q.bytes_are ∙ sym (append_assoc t q.prefix (get_or texts i [] ++ q.back));
+      first = λ d. q.first d ∙ placed offset (length t) (length q.prefix) (length (t ++ q.prefix)) n;
+      end = λ d. q.end d ∙ ap (λ m. m + length (get_or texts i [])) (placed offset (length t) (length q.prefix) (length (t ++ q.prefix)) n);
       within = (let m = q.within in omega arith);
       text_utf8 = q.text_utf8;
       back_utf8 = q.back_utf8;
     }
   where
-    placed : (place a b c : ℕ) → c ≡ a + b → place + a + b ≡ place + c
-    placed place a b c e = omega arith
+    placed : (offset a b c : ℕ) → c ≡ a + b → offset + a + b ≡ offset + c
+    placed offset a b c e = omega arith
 
--- the bytes between two places are a text, and can be cut out of the pool
+-- the bytes between two indexes are a text, and can be cut out of the pool
 pub record TextBetween (bytes : List ℕ) (first end : ℕ) (text : List ℕ) : Type 0 where
   pub order : first ≤ end
   pub within : end ≤ length bytes
@@ -76,31 +76,31 @@ pub record TextBetween (bytes : List ℕ) (first end : ℕ) (text : List ℕ) : 
   pub ends : IsCharBoundary bytes end
   pub cut : take (end - first) (drop first bytes) ≡ text
 
-module _ (nodes' : List PackedNode) (edges' : List PackedEdge) (places bytes : List ℕ) (table : List Definition) (p : IsPacked nodes' edges' places bytes table) where
-  pub leaf_entries : (i : ℕ) → i < length (leaves table) → TextPiece places bytes 0 i (get_or (texts_of table) i [])
+module _ (nodes' : List PackedNode) (edges' : List PackedEdge) (offsets bytes : List ℕ) (table : List Definition) (p : IsPacked nodes' edges' offsets bytes table) where
+  pub leaf_entries : (i : ℕ) → i < length (leaves table) → TextPiece offsets bytes 0 i (get_or (texts_of table) i [])
   leaf_entries i h =
-      subst (λ (x : List ℕ). TextPiece x bytes 0 i (get_or (texts_of table) i [])) (sym p.places_are)
-      (subst (λ (x : List ℕ). TextPiece (packed_places 0 (texts_of table)) x 0 i (get_or (texts_of table) i [])) (sym p.bytes_are)
+      subst (λ (x : List ℕ). TextPiece x bytes 0 i (get_or (texts_of table) i [])) (sym p.offsets_are)
+      (subst (λ (x : List ℕ). TextPiece (packed_offsets 0 (texts_of table)) x 0 i (get_or (texts_of table) i [])) (sym p.bytes_are)
       (text_piece (texts_of table) 0 i (let n = leaves_count table p.settled in let m = length-map table (λ (d : Definition). d.text) in omega arith) p.texts_are_utf8))
 
-  pub places_counted : length places ≡ length (leaves table) + 1
-  places_counted = ap length p.places_are ∙ places_count (texts_of table) 0 ∙ ap (λ n. n + 1) (length-map table (λ (d : Definition). d.text) ∙ sym (leaves_count table p.settled))
+  pub offsets_counted : length offsets ≡ length (leaves table) + 1
+  offsets_counted = ap length p.offsets_are ∙ offsets_count (texts_of table) 0 ∙ ap (λ n. n + 1) (length-map table (λ (d : Definition). d.text) ∙ sym (leaves_count table p.settled))
 
-  pub text_between : (i first end : ℕ) (a b : ℕ) → i < length (leaves table) → a ≡ get_or places i a → b ≡ get_or places (i + 1) b → first ≡ a → end ≡ b → TextBetween bytes first end (get_or (texts_of table) i [])
+  pub text_between : (i first end : ℕ) (a b : ℕ) → i < length (leaves table) → a ≡ get_or offsets i a → b ≡ get_or offsets (i + 1) b → first ≡ a → end ≡ b → TextBetween bytes first end (get_or (texts_of table) i [])
   text_between i first end a b h at behind f g =
       let q = leaf_entries i h in
       let t = get_or (texts_of table) i [] in
-      let from : first ≡ length q.front = f ∙ at ∙ q.first a ∙ zero-add (length q.front) in
-      let to : end ≡ 0 + length q.front + length t = g ∙ behind ∙ ap (λ j. get_or places j b) (add-one i) ∙ q.end b in
-      let all : length bytes ≡ length q.front + (length t + length q.back) = ap length q.bytes_are ∙ length-append q.front (t ++ q.back) ∙ ap (λ m. length q.front + m) (length-append t q.back) in
-      let joined : length (q.front ++ t) ≡ length q.front + length t = length-append q.front t in
-      let end_is : length (q.front ++ t) ≡ end = omega arith in
+      let from : first ≡ length q.prefix = f ∙ at ∙ q.first a ∙ zero-add (length q.prefix) in
+      let to : end ≡ 0 + length q.prefix + length t = g ∙ behind ∙ ap (λ j. get_or offsets j b) (add-one i) ∙ q.end b in
+      let all : length bytes ≡ length q.prefix + (length t + length q.back) = ap length q.bytes_are ∙ length-append q.prefix (t ++ q.back) ∙ ap (λ m. length q.prefix + m) (length-append t q.back) in
+      let joined : length (q.prefix ++ t) ≡ length q.prefix + length t = length-append q.prefix t in
+      let end_is : length (q.prefix ++ t) ≡ end = omega arith in
       record {
         order = omega arith;
         within = omega arith;
-        starts = subst (IsCharBoundary bytes) (sym from) (IsCharBoundary-at_seam bytes q.front (t ++ q.back) q.bytes_are (IsUtf8-append t q.back q.text_utf8 q.back_utf8));
-        ends = subst (IsCharBoundary bytes) end_is (IsCharBoundary-at_seam bytes (q.front ++ t) q.back (q.bytes_are ∙ sym (append_assoc q.front t q.back)) q.back_utf8);
-        cut = ap (λ x. take (end - first) (drop first x)) q.bytes_are ∙ piece first end q.front t q.back (sym from) (omega arith);
+        starts = subst (IsCharBoundary bytes) (sym from) (IsCharBoundary-at_seam bytes q.prefix (t ++ q.back) q.bytes_are (IsUtf8-append t q.back q.text_utf8 q.back_utf8));
+        ends = subst (IsCharBoundary bytes) end_is (IsCharBoundary-at_seam bytes (q.prefix ++ t) q.back (q.bytes_are ∙ sym (append_assoc q.prefix t q.back)) q.back_utf8);
+        cut = ap (λ x. take (end - first) (drop first x)) q.bytes_are ∙ piece first end q.prefix t q.back (sym from) (omega arith);
       }
 
   -- that text is the leaf's

@@ -50,7 +50,7 @@ pub behind_prefix : (q x y : List ℕ) → slice_cmp nat_cmp (q ++ x) (q ++ y) �
 behind_prefix [] x y = refl
 behind_prefix (k ∷ q) x y = behind_same k (q ++ x) (q ++ y) ∙ behind_prefix q x y
 
--- no list is before a list that begins it
+-- no list is before a list that is a prefix of it
 pub not_before_prefix : (q y : List ℕ) → Before (q ++ y) q → ⊥
 not_before_prefix [] [] h = cc
 not_before_prefix [] (k ∷ y) h = cc
@@ -86,7 +86,7 @@ prefixes_are [] (k ∷ s) = refl
 prefixes_are (j ∷ p) (k ∷ s) =
     list_any-map (same (j ∷ p)) (λ q. k ∷ q) (proper_prefixes s) ∙ list_any-and (j == k) (same p) (proper_prefixes s) ∙ ap (λ b. j == k && b) (prefixes_are p s)
 
--- what begins two lists put together begins the first, or is the first with what begins the second
+-- a prefix of two lists put together is a prefix of the first, or is the first with a prefix of the second
 pub prefix_of_joined : (x q rest : List ℕ) → is_proper_prefix x (q ++ rest) ≡ is_proper_prefix x q || list_any (λ y. same x (q ++ y)) (proper_prefixes rest)
 prefix_of_joined x [] rest = sym (prefixes_are x rest)
 prefix_of_joined [] (k ∷ q) rest = refl
@@ -94,7 +94,7 @@ prefix_of_joined (j ∷ x) (k ∷ q) rest =
     ap (λ b. j == k && b) (prefix_of_joined x q rest) ∙ and_or (j == k) (is_proper_prefix x q) (list_any (λ y. same x (q ++ y)) (proper_prefixes rest))
     ∙ ap (λ b. (j == k && is_proper_prefix x q) || b) (sym (list_any-and (j == k) (λ y. same x (q ++ y)) (proper_prefixes rest)))
 
--- what properly begins a list with one keysym more is the list, or properly begins it
+-- a proper prefix of a list with one keysym more is the list, or a proper prefix of it
 pub prefix_of_more : (x p : List ℕ) (k : ℕ) → is_proper_prefix x (p ++ k ∷ []) ≡ true → (x ≡ p) ⊎ (is_proper_prefix x p ≡ true)
 prefix_of_more [] [] k h = inl refl
 prefix_of_more (j ∷ x) [] k h = let e = (and_parts (j == k) false h).1 in cc
@@ -106,7 +106,7 @@ prefix_of_more (j ∷ x) (i ∷ p) k h =
       | inr e ↦ inr (and_from (j == i) (is_proper_prefix x p) both.0 e)
     ]
 
--- a list properly begins itself with more behind it
+-- a list is a proper prefix of itself with more after it
 pub prefix_of_longer : (x y : List ℕ) (k : ℕ) → is_proper_prefix x (x ++ k ∷ y) ≡ true
 prefix_of_longer [] y k = refl
 prefix_of_longer (j ∷ x) y k = and_from (j == j) (is_proper_prefix x (x ++ k ∷ y)) (eq-eqb j j refl) (prefix_of_longer x y k)

@@ -1,4 +1,4 @@
--- Edges that are put one by one at their nodes' next places.
+-- Edges that are put one by one at their nodes' next free offsets.
 use Rattle.std.proofs.Common.{◌≡◌, ℕ, zero, suc, ◌+◌, ◌-◌, ◌<◌, List, [], ◌∷◌, ◌++◌, length, map, set, get_or, take, drop, replicate, refl, sym, ◌∙◌, ap, arith, zero-add, add-one, drop-cons, append_assoc, length-append}
 use Rattle.std.proofs.Math.Seq.{set-append_seam}
 use Rattle.std.proofs.lemmas.List.{append-nil, map-append, length-map, set-append_left, set-append_right, replicate-append-replicate, take-append-drop}
@@ -15,17 +15,17 @@ use Rattle.compose_tree.proofs.PackedLookups.{packed_count}
 abbrev pub blank : PackedEdge
 blank = record { keysym = 0; target = 0 }
 
--- the places of all nodes of these depths, from node i on: at each node its edges that are put, and a blank for each that is left
+-- the edges of all nodes of these depths, from node i on: at each node its edges that are put, and a blank for each that is left
 abbrev pub laid : ℕ → List ℕ → List NodeEdge → List NodeEdge → List PackedEdge
 laid i [] put left = []
 laid i (d ∷ depths) put left = (map packed_edge (edges_at i put) ++ map (λ e. blank) (edges_at i left)) ++ laid (1 + i) depths put left
 
 -- ---- one edge more is put
 
--- the edge e is put, at place q from the first one, which is behind the edges of node k that are put
-pub record Puts (place i k : ℕ) (depths : List ℕ) (put : List NodeEdge) (e : NodeEdge) (left : List NodeEdge) : Type 0 where
+-- the edge e is put, at index q from the first one, which is behind the edges of node k that are put
+pub record Puts (offset i k : ℕ) (depths : List ℕ) (put : List NodeEdge) (e : NodeEdge) (left : List NodeEdge) : Type 0 where
   pub q : ℕ
-  pub next : (d : PackedNode) → (get_or (packed_nodes place (gathered i depths (put ++ e ∷ left))) k d).first + length (edges_at e.node put) ≡ place + q
+  pub next : (d : PackedNode) → (get_or (packed_nodes offset (gathered i depths (put ++ e ∷ left))) k d).first + length (edges_at e.node put) ≡ offset + q
   pub within : q < length (laid i depths put (e ∷ left))
   pub laid_is : laid i depths (put ++ e ∷ []) left ≡ set (laid i depths put (e ∷ left)) q (packed_edge e.edge)
 
@@ -39,8 +39,8 @@ module _ (put : List NodeEdge) (e : NodeEdge) (left : List NodeEdge) where
       λ t. (map packed_edge (before t) ++ map (λ x. blank) (sym behind t)) ++ later t
 
   -- the edge at the first of these nodes
-  put_here : (place i : ℕ) (d : ℕ) (ds : List ℕ) → e.node ≡ i → Puts place i 0 (d ∷ ds) put e left
-  put_here place i d ds own =
+  put_here : (offset i : ℕ) (d : ℕ) (ds : List ℕ) → e.node ≡ i → Puts offset i 0 (d ∷ ds) put e left
+  put_here offset i d ds own =
       let ps = map packed_edge (edges_at i put) in
       let ls = map (λ (x : Edge). blank) (edges_at i left) in
       let back = laid (1 + i) ds put (e ∷ left) in
@@ -52,7 +52,7 @@ module _ (put : List NodeEdge) (e : NodeEdge) (left : List NodeEdge) where
       let whole : laid i (d ∷ ds) put (e ∷ left) ≡ (ps ++ blank ∷ ls) ++ back = λ t. (ps ++ map (λ x. blank) (fewer t)) ++ back in
       record {
         q = length ps;
-        next = λ d. ap (λ j. place + length (edges_at j put)) own ∙ ap (λ m. place + m) (sym n);
+        next = λ d. ap (λ j. offset + length (edges_at j put)) own ∙ ap (λ m. offset + m) (sym n);
         within = omega (arith, ap length whole, all, joined);
         laid_is =
             (λ t. (map packed_edge (more t) ++ ls) ++ laid_elsewhere (1 + i) ds (omega arith) t)
@@ -64,10 +64,10 @@ module _ (put : List NodeEdge) (e : NodeEdge) (left : List NodeEdge) where
       }
 
   -- the edge at node k of these, which is number i + k of all
-  puts : (place i k : ℕ) (ds : List ℕ) → e.node ≡ i + k → k < length ds → Puts place i k ds put e left
-  puts place i k [] at h = absurd (omega arith)
-  puts place i zero (d ∷ ds) at h = put_here place i d ds (omega arith)
-  puts place i (suc k) (d ∷ ds) at h =
+  puts : (offset i k : ℕ) (ds : List ℕ) → e.node ≡ i + k → k < length ds → Puts offset i k ds put e left
+  puts offset i k [] at h = absurd (omega arith)
+  puts offset i zero (d ∷ ds) at h = put_here offset i d ds (omega arith)
+  puts offset i (suc k) (d ∷ ds) at h =
       let before = other_last i put e (λ same. omega arith) in
       let behind = other_first i e left (λ same. omega arith) in
       let own = map packed_edge (edges_at i put) ++ map (λ (x : Edge). blank) (edges_at i (e ∷ left)) in
@@ -77,10 +77,10 @@ module _ (put : List NodeEdge) (e : NodeEdge) (left : List NodeEdge) where
       length-append (map packed_edge (edges_at i put)) (map (λ (x : Edge). blank) (edges_at i (e ∷ left)))
       ∙ (λ t. length-map (edges_at i put) packed_edge t + length-map (edges_at i (e ∷ left)) (λ (x : Edge). blank) t) in
       let whole : length (edges_at i (put ++ e ∷ left)) ≡ count = ap length (edges_join i put (e ∷ left)) ∙ length-append (edges_at i put) (edges_at i (e ∷ left)) in
-      let p = puts (place + length (edges_at i (put ++ e ∷ left))) (1 + i) k ds (omega arith) (omega arith) in
+      let p = puts (offset + length (edges_at i (put ++ e ∷ left))) (1 + i) k ds (omega arith) (omega arith) in
       let all : length (own ++ later) ≡ length own + length later = length-append own later in
       let on : length own + p.q - length own ≡ p.q = omega arith in
-      let behind_count : place + length (edges_at i (put ++ e ∷ left)) + p.q ≡ place + (length own + p.q) = omega (arith, n, whole) in
+      let behind_count : offset + length (edges_at i (put ++ e ∷ left)) + p.q ≡ offset + (length own + p.q) = omega (arith, n, whole) in
       record {
         q = length own + p.q;
         next = λ d. p.next d ∙ behind_count;
@@ -96,7 +96,7 @@ module _ (put : List NodeEdge) (e : NodeEdge) (left : List NodeEdge) where
 edge_puts : (ds : List ℕ) (put : List NodeEdge) (e : NodeEdge) (left : List NodeEdge) → e.node < length ds → Puts 0 0 e.node ds put e left
 edge_puts ds put e left h = puts put e left 0 0 e.node ds (omega arith) h
 
--- the edge at place k of all is put, at place q
+-- the edge at index k of all is put, at index q
 pub record Put (ds : List ℕ) (es : List NodeEdge) (k : ℕ) (e : NodeEdge) (nodes : List PackedNode) (packed : List PackedEdge) (counts : List ℕ) : Type 0 where
   pub q : ℕ
   pub at_node : e.node < length nodes
@@ -151,23 +151,23 @@ laid_all i [] es = refl
 laid_all i (d ∷ ds) es = λ t. append-nil (map packed_edge (edges_at i es)) t ++ laid_all (1 + i) ds es t
 
 -- the end of the edges
-pub end_place : (rows : List NodeRow) (place : ℕ) (d : PackedNode) → (get_or (packed_nodes place rows) (length rows) d).first ≡ place + length (packed_edges rows)
-end_place [] place d = omega arith
-end_place (r ∷ rows) place d =
+pub end_offset : (rows : List NodeRow) (offset : ℕ) (d : PackedNode) → (get_or (packed_nodes offset rows) (length rows) d).first ≡ offset + length (packed_edges rows)
+end_offset [] offset d = omega arith
+end_offset (r ∷ rows) offset d =
     let n : length (map packed_edge r.edges ++ packed_edges rows) ≡ length (map packed_edge r.edges) + length (packed_edges rows) = length-append (map packed_edge r.edges) (packed_edges rows) in
     let m : length (map packed_edge r.edges) ≡ length r.edges = length-map r.edges packed_edge in
-    end_place rows (place + length r.edges) d ∙ omega (arith, n, m)
+    end_offset rows (offset + length r.edges) d ∙ omega (arith, n, m)
 
 -- ---- the nodes
 
 -- one node more
-pub nodes_step : (ds : List ℕ) (es : List NodeEdge) (k place next d : ℕ) (whole nodes more : List PackedNode) → k < length ds → d ≡ get_or ds k d → next ≡ place + length (edges_at k es) → more ≡ nodes ++ record { depth = d; first = place } ∷ []
-    → whole ≡ nodes ++ packed_nodes place (gathered k (drop k ds) es) → whole ≡ more ++ packed_nodes next (gathered (k + 1) (drop (k + 1) ds) es)
-nodes_step ds es k place next d whole nodes more h is next_is more_is e =
-    let node : PackedNode = record { depth = d; first = place } in
+pub nodes_step : (ds : List ℕ) (es : List NodeEdge) (k offset next d : ℕ) (whole nodes more : List PackedNode) → k < length ds → d ≡ get_or ds k d → next ≡ offset + length (edges_at k es) → more ≡ nodes ++ record { depth = d; first = offset } ∷ []
+    → whole ≡ nodes ++ packed_nodes offset (gathered k (drop k ds) es) → whole ≡ more ++ packed_nodes next (gathered (k + 1) (drop (k + 1) ds) es)
+nodes_step ds es k offset next d whole nodes more h is next_is more_is e =
+    let node : PackedNode = record { depth = d; first = offset } in
     let here : drop k ds ≡ d ∷ drop (k + 1) ds = rw add-one (drop-cons ds k d h ∙ ap (λ x. x ∷ drop (suc k) ds) (sym is)) in
     let on : 1 + k ≡ k + 1 = omega arith in
-    e ∙ ap (λ x. nodes ++ packed_nodes place (gathered k x es)) here
+    e ∙ ap (λ x. nodes ++ packed_nodes offset (gathered k x es)) here
     ∙ (λ t. nodes ++ node ∷ packed_nodes (sym next_is t) (gathered (on t) (drop (k + 1) ds) es))
     ∙ sym (append_assoc nodes (node ∷ []) (packed_nodes next (gathered (k + 1) (drop (k + 1) ds) es)))
     ∙ ap (λ x. x ++ packed_nodes next (gathered (k + 1) (drop (k + 1) ds) es)) (sym more_is)

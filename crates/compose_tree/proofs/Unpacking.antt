@@ -10,7 +10,7 @@ use Rattle.compose_tree.specs.declared.packed.PackedEdge.{PackedEdge}
 use Rattle.compose_tree.specs.declared.table.Target.{Target}
 use Rattle.compose_tree.specs.declared.table.Target.TheVariants.{Node, Leaf}
 use Rattle.compose_tree.specs.Rows.{NodeRow}
-use Rattle.compose_tree.specs.Packed.{packed_target, packed_edge, packed_nodes, packed_edges, packed_places, pool, texts_of, unpacked_target, unpacked_edge, unpacked_rows, unpacked_texts, with_texts}
+use Rattle.compose_tree.specs.Packed.{packed_target, packed_edge, packed_nodes, packed_edges, packed_offsets, pool, texts_of, unpacked_target, unpacked_edge, unpacked_rows, unpacked_texts, with_texts}
 
 -- ---- entries
 
@@ -36,36 +36,36 @@ unpack_edges (e ∷ es) = λ i. unpack_edge e i ∷ unpack_edges es i
 
 -- ---- pieces
 
-take_front : {X : Type 0} (n : ℕ) (xs ys : List X) → length xs ≡ n → take n (xs ++ ys) ≡ xs
-take_front zero [] ys e = refl
-take_front (suc n) [] ys e = absurd (omega arith)
-take_front zero (x ∷ xs) ys e = absurd (omega arith)
-take_front (suc n) (x ∷ xs) ys e = ap (λ zs. x ∷ zs) (take_front n xs ys (omega arith))
+take_prefix : {X : Type 0} (n : ℕ) (xs ys : List X) → length xs ≡ n → take n (xs ++ ys) ≡ xs
+take_prefix zero [] ys e = refl
+take_prefix (suc n) [] ys e = absurd (omega arith)
+take_prefix zero (x ∷ xs) ys e = absurd (omega arith)
+take_prefix (suc n) (x ∷ xs) ys e = ap (λ zs. x ∷ zs) (take_prefix n xs ys (omega arith))
 
-drop_front : {X : Type 0} (n : ℕ) (xs ys : List X) → length xs ≡ n → drop n (xs ++ ys) ≡ ys
-drop_front n xs ys e = ap (λ m. drop m (xs ++ ys)) (sym e) ∙ drop-append_seam xs ys
+drop_prefix : {X : Type 0} (n : ℕ) (xs ys : List X) → length xs ≡ n → drop n (xs ++ ys) ≡ ys
+drop_prefix n xs ys e = ap (λ m. drop m (xs ++ ys)) (sym e) ∙ drop-append_seam xs ys
 
--- the piece between two places is what stands there
-pub piece : {X : Type 0} (a b : ℕ) (front xs back : List X) → length front ≡ a → b ≡ a + length xs → take (b - a) (drop a (front ++ (xs ++ back))) ≡ xs
-piece a b front xs back e f = ap (take (b - a)) (drop_front a front (xs ++ back) e) ∙ take_front (b - a) xs back (omega arith)
+-- the piece between two indexes is what stands there
+pub piece : {X : Type 0} (a b : ℕ) (prefix xs back : List X) → length prefix ≡ a → b ≡ a + length xs → take (b - a) (drop a (prefix ++ (xs ++ back))) ≡ xs
+piece a b prefix xs back e f = ap (take (b - a)) (drop_prefix a prefix (xs ++ back) e) ∙ take_prefix (b - a) xs back (omega arith)
 
 -- ---- rows
 
-rows_unpack : (rows : List NodeRow) (place : ℕ) (front : List PackedEdge) → length front ≡ place → unpacked_rows (packed_nodes place rows) (front ++ packed_edges rows) ≡ rows
-rows_unpack [] place front e = refl
-rows_unpack (row ∷ rows) place front e =
+rows_unpack : (rows : List NodeRow) (offset : ℕ) (prefix : List PackedEdge) → length prefix ≡ offset → unpacked_rows (packed_nodes offset rows) (prefix ++ packed_edges rows) ≡ rows
+rows_unpack [] offset prefix e = refl
+rows_unpack (row ∷ rows) offset prefix e =
     let es = map packed_edge row.edges in
     let n : length es ≡ length row.edges = length-map row.edges packed_edge in
-    let here : map unpacked_edge (take (place + length row.edges - place) (drop place (front ++ (es ++ packed_edges rows)))) ≡ row.edges =
-    ap (map unpacked_edge) (piece place (place + length row.edges) front es (packed_edges rows) e (omega arith)) ∙ unpack_edges row.edges in
-    let later : unpacked_rows (packed_nodes (place + length row.edges) rows) (front ++ (es ++ packed_edges rows)) ≡ rows =
-    ap (unpacked_rows (packed_nodes (place + length row.edges) rows)) (sym (append_assoc front es (packed_edges rows))) ∙ rows_unpack rows (place + length row.edges) (front ++ es) (let m = length-append front es in omega arith) in
-    two place row rows (front ++ (es ++ packed_edges rows)) here later
+    let here : map unpacked_edge (take (offset + length row.edges - offset) (drop offset (prefix ++ (es ++ packed_edges rows)))) ≡ row.edges =
+    ap (map unpacked_edge) (piece offset (offset + length row.edges) prefix es (packed_edges rows) e (omega arith)) ∙ unpack_edges row.edges in
+    let later : unpacked_rows (packed_nodes (offset + length row.edges) rows) (prefix ++ (es ++ packed_edges rows)) ≡ rows =
+    ap (unpacked_rows (packed_nodes (offset + length row.edges) rows)) (sym (append_assoc prefix es (packed_edges rows))) ∙ rows_unpack rows (offset + length row.edges) (prefix ++ es) (let m = length-append prefix es in omega arith) in
+    two offset row rows (prefix ++ (es ++ packed_edges rows)) here later
   where
-    two : (place : ℕ) (row : NodeRow) (rows : List NodeRow) (edges : List PackedEdge) → map unpacked_edge (take (place + length row.edges - place) (drop place edges)) ≡ row.edges
-        → unpacked_rows (packed_nodes (place + length row.edges) rows) edges ≡ rows → unpacked_rows (packed_nodes place (row ∷ rows)) edges ≡ row ∷ rows
-    two place row [] edges h l = λ i. record { depth = row.depth; edges = h i } ∷ l i
-    two place row (r ∷ rows) edges h l = λ i. record { depth = row.depth; edges = h i } ∷ l i
+    two : (offset : ℕ) (row : NodeRow) (rows : List NodeRow) (edges : List PackedEdge) → map unpacked_edge (take (offset + length row.edges - offset) (drop offset edges)) ≡ row.edges
+        → unpacked_rows (packed_nodes (offset + length row.edges) rows) edges ≡ rows → unpacked_rows (packed_nodes offset (row ∷ rows)) edges ≡ row ∷ rows
+    two offset row [] edges h l = λ i. record { depth = row.depth; edges = h i } ∷ l i
+    two offset row (r ∷ rows) edges h l = λ i. record { depth = row.depth; edges = h i } ∷ l i
 
 -- the packed rows spell the rows
 pub unpack_rows : (rows : List NodeRow) → unpacked_rows (packed_nodes 0 rows) (packed_edges rows) ≡ rows
@@ -73,20 +73,20 @@ unpack_rows rows = rows_unpack rows 0 [] refl
 
 -- ---- texts
 
-texts_unpack : (texts : List (List ℕ)) (place : ℕ) (front : List ℕ) → length front ≡ place → unpacked_texts (packed_places place texts) (front ++ pool texts) ≡ texts
-texts_unpack [] place front e = refl
-texts_unpack (t ∷ texts) place front e =
-    let here : take (place + length t - place) (drop place (front ++ (t ++ pool texts))) ≡ t = piece place (place + length t) front t (pool texts) e refl in
-    let later : unpacked_texts (packed_places (place + length t) texts) (front ++ (t ++ pool texts)) ≡ texts =
-    ap (unpacked_texts (packed_places (place + length t) texts)) (sym (append_assoc front t (pool texts))) ∙ texts_unpack texts (place + length t) (front ++ t) (let m = length-append front t in omega arith) in
-    two place t texts (front ++ (t ++ pool texts)) here later
+texts_unpack : (texts : List (List ℕ)) (offset : ℕ) (prefix : List ℕ) → length prefix ≡ offset → unpacked_texts (packed_offsets offset texts) (prefix ++ pool texts) ≡ texts
+texts_unpack [] offset prefix e = refl
+texts_unpack (t ∷ texts) offset prefix e =
+    let here : take (offset + length t - offset) (drop offset (prefix ++ (t ++ pool texts))) ≡ t = piece offset (offset + length t) prefix t (pool texts) e refl in
+    let later : unpacked_texts (packed_offsets (offset + length t) texts) (prefix ++ (t ++ pool texts)) ≡ texts =
+    ap (unpacked_texts (packed_offsets (offset + length t) texts)) (sym (append_assoc prefix t (pool texts))) ∙ texts_unpack texts (offset + length t) (prefix ++ t) (let m = length-append prefix t in omega arith) in
+    two offset t texts (prefix ++ (t ++ pool texts)) here later
   where
-    two : (place : ℕ) (t : List ℕ) (texts : List (List ℕ)) (bytes : List ℕ) → take (place + length t - place) (drop place bytes) ≡ t
-        → unpacked_texts (packed_places (place + length t) texts) bytes ≡ texts → unpacked_texts (packed_places place (t ∷ texts)) bytes ≡ t ∷ texts
-    two place t [] bytes h l = λ i. h i ∷ l i
-    two place t (u ∷ texts) bytes h l = λ i. h i ∷ l i
+    two : (offset : ℕ) (t : List ℕ) (texts : List (List ℕ)) (bytes : List ℕ) → take (offset + length t - offset) (drop offset bytes) ≡ t
+        → unpacked_texts (packed_offsets (offset + length t) texts) bytes ≡ texts → unpacked_texts (packed_offsets offset (t ∷ texts)) bytes ≡ t ∷ texts
+    two offset t [] bytes h l = λ i. h i ∷ l i
+    two offset t (u ∷ texts) bytes h l = λ i. h i ∷ l i
 
-pub unpack_texts : (texts : List (List ℕ)) → unpacked_texts (packed_places 0 texts) (pool texts) ≡ texts
+pub unpack_texts : (texts : List (List ℕ)) → unpacked_texts (packed_offsets 0 texts) (pool texts) ≡ texts
 unpack_texts texts = texts_unpack texts 0 [] refl
 
 -- sequences with their texts are the definitions

@@ -1,4 +1,4 @@
 pub mod Targets
 pub mod Rows
 pub mod Packed
-pub mod Given
+pub mod TableGives

@@ -24,19 +24,19 @@ packed_target (Leaf l) = l.0 * 2 + 1
 abbrev pub packed_edge : Edge → PackedEdge
 packed_edge e = record { keysym = e.keysym; target = packed_target e.target }
 
--- for each node its depth and the place of its first edge, from this place on, and behind them the end of the edges
+-- for each node its depth and the offset of its first edge, from this offset on, and behind them the end of the edges
 abbrev pub packed_nodes : ℕ → List NodeRow → List PackedNode
-packed_nodes place [] = record { depth = 0; first = place } ∷ []
-packed_nodes place (row ∷ rows) = record { depth = row.depth; first = place } ∷ packed_nodes (place + length row.edges) rows
+packed_nodes offset [] = record { depth = 0; first = offset } ∷ []
+packed_nodes offset (row ∷ rows) = record { depth = row.depth; first = offset } ∷ packed_nodes (offset + length row.edges) rows
 
 -- the edges of all nodes, one node's behind another's
 abbrev pub packed_edges : List NodeRow → List PackedEdge
 packed_edges rows = flat_map (λ row. map packed_edge row.edges) rows
 
--- for each text its place in the pool, from this place on, and behind them the end of the pool
-abbrev pub packed_places : ℕ → List (List ℕ) → List ℕ
-packed_places place [] = place ∷ []
-packed_places place (text ∷ texts) = place ∷ packed_places (place + length text) texts
+-- for each text its offset in the pool, from this offset on, and behind them the end of the pool
+abbrev pub packed_offsets : ℕ → List (List ℕ) → List ℕ
+packed_offsets offset [] = offset ∷ []
+packed_offsets offset (text ∷ texts) = offset ∷ packed_offsets (offset + length text) texts
 
 -- one text behind another
 abbrev pub pool : List (List ℕ) → List ℕ
@@ -61,7 +61,7 @@ unpacked_rows (a ∷ b ∷ nodes) edges = record { depth = a.depth; edges = map 
 abbrev pub unpacked_texts : List ℕ → List ℕ → List (List ℕ)
 unpacked_texts [] bytes = []
 unpacked_texts (a ∷ []) bytes = []
-unpacked_texts (a ∷ b ∷ places) bytes = take (b - a) (drop a bytes) ∷ unpacked_texts (b ∷ places) bytes
+unpacked_texts (a ∷ b ∷ offsets) bytes = take (b - a) (drop a bytes) ∷ unpacked_texts (b ∷ offsets) bytes
 
 -- what leads on behind an edge: from a node whatever leads on from there, and nothing from a leaf
 abbrev pub spelled_behind : Target → (ℕ → List (List ℕ)) → List (List ℕ)
@@ -80,16 +80,16 @@ with_texts (s ∷ sequences) (t ∷ texts) = record { sequence = s; text = t } �
 
 -- the definitions that the arrays stand for; a sequence has at most 32 keysyms
 unfoldable pub unpacked : List PackedNode → List PackedEdge → List ℕ → List ℕ → List Definition
-unpacked nodes edges places bytes = with_texts (spelled (unpacked_rows nodes edges) 32 0) (unpacked_texts places bytes)
+unpacked nodes edges offsets bytes = with_texts (spelled (unpacked_rows nodes edges) 32 0) (unpacked_texts offsets bytes)
 
 -- ---- what a packed table is
 
 -- the arrays are those of this table: its rows, one edge list behind another, and its texts, one behind another
-pub record IsPacked (nodes : List PackedNode) (edges : List PackedEdge) (places bytes : List ℕ) (table : List Definition) : Type 0 where
+pub record IsPacked (nodes : List PackedNode) (edges : List PackedEdge) (offsets bytes : List ℕ) (table : List Definition) : Type 0 where
   pub settled : IsSettled table
   pub nodes_are : nodes ≡ packed_nodes 0 (rows_of table)
   pub edges_are : edges ≡ packed_edges (rows_of table)
-  pub places_are : places ≡ packed_places 0 (texts_of table)
+  pub offsets_are : offsets ≡ packed_offsets 0 (texts_of table)
   pub bytes_are : bytes ≡ pool (texts_of table)
   pub texts_are_utf8 : IsTrue (list_all is_utf8 (texts_of table))
   pub few_nodes : length (model.nodes table) ≤ max_nodes

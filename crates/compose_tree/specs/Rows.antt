@@ -83,7 +83,7 @@ with_edge rows i edge = slice_set rows i (record { depth = (row_at rows i).depth
 
 -- ---- the way to the last sequence
 
--- the keysyms of the definition at this place
+-- the keysyms of the definition at this index
 abbrev pub sequence_at : List Definition → ℕ → List ℕ
 sequence_at table i = (get_or table i (record { sequence = []; text = [] })).sequence
 
@@ -98,7 +98,7 @@ abbrev pub path_of : List Definition → List ℕ
 path_of [] = 0 ∷ []
 path_of (d ∷ table) = map (number_of (d ∷ table)) (proper_prefixes (last_sequence (d ∷ table)))
 
--- how many keysyms two lists have in common at their front
+-- the length of the longest common prefix of two lists
 abbrev pub shared : List ℕ → List ℕ → ℕ
 shared [] t = 0
 shared (j ∷ s) [] = 0

@@ -12,7 +12,7 @@
 #![tactic(auto)]
 
 mod edge;
-mod guesses;
+mod hints;
 mod list_table;
 mod packed;
 mod packed_table;

@@ -119,12 +119,12 @@ fn target_in(edges: &[Edge], keysym: Keysym) -> Option<Target>
 }
 
 /// Where a keysym stands among a node's edges. O(edges).
-fn place_in(edges: &[Edge], keysym: Keysym) -> Option<usize>
+fn index_in(edges: &[Edge], keysym: Keysym) -> Option<usize>
     ensures { MatchOption result ((k : ℕ) → k < length edges.now → slice_index (keysyms_of edges.now) k ≡ keysym → ⊥) (λ i. (i < length edges.now) × (slice_index (keysyms_of edges.now) i ≡ keysym)) }
 {
-    for (place, edge) in edges.iter().enumerate() {
+    for (index, edge) in edges.iter().enumerate() {
         if edge.keysym == keysym {
-            return Some(place);
+            return Some(index);
         }
     }
     None
@@ -177,10 +177,10 @@ impl ComposeTable for ListTable {
     }
 
     fn find(&self, node: NodeId, keysym: Keysym) -> Option<u32> {
-        let Some(place) = place_in(self.row(node).edges(), keysym) else {
+        let Some(index) = index_in(self.row(node).edges(), keysym) else {
             return None;
         };
-        Some(place as u32)
+        Some(index as u32)
     }
 
     fn step(&self, node: NodeId, keysym: Keysym) -> Option<Target> {

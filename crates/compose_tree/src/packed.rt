@@ -1,7 +1,7 @@
 //! The entries of the packed arrays.
 use keysym_core::Keysym;
 
-/// A node: its depth, and the place of its first edge.
+/// A node: its depth, and the offset of its first edge.
 #[derive(Clone, Copy)]
 pub struct PackedNode {
     pub depth: u32,

@@ -5,29 +5,29 @@
 //! ```text
 //! nodes    number   0        1        end
 //!          depth    0        1
-//!          first    0        2        4          place of the node's first edge
+//!          first    0        2        4          index of the node's first edge
 //!
-//! edges    place    0        1        2        3
+//! edges    index    0        1        2        3
 //!          keysym   a        d        b        c
 //!          target   node 1   leaf 2   leaf 0   leaf 1
 //!
-//! places   leaf     0        1        2        end
-//!          place    0        1        3        4
+//! offsets  leaf     0        1        2        end
+//!          offset   0        1        3        4
 //! texts             x        y z      w
 //! ```
 //!
 //! A node's edges stand together and rise by their keysyms; they end where the next node's begin. Beside the arrays are
-//! guesses of where each edge stands, which a search looks at first. They have no part in what the table means.
+//! hints of where each edge stands, which a search looks at first. They have no part in what the table means.
 ghost use Rattle.std.specs.Prelude.{◌≡◌, ◌<◌, ◌≤◌, ◌+◌, ◌++◌, ℕ, length, map, slice_index, MatchOption, IfOk, OnOk, IsTrue, string_bytes};
 ghost use Rattle.std.specs.List.{list_all};
 ghost use Rattle.std.specs.List.Sorted.{IsStrictlyIncreasing};
 ghost use Rattle.std.specs.Str.{is_utf8};
 ghost use Rattle.compose_tree.specs.Rows.{counts_of, gathered, target_number, AreAtNodes, HaveNumbersBelow};
 ghost use Rattle.compose_tree.specs.Packed as words;
-ghost use Rattle.compose_tree.specs.Packed.{keys_of, packed_edge, packed_target, unpacked_target, packed_nodes, packed_edges, packed_places, pool, texts_of};
+ghost use Rattle.compose_tree.specs.Packed.{keys_of, packed_edge, packed_target, unpacked_target, packed_nodes, packed_edges, packed_offsets, pool, texts_of};
 
 use crate::edge::{Edge, NodeEdge};
-use crate::guesses::Guesses;
+use crate::hints::Hints;
 use crate::packed::{PackedEdge, PackedNode};
 use crate::rows::build_rows;
 use crate::table::{BuildFault, ComposeTable, LeafId, NodeId, Target};
@@ -42,14 +42,14 @@ const KEYSYMS: u32 = Keysym::GREATEST + 1;
 /// Few texts have more bytes: most are one character. There is room for so many a text at first.
 const COMMON_TEXT: usize = 3;
 
-/// A table as flat arrays: 8 bytes a node, 12 bytes an edge (4 of them its guesses), 4 bytes a leaf and its text.
+/// A table as flat arrays: 8 bytes a node, 12 bytes an edge (4 of them its hints), 4 bytes a leaf and its text.
 #[derive(Drop)]
 pub struct PackedTable {
     nodes: Vec<PackedNode>,
     edges: Vec<PackedEdge>,
-    places: Vec<u32>,
+    offsets: Vec<u32>,
     texts: String,
-    guesses: Guesses,
+    hints: Hints,
 }
 
 impl Model for PackedTable {
@@ -59,9 +59,9 @@ impl Model for PackedTable {
 
     ghost Value = { List Definition };
 
-    ghost view = { λ t. unpacked t.nodes.items t.edges.items t.places.items (string_bytes t.texts) };
+    ghost view = { λ t. unpacked t.nodes.items t.edges.items t.offsets.items (string_bytes t.texts) };
 
-    ghost invariant = { λ t. IsPacked t.nodes.items t.edges.items t.places.items (string_bytes t.texts) (unpacked t.nodes.items t.edges.items t.places.items (string_bytes t.texts)) };
+    ghost invariant = { λ t. IsPacked t.nodes.items t.edges.items t.offsets.items (string_bytes t.texts) (unpacked t.nodes.items t.edges.items t.offsets.items (string_bytes t.texts)) };
 }
 
 /// The code of a target. Both kinds of target take one way, since a branch on the kind is often mispredicted.
@@ -101,7 +101,7 @@ fn count_edges(alloc: Global, depths: &[u32], edges: &[NodeEdge]) -> Result<Vec<
     Ok(counts)
 }
 
-/// For each node its depth and the place of its first edge, and behind them the end of the edges.
+/// For each node its depth and the offset of its first edge, and behind them the end of the edges.
 fn pack_nodes(
     alloc: Global,
     depths: &[u32],
@@ -113,17 +113,17 @@ fn pack_nodes(
 {
     let counts = count_edges(alloc, depths, edges)?;
     let mut nodes = Vec::with_capacity(alloc, depths.len().saturating_add(1))?;
-    let mut place = 0;
+    let mut offset = 0;
     for index in 0..depths.len() {
         nodes.push(PackedNode {
             depth: depths[index],
-            first: place,
+            first: offset,
         })?;
-        place += counts[index];
+        offset += counts[index];
     }
     nodes.push(PackedNode {
         depth: 0,
-        first: place,
+        first: offset,
     })?;
     Ok(nodes)
 }
@@ -139,13 +139,13 @@ fn pack_edge(edge: Edge) -> PackedEdge
     }
 }
 
-/// The edges of all nodes, each put at its node's next place. Guesses note which of its node's edges each one is.
+/// The edges of all nodes, each put at its node's next free offset. Hints note which of its node's edges each one is.
 fn pack_edges(
     alloc: Global,
     nodes: &[PackedNode],
     depths: &[u32],
     edges: &[NodeEdge],
-    guesses: &mut Guesses,
+    hints: &mut Hints,
 ) -> Result<Vec<PackedEdge>, AllocError>
     requires at_nodes { AreAtNodes (length depths.now) edges.now }
     requires numbers { HaveNumbersBelow 2147483648 edges.now }
@@ -161,32 +161,32 @@ fn pack_edges(
     for edge in edges {
         let node = edge.node as usize;
         let count = counts[node];
-        let place = nodes[node].first as usize + count;
-        guesses.note(NodeId(edge.node), edge.edge.keysym, count);
-        packed[place] = pack_edge(edge.edge);
+        let offset = nodes[node].first as usize + count;
+        hints.note(NodeId(edge.node), edge.edge.keysym, count);
+        packed[offset] = pack_edge(edge.edge);
         counts[node] = count + 1;
     }
     Ok(packed)
 }
 
-/// For each text its place in the pool, and behind them the end of the pool; and the pool, all texts one behind another.
+/// For each text its offset in the pool, and behind them the end of the pool; and the pool, all texts one behind another.
 fn pack_texts(alloc: Global, sequences: &Sequences) -> Result<(Vec<u32>, String), AllocError>
-    ensures places { IfOk result (λ packed. packed.0.items ≡ packed_places 0 (texts_of sequences.now)) }
+    ensures offsets { IfOk result (λ packed. packed.0.items ≡ packed_offsets 0 (texts_of sequences.now)) }
     ensures bytes { IfOk result (λ packed. string_bytes packed.1 ≡ pool (texts_of sequences.now)) }
     ensures utf8 { IfOk result (λ _. IsTrue (list_all is_utf8 (texts_of sequences.now))) }
 {
-    let mut places = Vec::with_capacity(alloc, sequences.len().saturating_add(1))?;
+    let mut offsets = Vec::with_capacity(alloc, sequences.len().saturating_add(1))?;
     let mut texts = String::with_capacity(alloc, sequences.len().saturating_mul(COMMON_TEXT))?;
-    let mut place = 0;
+    let mut offset = 0;
     for index in 0..sequences.len() {
         let text = sequences.text(index);
-        places.push(place)?;
-        place += text.len() as u32;
+        offsets.push(offset)?;
+        offset += text.len() as u32;
         texts.push_str(text)?;
     }
-    places.push(place)?;
+    offsets.push(offset)?;
     texts.shrink_to_fit();
-    Ok((places, texts))
+    Ok((offsets, texts))
 }
 
 /// 1 where the keysym is no greater than the other, and else 0. By arithmetic, since a comparison becomes a branch, which a
@@ -199,7 +199,7 @@ fn at_most(keysym: Keysym, other: Keysym) -> usize
 }
 
 /// Where a keysym stands among rising edges. O(log edges).
-fn place_of(edges: &[PackedEdge], keysym: Keysym) -> Option<usize>
+fn index_of(edges: &[PackedEdge], keysym: Keysym) -> Option<usize>
     requires { IsStrictlyIncreasing (keys_of edges.now) }
     ensures { MatchOption result ((k : ℕ) → k < length edges.now → slice_index (keys_of edges.now) k ≡ keysym → ⊥) (λ i. (i < length edges.now) × (slice_index (keys_of edges.now) i ≡ keysym)) }
 {
@@ -217,15 +217,15 @@ fn place_of(edges: &[PackedEdge], keysym: Keysym) -> Option<usize>
     }
 }
 
-/// Where a keysym stands among rising edges. O(1) where the guess is right, and else O(log edges).
-fn place_by_guess(edges: &[PackedEdge], keysym: Keysym, guess: usize) -> Option<usize>
+/// Where a keysym stands among rising edges. O(1) where the hint is right, and else O(log edges).
+fn index_by_hint(edges: &[PackedEdge], keysym: Keysym, hint: usize) -> Option<usize>
     requires { IsStrictlyIncreasing (keys_of edges.now) }
     ensures { MatchOption result ((k : ℕ) → k < length edges.now → slice_index (keys_of edges.now) k ≡ keysym → ⊥) (λ i. (i < length edges.now) × (slice_index (keys_of edges.now) i ≡ keysym)) }
 {
-    if guess < edges.len() && edges[guess].keysym == keysym {
-        return Some(guess);
+    if hint < edges.len() && edges[hint].keysym == keysym {
+        return Some(hint);
     }
-    place_of(edges, keysym)
+    index_of(edges, keysym)
 }
 
 /// The table of these arrays, which are those of the sequences.
@@ -233,11 +233,11 @@ fn from_arrays(
     sequences: &Sequences,
     nodes: Vec<PackedNode>,
     edges: Vec<PackedEdge>,
-    places: Vec<u32>,
+    offsets: Vec<u32>,
     texts: String,
-    guesses: Guesses,
+    hints: Hints,
 ) -> PackedTable
-    requires { words.IsPacked nodes.items edges.items places.items (string_bytes texts) sequences.now }
+    requires { words.IsPacked nodes.items edges.items offsets.items (string_bytes texts) sequences.now }
     ensures { result ≡ sequences.now }
 {
     // The contract alone speaks of them.
@@ -245,9 +245,9 @@ fn from_arrays(
     PackedTable {
         nodes,
         edges,
-        places,
+        offsets,
         texts,
-        guesses,
+        hints,
     }
 }
 
@@ -279,10 +279,10 @@ impl ComposeTable for PackedTable {
         let rows = build_rows(alloc, &sequences)?;
         let (depths, node_edges) = rows.parts();
         let nodes = pack_nodes(alloc, depths, node_edges)?;
-        let mut guesses = Guesses::new(alloc, node_edges.len())?;
-        let edges = pack_edges(alloc, &nodes, depths, node_edges, &mut guesses)?;
-        let (places, texts) = pack_texts(alloc, &sequences)?;
-        Ok(from_arrays(&sequences, nodes, edges, places, texts, guesses))
+        let mut hints = Hints::new(alloc, node_edges.len())?;
+        let edges = pack_edges(alloc, &nodes, depths, node_edges, &mut hints)?;
+        let (offsets, texts) = pack_texts(alloc, &sequences)?;
+        Ok(from_arrays(&sequences, nodes, edges, offsets, texts, hints))
     }
 
     fn node_count(&self) -> u32 {
@@ -290,7 +290,7 @@ impl ComposeTable for PackedTable {
     }
 
     fn leaf_count(&self) -> u32 {
-        (self.places.len() - 1) as u32
+        (self.offsets.len() - 1) as u32
     }
 
     fn depth(&self, node: NodeId) -> u32 {
@@ -307,26 +307,26 @@ impl ComposeTable for PackedTable {
     }
 
     fn find(&self, node: NodeId, keysym: Keysym) -> Option<u32> {
-        let guess = self.guesses.place(node, keysym);
-        let Some(place) = place_by_guess(self.edges_of(node), keysym, guess) else {
+        let hint = self.hints.index_of(node, keysym);
+        let Some(index) = index_by_hint(self.edges_of(node), keysym, hint) else {
             return None;
         };
-        Some(place as u32)
+        Some(index as u32)
     }
 
     fn step(&self, node: NodeId, keysym: Keysym) -> Option<Target> {
         let edges = self.edges_of(node);
-        let guess = self.guesses.place(node, keysym);
-        let Some(place) = place_by_guess(edges, keysym, guess) else {
+        let hint = self.hints.index_of(node, keysym);
+        let Some(index) = index_by_hint(edges, keysym, hint) else {
             return None;
         };
-        Some(unpack_target(edges[place].target))
+        Some(unpack_target(edges[index].target))
     }
 
     fn text(&self, leaf: LeafId) -> &str {
         let number = leaf.0 as usize;
-        let first = self.places[number] as usize;
-        let end = self.places[number + 1] as usize;
+        let first = self.offsets[number] as usize;
+        let end = self.offsets[number + 1] as usize;
         let texts = self.texts.as_str();
         &texts[first..end]
     }

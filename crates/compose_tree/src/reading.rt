@@ -1,6 +1,6 @@
 //! Tables from sources.
 ghost use Rattle.std.specs.Prelude.{◌≡◌, [], Err};
-ghost use Rattle.compose_tree.specs.Given.{TableGives, first_table, table_of};
+ghost use Rattle.compose_tree.specs.TableGives.{TableGives, first_table, table_of};
 
 use crate::table::{BuildFault, ComposeTable};
 use compose_model::Rule;
@@ -15,7 +15,7 @@ pub enum TableFault {
     /// A fault of the sources.
     #[error("1 Read: {0}")]
     Read(ReadFault),
-    /// A sequence begins another one, and the rule refuses that.
+    /// A sequence is a prefix of another one, and the rule refuses that.
     #[error("2 Settle: {0}")]
     Settle(SettleFault),
     /// There are too many nodes.
@@ -28,7 +28,7 @@ pub enum TableFault {
 
 impl From<ReadFault> for TableFault {
     ghost use Rattle.std.specs.Prelude.{◌≡◌};
-    ghost use Rattle.compose_tree.specs.Given.{read_raised};
+    ghost use Rattle.compose_tree.specs.TableGives.{read_raised};
 
     ghost from_gives = { λ fault e. e ≡ read_raised fault };
 
@@ -42,7 +42,7 @@ impl From<ReadFault> for TableFault {
 
 impl From<SettleFault> for TableFault {
     ghost use Rattle.std.specs.Prelude.{◌≡◌};
-    ghost use Rattle.compose_tree.specs.Given.{settle_raised};
+    ghost use Rattle.compose_tree.specs.TableGives.{settle_raised};
 
     ghost from_gives = { λ fault e. e ≡ settle_raised fault };
 
@@ -56,7 +56,7 @@ impl From<SettleFault> for TableFault {
 
 impl From<BuildFault> for TableFault {
     ghost use Rattle.std.specs.Prelude.{◌≡◌};
-    ghost use Rattle.compose_tree.specs.Given.{build_raised};
+    ghost use Rattle.compose_tree.specs.TableGives.{build_raised};
 
     ghost from_gives = { λ fault e. e ≡ build_raised fault };
 

@@ -1,6 +1,6 @@
 //! The rows of a table, built in one pass over its settled sequences.
 //!
-//! The sequences rise, so each shares the longest front with the one before it. The way to the last sequence is kept:
+//! The sequences rise, so each shares the longest prefix with the one before it. The way to the last sequence is kept:
 //! a sequence adds one edge where it leaves that way, and opens a node for each keysym but the last behind it. All edges
 //! go into one list, with their nodes: no node has a vector of its own.
 ghost use Rattle.std.specs.Prelude.{◌≡◌, ◌<◌, ◌≤◌, ◌+◌, ◌++◌, ℕ, List, [], ◌∷◌, length, take, drop, Some, slice_get, slice_set, get_or, OnOk, OnErr, IfOk, IfErr};
@@ -90,8 +90,8 @@ impl Rows {
     }
 }
 
-/// How many keysyms two lists share at their front.
-fn shared_front(one: &[Keysym], other: &[Keysym]) -> usize
+/// The length of the longest common prefix of two lists.
+fn shared_prefix(one: &[Keysym], other: &[Keysym]) -> usize
     ensures { result ≡ words.shared one.now other.now }
 {
     let mut count = 0;
@@ -101,7 +101,7 @@ fn shared_front(one: &[Keysym], other: &[Keysym]) -> usize
     count
 }
 
-/// The sequence at this place.
+/// The sequence at this index.
 fn sequence_of(sequences: &Sequences, index: usize) -> &[Keysym]
     requires { index < length sequences.now }
     ensures { result.now ≡ sequence_at sequences.now index }
@@ -109,12 +109,12 @@ fn sequence_of(sequences: &Sequences, index: usize) -> &[Keysym]
     sequences.sequence(index)
 }
 
-/// Where the edge of the keysym at this place of the sequence leads: to the leaf behind the last one, else to the node.
-fn target_at(sequence: &[Keysym], place: usize, node: u32, leaf: u32) -> Target
-    requires { place < length sequence.now }
-    ensures { result ≡ next_target node leaf (drop (place + 1) sequence.now) }
+/// Where the edge of the keysym at this index of the sequence leads: to the leaf behind the last one, else to the node.
+fn target_at(sequence: &[Keysym], index: usize, node: u32, leaf: u32) -> Target
+    requires { index < length sequence.now }
+    ensures { result ≡ next_target node leaf (drop (index + 1) sequence.now) }
 {
-    if place + 1 == sequence.len() {
+    if index + 1 == sequence.len() {
         Target::Leaf(LeafId(leaf))
     } else {
         Target::Node(NodeId(node))
@@ -145,7 +145,7 @@ fn open_nodes(
     Ok(())
 }
 
-/// Adds the sequence, which is the one at this place and shares so many keysyms with the one before it, to the rows of those
+/// Adds the sequence, which is the one at this index and shares so many keysyms with the one before it, to the rows of those
 /// before it.
 fn add_sequence(
     rows: &mut Rows,
@@ -197,7 +197,7 @@ pub fn build_rows(alloc: Global, sequences: &Sequences) -> Result<Rows, BuildFau
     let mut previous: &[Keysym] = &[];
     for index in 0..count as u32 {
         let sequence = sequence_of(sequences, index as usize);
-        let shared = shared_front(previous, sequence);
+        let shared = shared_prefix(previous, sequence);
         add_sequence(&mut rows, &mut path, sequences, sequence, shared, index)?;
         previous = sequence;
     }

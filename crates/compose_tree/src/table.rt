@@ -11,7 +11,7 @@ use keysym_core::Keysym;
 use std::alloc::{AllocError, AllocFailed, Global};
 use thiserror::Error;
 
-/// The number of a node: its place among the nodes in the order of sequences, the root being 0.
+/// The number of a node: its index among the nodes in the order of sequences, the root being 0.
 #[derive(Clone, Copy, Debug, PartialEq, Eq)]
 pub struct NodeId(pub u32);
 
@@ -20,7 +20,7 @@ impl NodeId {
     pub const ROOT: NodeId = NodeId(0);
 }
 
-/// The number of a leaf: the place of its sequence among all sequences in their order.
+/// The number of a leaf: the index of its sequence among all sequences in their order.
 #[derive(Clone, Copy, Debug, PartialEq, Eq)]
 pub struct LeafId(pub u32);
 
@@ -98,17 +98,17 @@ pub trait ComposeTable: Sized + Drop {
         requires { node.0 < length (nodes (definitions self.now)) }
         ensures { result ≡ length (edges (definitions self.now) (words.node (definitions self.now) node.0)) };
 
-    /// The edge at this place among the node's edges, which rise by their keysyms, and where it leads. O(1).
+    /// The edge at this index among the node's edges, which rise by their keysyms, and where it leads. O(1).
     fn edge(&self, node: NodeId, index: u32) -> (Keysym, Target)
         requires node_in_range { node.0 < length (nodes (definitions self.now)) }
         requires edge_in_range { index < length (edges (definitions self.now) (words.node (definitions self.now) node.0)) }
         ensures keysym { slice_get (edges (definitions self.now) (words.node (definitions self.now) node.0)) index ≡ Some result.0 }
         ensures target { target_of (definitions self.now) (words.node (definitions self.now) node.0) result.0 ≡ Some result.1 };
 
-    /// The place of the edge of this keysym among the node's edges, if the node has it. O(log edges of the node).
+    /// The index of the edge of this keysym among the node's edges, if the node has it. O(log edges of the node).
     fn find(&self, node: NodeId, keysym: Keysym) -> Option<u32>
         requires { node.0 < length (nodes (definitions self.now)) }
-        ensures { MatchOption result (target_of (definitions self.now) (words.node (definitions self.now) node.0) keysym ≡ None) (λ place. (place < length (edges (definitions self.now) (words.node (definitions self.now) node.0))) × (slice_get (edges (definitions self.now) (words.node (definitions self.now) node.0)) place ≡ Some keysym)) };
+        ensures { MatchOption result (target_of (definitions self.now) (words.node (definitions self.now) node.0) keysym ≡ None) (λ index. (index < length (edges (definitions self.now) (words.node (definitions self.now) node.0))) × (slice_get (edges (definitions self.now) (words.node (definitions self.now) node.0)) index ≡ Some keysym)) };
 
     /// Where the edge of this keysym leads, if the node has it. O(log edges of the node).
     fn step(&self, node: NodeId, keysym: Keysym) -> Option<Target>

@@ -7,7 +7,7 @@ use compose_service::Service;
 use compose_tree::PackedTable;
 use compose_wire::{Reply, Request};
 
-/// Answers the requests of the file `before`, tries the call that the word names on those of `tried`, and answers those of `after`;
+/// Answers the requests of the file `before`, tries the call that the argument names on those of `tried`, and answers those of `after`;
 /// prints each reply.
 pub fn try_call(rt: &HostRuntime, call: &str) -> Result<(), Failure> {
     let mut service = start_service(rt)?;
@@ -20,7 +20,7 @@ fn try_on(rt: &HostRuntime, service: &mut Service<PackedTable>, call: &str) -> R
     match call {
         "one" => answer_one(rt, service)?,
         "run" => run(rt, service)?,
-        _ => return Err(Failure::Words),
+        _ => return Err(Failure::Arguments),
     }
     answer_all(rt, service, "after")
 }

@@ -5,8 +5,8 @@ use crate::input::read_file;
 use crate::output::say;
 use compose_check::Verdict;
 
-/// Prints what is answered to each front of the certificate that lacks a byte, and each change of a byte to which the answer is yes:
-/// its place and the byte.
+/// Prints what is answered to each prefix of the certificate that lacks a byte, and each change of a byte to which the answer is yes:
+/// its index and the byte.
 pub fn try_all(rt: &HostRuntime) -> Result<(), Failure> {
     let parts = read_parts(rt)?;
     try_with(rt, &parts)
@@ -15,12 +15,12 @@ pub fn try_all(rt: &HostRuntime) -> Result<(), Failure> {
 /// The same with these parts.
 fn try_with(rt: &HostRuntime, parts: &Parts) -> Result<(), Failure> {
     let mut certificate = read_file(rt, "certificate")?;
-    try_fronts(rt, parts, &certificate)?;
+    try_prefixes(rt, parts, &certificate)?;
     try_changes(rt, parts, &mut certificate)
 }
 
-/// Prints what is answered to each front that lacks a byte.
-fn try_fronts(rt: &HostRuntime, parts: &Parts, certificate: &[u8]) -> Result<(), Failure> {
+/// Prints what is answered to each prefix that lacks a byte.
+fn try_prefixes(rt: &HostRuntime, parts: &Parts, certificate: &[u8]) -> Result<(), Failure> {
     for end in 0..certificate.len() {
         say_verdict(rt, check_with(rt, parts, &certificate[..end]))?;
     }
@@ -29,36 +29,36 @@ fn try_fronts(rt: &HostRuntime, parts: &Parts, certificate: &[u8]) -> Result<(),
 
 /// Prints each change of a byte to which the answer is yes.
 fn try_changes(rt: &HostRuntime, parts: &Parts, certificate: &mut [u8]) -> Result<(), Failure> {
-    for place in 0..certificate.len() {
-        try_bytes(rt, parts, certificate, place)?;
+    for index in 0..certificate.len() {
+        try_bytes(rt, parts, certificate, index)?;
     }
     Ok(())
 }
 
-/// Puts every other byte at a place, and then the first one again.
+/// Puts every other byte at an index, and then the first one again.
 fn try_bytes(
     rt: &HostRuntime,
     parts: &Parts,
     certificate: &mut [u8],
-    place: usize,
+    index: usize,
 ) -> Result<(), Failure> {
-    let Some(right) = certificate.get(place).copied() else {
+    let Some(right) = certificate.get(index).copied() else {
         return Err(Failure::Input);
     };
     for byte in 0..=u8::MAX {
-        put(certificate, place, byte);
+        put(certificate, index, byte);
         if byte != right && is_valid(rt, parts, certificate) {
-            say(rt, place)?;
+            say(rt, index)?;
             say(rt, byte)?;
         }
     }
-    put(certificate, place, right);
+    put(certificate, index, right);
     Ok(())
 }
 
-/// Puts a byte at a place.
-fn put(bytes: &mut [u8], place: usize, byte: u8) {
-    if let Some(found) = bytes.get_mut(place) {
+/// Puts a byte at an index.
+fn put(bytes: &mut [u8], index: usize, byte: u8) {
+    if let Some(found) = bytes.get_mut(index) {
         *found = byte;
     }
 }

@@ -31,8 +31,8 @@ impl Read for Repeated {
     fn read(&mut self, buf: &mut [u8]) -> io::Result<usize> {
         let whole_frames = buf.len() - buf.len() % FRAME;
         let count = whole_frames.min(self.left);
-        for (place, byte) in buf.iter_mut().enumerate() {
-            *byte = if place % FRAME == 0 { ASK } else { 0 };
+        for (index, byte) in buf.iter_mut().enumerate() {
+            *byte = if index % FRAME == 0 { ASK } else { 0 };
         }
         self.left -= count;
         Ok(count)

@@ -25,9 +25,9 @@ mod tables;
 use failure::Failure;
 use std::process::ExitCode;
 
-/// Tries what the words say.
-fn run(rt: &HostRuntime, words: &[&str]) -> Result<(), Failure> {
-    match words {
+/// Tries what the arguments say.
+fn run(rt: &HostRuntime, arguments: &[&str]) -> Result<(), Failure> {
+    match arguments {
         ["read", call] => reading::try_call(rt, call),
         ["table", call] => tables::try_call(rt, call),
         ["answer", call] => answering::try_call(rt, call),
@@ -37,32 +37,32 @@ fn run(rt: &HostRuntime, words: &[&str]) -> Result<(), Failure> {
         ["devices"] => serving::try_all(rt),
         ["sockets"] => sockets::try_all(rt),
         ["endless"] => endless::serve_endless(rt),
-        _ => Err(Failure::Words),
+        _ => Err(Failure::Arguments),
     }
 }
 
-/// The words behind the program's name.
-fn words_given(rt: &HostRuntime) -> Result<Vec<String>, Failure> {
-    let Ok(words) = std::env::args(rt) else {
-        return Err(Failure::Words);
+/// The arguments after the program's name.
+fn arguments_given(rt: &HostRuntime) -> Result<Vec<String>, Failure> {
+    let Ok(arguments) = std::env::args(rt) else {
+        return Err(Failure::Arguments);
     };
-    let Ok(words) = words.skip(1).collect(rt.alloc()) else {
+    let Ok(arguments) = arguments.skip(1).collect(rt.alloc()) else {
         return Err(Failure::NoMemory);
     };
-    Ok(words)
+    Ok(arguments)
 }
 
-/// Runs with the words behind the program's name.
+/// Runs with the arguments after the program's name.
 fn run_given(rt: &HostRuntime) -> Result<(), Failure> {
-    let given = words_given(rt)?;
-    let Ok(words) = given
+    let given = arguments_given(rt)?;
+    let Ok(arguments) = given
         .iter()
-        .map(|word| word.as_str())
+        .map(|argument| argument.as_str())
         .collect::<Vec<&str>>(rt.alloc())
     else {
         return Err(Failure::NoMemory);
     };
-    run(rt, &words)
+    run(rt, &arguments)
 }
 
 fn main(rt: HostRuntime) -> ExitCode {

@@ -8,14 +8,14 @@ use compose_service::Service;
 use compose_tree::PackedTable;
 use std::mem;
 
-/// Does the wrong call that the word names.
+/// Does the wrong call that the argument names.
 pub fn try_call(rt: &HostRuntime, call: &str) -> Result<(), Failure> {
     match call {
         "leak" => leak(rt),
         "leak-at-a-refusal" => leak_at_a_refusal(rt),
         "refusal-of-nothing" => refuse_nothing(rt),
         "change-before-a-refusal" => change_before_a_refusal(rt),
-        _ => Err(Failure::Words),
+        _ => Err(Failure::Arguments),
     }
 }
 

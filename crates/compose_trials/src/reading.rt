@@ -8,7 +8,7 @@ use compose_bundle::write_bundle;
 use compose_read::Sources;
 use keysym_core::Names;
 
-/// Tries the call that the word names.
+/// Tries the call that the argument names.
 pub fn try_call(rt: &HostRuntime, call: &str) -> Result<(), Failure> {
     match call {
         "names" => names(rt),
@@ -16,7 +16,7 @@ pub fn try_call(rt: &HostRuntime, call: &str) -> Result<(), Failure> {
         "check" => check(rt),
         "start" => start(rt),
         "bundle" => bundle(rt),
-        _ => Err(Failure::Words),
+        _ => Err(Failure::Arguments),
     }
 }
 
@@ -83,11 +83,11 @@ fn add_again(rt: &HostRuntime, sources: &mut Sources) -> Result<(), Failure> {
 
 /// Prints each source: its name, and how many bytes it has.
 fn say_sources(rt: &HostRuntime, sources: &Sources) -> Result<(), Failure> {
-    for place in 0..sources.count() {
-        if let Some(name) = sources.name(place) {
+    for index in 0..sources.count() {
+        if let Some(name) = sources.name(index) {
             say(rt, name)?;
         }
-        say(rt, sources.bytes(place).len())?;
+        say(rt, sources.bytes(index).len())?;
     }
     Ok(())
 }

@@ -5,14 +5,14 @@ use crate::marks::mark;
 use crate::output::say;
 use compose_wire::{Feeder, Request, WireFault};
 
-/// Takes in the file `before`, and tries the call that the word names; after a refusal it is tried again. Prints the refusal, and all
+/// Takes in the file `before`, and tries the call that the argument names; after a refusal it is tried again. Prints the refusal, and all
 /// requests then.
 pub fn try_call(rt: &HostRuntime, call: &str) -> Result<(), Failure> {
     let mut feeder = feed_file(rt, "before")?;
     match call {
         "feed" => feed(rt, &mut feeder)?,
         "next" => next(rt, &mut feeder)?,
-        _ => return Err(Failure::Words),
+        _ => return Err(Failure::Arguments),
     }
     say_all(rt, &mut feeder)
 }

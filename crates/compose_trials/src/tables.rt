@@ -17,7 +17,7 @@ struct Tables {
     new: PackedTable,
 }
 
-/// Tries the call that the word names.
+/// Tries the call that the argument names.
 pub fn try_call(rt: &HostRuntime, call: &str) -> Result<(), Failure> {
     let tables = read_tables(rt)?;
     try_on(rt, &tables, call)
@@ -28,7 +28,7 @@ fn try_on(rt: &HostRuntime, tables: &Tables, call: &str) -> Result<(), Failure> 
     match call {
         "make" => try_make(rt, tables),
         "explain" => try_explain(rt, tables),
-        _ => Err(Failure::Words),
+        _ => Err(Failure::Arguments),
     }
 }
 

@@ -40,28 +40,28 @@ node_fed table p t h = elim (or_cases (same p []) (is_extended table p) (sym (no
   | inr e ↦ (let d = both_at is_definition (λ (d : Definition). is_proper_prefix p d.sequence) table t e in prefix_fed p d.0.sequence d.2 (sequence_fed d.0 d.1))
 ]
 
--- what begins a node is a node
+-- a prefix of a node is a node
 pub shorter_node : (table : List Definition) (v w : List ℕ) → is_node table (v ++ w) ≡ true → is_node table v ≡ true
 shorter_node table v w h = elim (or_cases (same (v ++ w) []) (is_extended table (v ++ w)) (sym (node_means table (v ++ w)) ∙ h)) [
-  | inl e ↦ node_means table v ∙ or_left (same v []) (is_extended table v) (front_empty v (same_is (v ++ w) [] e))
+  | inl e ↦ node_means table v ∙ or_left (same v []) (is_extended table v) (prefix_empty v (same_is (v ++ w) [] e))
   | inr e ↦ extended_is_node table v (list_any-weaker (λ (d : Definition). is_proper_prefix (v ++ w) d.sequence) (λ d. is_proper_prefix v d.sequence) (λ d. shorter_prefix v w d.sequence) table e)
 ]
   where
-    front_empty : (v : List ℕ) → v ++ w ≡ [] → same v [] ≡ true
-    front_empty [] e = refl
-    front_empty (x ∷ v) e = cc
+    prefix_empty : (v : List ℕ) → v ++ w ≡ [] → same v [] ≡ true
+    prefix_empty [] e = refl
+    prefix_empty (x ∷ v) e = cc
 
 -- a proper prefix of p and k is a prefix of p
-front_of : (v w p : List ℕ) (k : ℕ) → p ++ k ∷ [] ≡ v ++ w → w ≢ [] → (rest : List ℕ) × (p ≡ v ++ rest)
-front_of [] w p k e n = (p, refl)
-front_of (x ∷ v) w [] k e n = absurd (n (tail_empty v (let t : [] ≡ v ++ w = cc in sym t)))
+prefix_of : (v w p : List ℕ) (k : ℕ) → p ++ k ∷ [] ≡ v ++ w → w ≢ [] → (rest : List ℕ) × (p ≡ v ++ rest)
+prefix_of [] w p k e n = (p, refl)
+prefix_of (x ∷ v) w [] k e n = absurd (n (tail_empty v (let t : [] ≡ v ++ w = cc in sym t)))
   where
     tail_empty : (v : List ℕ) → v ++ w ≡ [] → w ≡ []
     tail_empty [] e = e
     tail_empty (y ∷ v) e = cc
-front_of (x ∷ v) w (y ∷ p) k e n =
+prefix_of (x ∷ v) w (y ∷ p) k e n =
     let t : p ++ k ∷ [] ≡ v ++ w = cc in
-    let r = front_of v w p k t n in
+    let r = prefix_of v w p k t n in
     (r.0, let first : y ≡ x = cc in ap (λ z. z ∷ p) first ∙ ap (λ z. x ∷ z) r.1)
 
 last_of : (P : ℕ → Bool) (v : List ℕ) (k : ℕ) → list_all P (v ++ k ∷ []) ≡ true → P k ≡ true
@@ -188,7 +188,7 @@ module _ (names : KeysymNames) (fresh : List ℕ) (old new : List Definition) wh
           list_all-append (λ j. not (is_ignored j)) p (k ∷ []) ∙ and_from (list_all (λ j. not (is_ignored j)) p) (list_all (λ j. not (is_ignored j)) (k ∷ [])) (node_fed old p t_old c.clear.reached.node)
           (and_from (not (is_ignored k)) true (not_from_false (is_ignored k) (candidate_fed p k c)) refl);
       never_rests = λ v w e nv nw rests.
-          (let r = front_of v w p k e nw in
+          (let r = prefix_of v w p k e nw in
           let v_node = shorter_node old v r.0 (ap (is_node old) (sym r.1) ∙ c.clear.reached.node) in
           nv (sym (node_reached old v t_old v_node).again ∙ rests));
     }

@@ -18,7 +18,7 @@ use Rattle.compose_walk.specs.Stands.{stands_at, found_at}
 use Rattle.compose_walk.specs.declared.pass.Stand.{Stand}
 use Rattle.compose_walk.specs.declared.pass.Found.{Found}
 use Rattle.compose_walk.specs.declared.step.KeyStep.{KeyStep}
-use Rattle.compose_walk.proofs.Places.{number_at_node, node_is_node}
+use Rattle.compose_walk.proofs.NodeNumbers.{number_at_node, node_is_node}
 use Rattle.compose_walk.proofs.Standing.{differs_alike, agrees_push, kept_edge, written_edge}
 
 -- one element more of a list

@@ -21,12 +21,12 @@ use Rattle.compose_model.proofs.Exact.{walked_simulate, refutes}
 use Rattle.compose_model.proofs.Sorted.{walked_rise}
 use Rattle.compose_walk.specs.Evidence.{Evidence, Shows, IsLeast, comes_first}
 use Rattle.compose_walk.specs.Pass.{difference_at, differs_at, agrees_from, agrees, is_differing_start, differing_starts, evidence}
-use Rattle.compose_walk.specs.Stands.{front, last_key, stand, found_at, found_behind, all_found, comes_sooner, IsPlace, stand_pairs}
+use Rattle.compose_walk.specs.Stands.{without_last, last_key, stand, found_at, found_behind, all_found, comes_sooner, IsPlace, stand_pairs}
 use Rattle.compose_walk.specs.Walks.{IsFollower}
 use Rattle.compose_walk.specs.declared.pass.Found.{Found}
 use Rattle.compose_walk.proofs.Reduction.{agreement, no_difference, Clear, Candidate}
 use Rattle.compose_walk.proofs.Candidates.{least_from, follows_without, candidate_shows, candidate_fed}
-use Rattle.compose_walk.proofs.Places.{number_at_node, numbers_rise}
+use Rattle.compose_walk.proofs.NodeNumbers.{number_at_node, numbers_rise}
 
 -- ---- agreement, as a test and as a fact
 
@@ -287,7 +287,7 @@ module _ (names : KeysymNames) (fresh : List ℕ) (old new : List Definition) (t
       go (agrees names old new x) (all x (or_left (same x x) (list_any (same x) xs) (same_from x x refl))) number later
     where
       go : (b : Bool) → b ≡ true → n ≡ number_of old x → stand_pairs (n + 1) (map (stand names old new) xs) ≡ map (λ p. (number_of old p, number_of new (pending new p))) xs
-          → stand_pairs n (cond b (Some (record { new_node = record { 0 = number_of new (pending new x) }; parent = record { 0 = number_of old (front x) }; keysym = last_key x })) None ∷ map (stand names old new) xs)
+          → stand_pairs n (cond b (Some (record { new_node = record { 0 = number_of new (pending new x) }; parent = record { 0 = number_of old (without_last x) }; keysym = last_key x })) None ∷ map (stand names old new) xs)
           ≡ (number_of old x, number_of new (pending new x)) ∷ map (λ p. (number_of old p, number_of new (pending new p))) xs
       go true e number later = ap₂ (λ m ps. (m, number_of new (pending new x)) ∷ ps) number later
       go false e number later = cc

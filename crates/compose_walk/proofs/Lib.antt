@@ -1,7 +1,7 @@
 mod Examples
 pub mod Reduction
 pub mod Candidates
-pub mod Places
+pub mod NodeNumbers
 pub mod Onward
 pub mod Stepped
 pub mod Standing

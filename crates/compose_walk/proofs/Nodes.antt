@@ -10,11 +10,11 @@ use Rattle.compose_model.specs.Step.{is_empty, pending}
 use Rattle.compose_model.specs.Nodes.{nodes, is_node, node, number_of, has_edge, edges}
 use Rattle.compose_model.proofs.NodeLemmas.{root_is_node, root_number, node_at_number, number_below, pending_is_node, edge_listed}
 use Rattle.compose_walk.specs.Pass.{differs_at, agrees, differing_starts}
-use Rattle.compose_walk.specs.Stands.{front, last_key, stand, is_done, stands_at, found_at, found_behind, all_found}
+use Rattle.compose_walk.specs.Stands.{without_last, last_key, stand, is_done, stands_at, found_at, found_behind, all_found}
 use Rattle.compose_walk.specs.declared.pass.Stand.{Stand}
 use Rattle.compose_walk.specs.declared.pass.Found.{Found}
-use Rattle.compose_walk.proofs.Places.{number_at_node, node_is_node, parent_before, on_nodes, set_node}
-use Rattle.compose_walk.proofs.Standing.{agrees_push, pushed, front_node}
+use Rattle.compose_walk.proofs.NodeNumbers.{number_at_node, node_is_node, parent_before, on_nodes, set_node}
+use Rattle.compose_walk.proofs.Standing.{agrees_push, pushed, prefix_node}
 use Rattle.compose_walk.proofs.Edges.{taken_more}
 
 -- ---- one key more
@@ -44,14 +44,14 @@ map_const y [] = refl
 map_const y (x ∷ xs) = ap (λ ys. y ∷ ys) (map_const y xs)
 
 -- an edge leads to a node from the keys before its last one
-behind_front : (table : List Definition) (q : List ℕ) → is_node table q ≡ true → is_empty q ≡ false → has_edge table (front q) (last_key q) ≡ true
-behind_front table q h e = or_left (is_node table (front q ++ last_key q ∷ [])) (is_sequence table (front q ++ last_key q ∷ [])) (ap (is_node table) (sym (pushed q e)) ∙ h)
+behind_prefix : (table : List Definition) (q : List ℕ) → is_node table q ≡ true → is_empty q ≡ false → has_edge table (without_last q) (last_key q) ≡ true
+behind_prefix table q h e = or_left (is_node table (without_last q ++ last_key q ∷ [])) (is_sequence table (without_last q ++ last_key q ∷ [])) (ap (is_node table) (sym (pushed q e)) ∙ h)
 
 module _ (names : KeysymNames) (old new : List Definition) (sound : is_table old ≡ true) where
-  front_is : (i : ℕ) (q : List ℕ) → i < length (nodes old) → is_node old q ≡ true → number_of old (front q) == i ≡ true → front q ≡ node old i
-  front_is i q h hq e = sym (node_at_number old (front q) (front_node old q hq)) ∙ ap (node old) (eqb-true (number_of old (front q)) i e)
+  prefix_is : (i : ℕ) (q : List ℕ) → i < length (nodes old) → is_node old q ≡ true → number_of old (without_last q) == i ≡ true → without_last q ≡ node old i
+  prefix_is i q h hq e = sym (node_at_number old (without_last q) (prefix_node old q hq)) ∙ ap (node old) (eqb-true (number_of old (without_last q)) i e)
 
-  -- the edges of one node are those of the next nodes' fronts
+  -- the edges of one node are those of the next nodes' prefixes
   tests_move : (f i : ℕ) (b : Bool) → (f == i ≡ true → b ≡ true) → nat_lt f i || (f == i && b) ≡ nat_lt f (i + 1) || (f == (i + 1) && false)
   tests_move f i b at = go (nat_lt f i) refl (f == i) refl
     where
@@ -78,35 +78,35 @@ module _ (names : KeysymNames) (old new : List Definition) (sound : is_table old
   node_done i h = on_nodes old _ _ (λ q hq. ap (λ b. cond b (stand names old new q) None) (at q hq (is_empty q) refl))
     where
       at : (q : List ℕ) → is_node old q ≡ true → (e : Bool) → is_empty q ≡ e
-          → e || (nat_lt (number_of old (front q)) i || (number_of old (front q) == i && has_key (edges old (node old i)) (last_key q))) ≡ e || (nat_lt (number_of old (front q)) (i + 1) || (number_of old (front q) == (i + 1) && false))
+          → e || (nat_lt (number_of old (without_last q)) i || (number_of old (without_last q) == i && has_key (edges old (node old i)) (last_key q))) ≡ e || (nat_lt (number_of old (without_last q)) (i + 1) || (number_of old (without_last q) == (i + 1) && false))
       at q hq true e = refl
-      at q hq false e = tests_move (number_of old (front q)) i (has_key (edges old (node old i)) (last_key q))
-          (λ m. edge_listed old (node old i) (last_key q) (ap (λ p. has_edge old p (last_key q)) (sym (front_is i q h hq m)) ∙ behind_front old q hq e))
+      at q hq false e = tests_move (number_of old (without_last q)) i (has_key (edges old (node old i)) (last_key q))
+          (λ m. edge_listed old (node old i) (last_key q) (ap (λ p. has_edge old p (last_key q)) (sym (prefix_is i q h hq m)) ∙ behind_prefix old q hq e))
 
   -- a node up to which the tables do not agree is passed over
   pub node_skipped : (i : ℕ) → i < length (nodes old) → agrees names old new (node old i) ≡ false → stands_at names old new i [] ≡ stands_at names old new (i + 1) []
-  node_skipped i h dark = on_nodes old _ _ (λ q hq. at q hq (is_empty q) refl (number_of old (front q) == i) refl)
+  node_skipped i h dark = on_nodes old _ _ (λ q hq. at q hq (is_empty q) refl (number_of old (without_last q) == i) refl)
     where
       none : (q : List ℕ) → agrees names old new q ≡ false → (b : Bool) → cond b (stand names old new q) None ≡ None
-      none q d true = ap (λ b. cond b (Some (record { new_node = record { 0 = number_of new (pending new q) }; parent = record { 0 = number_of old (front q) }; keysym = last_key q })) None) d
+      none q d true = ap (λ b. cond b (Some (record { new_node = record { 0 = number_of new (pending new q) }; parent = record { 0 = number_of old (without_last q) }; keysym = last_key q })) None) d
       none q d false = refl
 
-      at : (q : List ℕ) → is_node old q ≡ true → (e : Bool) → is_empty q ≡ e → (m : Bool) → number_of old (front q) == i ≡ m
+      at : (q : List ℕ) → is_node old q ≡ true → (e : Bool) → is_empty q ≡ e → (m : Bool) → number_of old (without_last q) == i ≡ m
           → cond (is_done old i [] q) (stand names old new q) None ≡ cond (is_done old (i + 1) [] q) (stand names old new q) None
-      at q hq true e m em = ap (λ b. cond (b || (nat_lt (number_of old (front q)) i || (number_of old (front q) == i && false))) (stand names old new q) None) e
-          ∙ sym (ap (λ b. cond (b || (nat_lt (number_of old (front q)) (i + 1) || (number_of old (front q) == (i + 1) && false))) (stand names old new q) None) e)
+      at q hq true e m em = ap (λ b. cond (b || (nat_lt (number_of old (without_last q)) i || (number_of old (without_last q) == i && false))) (stand names old new q) None) e
+          ∙ sym (ap (λ b. cond (b || (nat_lt (number_of old (without_last q)) (i + 1) || (number_of old (without_last q) == (i + 1) && false))) (stand names old new q) None) e)
       at q hq false e true em =
           let d : agrees names old new q ≡ false =
-          ap (agrees names old new) (pushed q e) ∙ agrees_push names old new sound (front q) (last_key q) (front_node old q hq)
-          ∙ ap (λ p. agrees names old new p && not (differs_at names old new (front q) (last_key q))) (front_is i q h hq em) ∙ ap (λ b. b && not (differs_at names old new (front q) (last_key q))) dark in
+          ap (agrees names old new) (pushed q e) ∙ agrees_push names old new sound (without_last q) (last_key q) (prefix_node old q hq)
+          ∙ ap (λ p. agrees names old new p && not (differs_at names old new (without_last q) (last_key q))) (prefix_is i q h hq em) ∙ ap (λ b. b && not (differs_at names old new (without_last q) (last_key q))) dark in
           none q d (is_done old i [] q) ∙ sym (none q d (is_done old (i + 1) [] q))
-      at q hq false e false em = ap (λ b. cond (is_empty q || b) (stand names old new q) None) (tests_move (number_of old (front q)) i false (λ x. (let clash : true ≡ false = sym x ∙ em in cc)))
+      at q hq false e false em = ap (λ b. cond (is_empty q || b) (stand names old new q) None) (tests_move (number_of old (without_last q)) i false (λ x. (let clash : true ≡ false = sym x ∙ em in cc)))
 
   -- after the last node each has its stand
   pub nodes_done : stands_at names old new (length (nodes old)) [] ≡ map (stand names old new) (nodes old)
   nodes_done = on_nodes old _ _ (λ q hq. ap (λ b. cond b (stand names old new q) None)
-      (or_right (is_empty q) (nat_lt (number_of old (front q)) (length (nodes old)) || (number_of old (front q) == length (nodes old) && false))
-      (or_left (nat_lt (number_of old (front q)) (length (nodes old))) (number_of old (front q) == length (nodes old) && false) (lt-ltb (number_of old (front q)) (length (nodes old)) (number_below old (front q) (front_node old q hq))))))
+      (or_right (is_empty q) (nat_lt (number_of old (without_last q)) (length (nodes old)) || (number_of old (without_last q) == length (nodes old) && false))
+      (or_left (nat_lt (number_of old (without_last q)) (length (nodes old))) (number_of old (without_last q) == length (nodes old) && false) (lt-ltb (number_of old (without_last q)) (length (nodes old)) (number_below old (without_last q) (prefix_node old q hq))))))
 
   -- before the first one the root alone has its stand
   pub nodes_begun : (s : Stand) → s.new_node.0 ≡ 0 → s.parent.0 ≡ 0 → s.keysym ≡ 0 → set (replicate (length (nodes old)) None) 0 (Some s) ≡ stands_at names old new 0 []
@@ -120,7 +120,7 @@ module _ (names : KeysymNames) (old new : List Definition) (sound : is_table old
 
       other : (r : List ℕ) → is_node old r ≡ true → same r [] ≡ false → None ≡ cond (is_done old 0 [] r) (stand names old new r) None
       other [] h n = cc
-      other (k ∷ r) h n = go (nat_lt (number_of old (front (k ∷ r))) 0) (number_of old (front (k ∷ r)) == 0) (le-ltb (number_of old (front (k ∷ r))) 0 (omega arith))
+      other (k ∷ r) h n = go (nat_lt (number_of old (without_last (k ∷ r))) 0) (number_of old (without_last (k ∷ r)) == 0) (le-ltb (number_of old (without_last (k ∷ r))) 0 (omega arith))
         where
           go : (c d : Bool) → c ≡ false → None ≡ cond (c || (d && false)) (stand names old new (k ∷ r)) None
           go true d e = cc
@@ -132,13 +132,13 @@ module _ (names : KeysymNames) (old new : List Definition) (sound : is_table old
   stand_there i h = get_or-map (λ q. cond (is_done old i [] q) (stand names old new q) None) (nodes old) i [] None h ∙ ap (λ b. cond b (stand names old new (node old i)) None) (done (is_empty (node old i)) refl)
     where
       done : (e : Bool) → is_empty (node old i) ≡ e → is_done old i [] (node old i) ≡ true
-      done true e = or_left (is_empty (node old i)) (nat_lt (number_of old (front (node old i))) i || (number_of old (front (node old i)) == i && false)) e
+      done true e = or_left (is_empty (node old i)) (nat_lt (number_of old (without_last (node old i))) i || (number_of old (without_last (node old i)) == i && false)) e
       done false e =
           let here = node_is_node old i h in
-          let before = parent_before old (front (node old i)) (last_key (node old i)) (front_node old (node old i) here) (ap (is_node old) (sym (pushed (node old i) e)) ∙ here) in
-          let at : number_of old (front (node old i) ++ last_key (node old i) ∷ []) ≡ i = ap (number_of old) (sym (pushed (node old i) e)) ∙ number_at_node old i h in
-          or_right (is_empty (node old i)) (nat_lt (number_of old (front (node old i))) i || (number_of old (front (node old i)) == i && false))
-          (or_left (nat_lt (number_of old (front (node old i))) i) (number_of old (front (node old i)) == i && false) (lt-ltb (number_of old (front (node old i))) i (omega arith)))
+          let before = parent_before old (without_last (node old i)) (last_key (node old i)) (prefix_node old (node old i) here) (ap (is_node old) (sym (pushed (node old i) e)) ∙ here) in
+          let at : number_of old (without_last (node old i) ++ last_key (node old i) ∷ []) ≡ i = ap (number_of old) (sym (pushed (node old i) e)) ∙ number_at_node old i h in
+          or_right (is_empty (node old i)) (nat_lt (number_of old (without_last (node old i))) i || (number_of old (without_last (node old i)) == i && false))
+          (or_left (nat_lt (number_of old (without_last (node old i))) i) (number_of old (without_last (node old i)) == i && false) (lt-ltb (number_of old (without_last (node old i))) i (omega arith)))
 
   -- what a stand says of its node
   pub record Standing (p : List ℕ) (s : Stand) : Type 0 where
@@ -146,7 +146,7 @@ module _ (names : KeysymNames) (old new : List Definition) (sound : is_table old
     pub new_number : s.new_node.0 ≡ number_of new (pending new p)
     pub in_range : s.new_node.0 < length (nodes new)
     pub together : node new s.new_node.0 ≡ pending new p
-    pub parent : s.parent.0 ≡ number_of old (front p)
+    pub parent : s.parent.0 ≡ number_of old (without_last p)
     pub keysym : s.keysym ≡ last_key p
 
   pub standing : (p : List ℕ) (s : Stand) → stand names old new p ≡ Some s → Standing p s
@@ -155,9 +155,9 @@ module _ (names : KeysymNames) (old new : List Definition) (sound : is_table old
       pending_node : is_node new (pending new p) ≡ true
       pending_node = pending_is_node new [] p (root_is_node new)
 
-      go : (b : Bool) → agrees names old new p ≡ b → cond b (Some (record { new_node = record { 0 = number_of new (pending new p) }; parent = record { 0 = number_of old (front p) }; keysym = last_key p })) None ≡ Some s → Standing p s
+      go : (b : Bool) → agrees names old new p ≡ b → cond b (Some (record { new_node = record { 0 = number_of new (pending new p) }; parent = record { 0 = number_of old (without_last p) }; keysym = last_key p })) None ≡ Some s → Standing p s
       go true a h =
-          let is : record { new_node = record { 0 = number_of new (pending new p) }; parent = record { 0 = number_of old (front p) }; keysym = last_key p } ≡ s = cc in
+          let is : record { new_node = record { 0 = number_of new (pending new p) }; parent = record { 0 = number_of old (without_last p) }; keysym = last_key p } ≡ s = cc in
           let number : s.new_node.0 ≡ number_of new (pending new p) = sym (ap (λ (z : Stand). z.new_node.0) is) in
           let below = number_below new (pending new p) pending_node in
           record {
@@ -173,7 +173,7 @@ module _ (names : KeysymNames) (old new : List Definition) (sound : is_table old
   pub dark : (p : List ℕ) → stand names old new p ≡ None → agrees names old new p ≡ false
   dark p e = go (agrees names old new p) e
     where
-      go : (b : Bool) → cond {A = Option Stand} b (Some (record { new_node = record { 0 = number_of new (pending new p) }; parent = record { 0 = number_of old (front p) }; keysym = last_key p })) None ≡ None → b ≡ false
+      go : (b : Bool) → cond {A = Option Stand} b (Some (record { new_node = record { 0 = number_of new (pending new p) }; parent = record { 0 = number_of old (without_last p) }; keysym = last_key p })) None ≡ None → b ≡ false
       go true h = cc
       go false h = refl
 

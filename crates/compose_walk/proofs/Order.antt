@@ -24,7 +24,7 @@ use Rattle.compose_walk.specs.Evidence.{Evidence, IsDifference, AreDifferences, 
 use Rattle.compose_walk.specs.Pass.{differs_at, agrees, is_differing_start, differing_starts, evidence}
 use Rattle.compose_walk.specs.Stands.{found_at, found_behind, all_found, comes_sooner, IsPlace, evidence_found}
 use Rattle.compose_walk.specs.declared.pass.Found.{Found}
-use Rattle.compose_walk.proofs.Places.{numbers_rise}
+use Rattle.compose_walk.proofs.NodeNumbers.{numbers_rise}
 use Rattle.compose_walk.proofs.Candidates.{candidate_is, difference_is_candidate}
 use Rattle.compose_walk.proofs.Founds.{Has, all_append, all_filtered, all_flat, in_order, IsFound, all_are_found, has_candidate, place_of, evidence_of}
 

@@ -16,13 +16,13 @@ use Rattle.compose_model.proofs.Reached.{node_reached}
 use Rattle.compose_walk.specs.Kinds.{kind_of}
 use Rattle.compose_walk.specs.Pass.{differs_at, agrees_from, agrees}
 use Rattle.compose_walk.specs.Steps.{text_bytes, IsStep, difference_of}
-use Rattle.compose_walk.specs.Stands.{front, last_key, stand, is_done, stands_at}
+use Rattle.compose_walk.specs.Stands.{without_last, last_key, stand, is_done, stands_at}
 use Rattle.compose_walk.specs.declared.evidence.Kind.{Kind as Found_kind}
 use Rattle.compose_walk.specs.declared.evidence.Kind.TheVariants.{Text, Cancelled, Waiting}
 use Rattle.compose_walk.specs.declared.pass.Stand.{Stand}
 use Rattle.compose_walk.specs.declared.step.KeyStep.{KeyStep}
 use Rattle.compose_walk.proofs.Candidates.{shorter_node}
-use Rattle.compose_walk.proofs.Places.{on_nodes, set_node}
+use Rattle.compose_walk.proofs.NodeNumbers.{on_nodes, set_node}
 
 -- ---- the steps of the program differ as the model's do
 
@@ -63,17 +63,17 @@ differs_alike names old new p v k a b hp hv e sa sb =
 
 -- ---- a list without its last key, and its last key
 
-pub front_push : (p : List ℕ) (k : ℕ) → front (p ++ k ∷ []) ≡ p
-front_push [] k = refl
-front_push (j ∷ []) k = refl
-front_push (j ∷ i ∷ p) k = ap (λ y. j ∷ y) (front_push (i ∷ p) k)
+pub prefix_push : (p : List ℕ) (k : ℕ) → without_last (p ++ k ∷ []) ≡ p
+prefix_push [] k = refl
+prefix_push (j ∷ []) k = refl
+prefix_push (j ∷ i ∷ p) k = ap (λ y. j ∷ y) (prefix_push (i ∷ p) k)
 
 pub last_push : (p : List ℕ) (k : ℕ) → last_key (p ++ k ∷ []) ≡ k
 last_push [] k = refl
 last_push (j ∷ []) k = refl
 last_push (j ∷ i ∷ p) k = last_push (i ∷ p) k
 
-pub pushed : (q : List ℕ) → is_empty q ≡ false → q ≡ front q ++ last_key q ∷ []
+pub pushed : (q : List ℕ) → is_empty q ≡ false → q ≡ without_last q ++ last_key q ∷ []
 pushed [] h = cc
 pushed (k ∷ []) h = refl
 pushed (k ∷ j ∷ p) h = ap (λ y. k ∷ y) (pushed (j ∷ p) refl)
@@ -82,9 +82,9 @@ push_some : (p : List ℕ) (k : ℕ) → is_empty (p ++ k ∷ []) ≡ false
 push_some [] k = refl
 push_some (j ∷ p) k = refl
 
-pub front_node : (table : List Definition) (q : List ℕ) → is_node table q ≡ true → is_node table (front q) ≡ true
-front_node table [] h = root_is_node table
-front_node table (k ∷ q) h = shorter_node table (front (k ∷ q)) (last_key (k ∷ q) ∷ []) (ap (is_node table) (sym (pushed (k ∷ q) refl)) ∙ h)
+pub prefix_node : (table : List Definition) (q : List ℕ) → is_node table q ≡ true → is_node table (without_last q) ≡ true
+prefix_node table [] h = root_is_node table
+prefix_node table (k ∷ q) h = shorter_node table (without_last (k ∷ q)) (last_key (k ∷ q) ∷ []) (ap (is_node table) (sym (pushed (k ∷ q) refl)) ∙ h)
 
 module _ (names : KeysymNames) (old new : List Definition) where
   -- ---- agreement along one key more
@@ -118,10 +118,10 @@ module _ (names : KeysymNames) (old new : List Definition) where
     -- which edges were looked at, one key later: that of p and k as well, and no other one
     done_other : (p : List ℕ) (i : ℕ) (ks : List ℕ) (k : ℕ) (q : List ℕ) → is_node old p ≡ true → number_of old p ≡ i → is_node old q ≡ true → same q (p ++ k ∷ []) ≡ false → is_done old i (ks ++ k ∷ []) q ≡ is_done old i ks q
     done_other p i ks k q hp e hq n =
-        ap (λ b. is_empty q || (nat_lt (number_of old (front q)) i || (number_of old (front q) == i && b))) (one_key ks k (last_key q))
-        ∙ go (is_empty q) refl (number_of old (front q) == i) refl (last_key q == k) refl (nat_lt (number_of old (front q)) i) (has_key ks (last_key q))
+        ap (λ b. is_empty q || (nat_lt (number_of old (without_last q)) i || (number_of old (without_last q) == i && b))) (one_key ks k (last_key q))
+        ∙ go (is_empty q) refl (number_of old (without_last q) == i) refl (last_key q == k) refl (nat_lt (number_of old (without_last q)) i) (has_key ks (last_key q))
       where
-        go : (a : Bool) → is_empty q ≡ a → (b : Bool) → number_of old (front q) == i ≡ b → (c : Bool) → last_key q == k ≡ c → (d h : Bool) → a || (d || (b && (h || (c || false)))) ≡ a || (d || (b && h))
+        go : (a : Bool) → is_empty q ≡ a → (b : Bool) → number_of old (without_last q) == i ≡ b → (c : Bool) → last_key q == k ≡ c → (d h : Bool) → a || (d || (b && (h || (c || false)))) ≡ a || (d || (b && h))
         go true ea b eb c ec d h = refl
         go false ea false eb c ec d h = refl
         go false ea true eb false ec d h = ap (λ z. d || z) (or_none h)
@@ -130,15 +130,15 @@ module _ (names : KeysymNames) (old new : List Definition) where
             or_none true = refl
             or_none false = refl
         go false ea true eb true ec d h = absurd (
-            let at : front q ≡ p = sym (node_at_number old (front q) (front_node old q hq)) ∙ ap (node old) (eqb-true (number_of old (front q)) i eb ∙ sym e) ∙ node_at_number old p hp in
+            let at : without_last q ≡ p = sym (node_at_number old (without_last q) (prefix_node old q hq)) ∙ ap (node old) (eqb-true (number_of old (without_last q)) i eb ∙ sym e) ∙ node_at_number old p hp in
             let is : q ≡ p ++ k ∷ [] = pushed q ea ∙ ap (λ y. y ++ last_key q ∷ []) at ∙ ap (λ y. p ++ y ∷ []) (eqb-true (last_key q) k ec) in
             let clash : true ≡ false = sym (same_from q (p ++ k ∷ []) is) ∙ n in cc)
 
     done_here : (p : List ℕ) (i : ℕ) (ks : List ℕ) (k : ℕ) → number_of old p ≡ i → is_done old i (ks ++ k ∷ []) (p ++ k ∷ []) ≡ true
     done_here p i ks k e =
-        or_right (is_empty (p ++ k ∷ [])) (nat_lt (number_of old (front (p ++ k ∷ []))) i || (number_of old (front (p ++ k ∷ [])) == i && has_key (ks ++ k ∷ []) (last_key (p ++ k ∷ []))))
-        (or_right (nat_lt (number_of old (front (p ++ k ∷ []))) i) (number_of old (front (p ++ k ∷ [])) == i && has_key (ks ++ k ∷ []) (last_key (p ++ k ∷ [])))
-        (ap (λ b. b && has_key (ks ++ k ∷ []) (last_key (p ++ k ∷ []))) (eq-eqb (number_of old (front (p ++ k ∷ []))) i (ap (number_of old) (front_push p k) ∙ e))
+        or_right (is_empty (p ++ k ∷ [])) (nat_lt (number_of old (without_last (p ++ k ∷ []))) i || (number_of old (without_last (p ++ k ∷ [])) == i && has_key (ks ++ k ∷ []) (last_key (p ++ k ∷ []))))
+        (or_right (nat_lt (number_of old (without_last (p ++ k ∷ []))) i) (number_of old (without_last (p ++ k ∷ [])) == i && has_key (ks ++ k ∷ []) (last_key (p ++ k ∷ [])))
+        (ap (λ b. b && has_key (ks ++ k ∷ []) (last_key (p ++ k ∷ []))) (eq-eqb (number_of old (without_last (p ++ k ∷ []))) i (ap (number_of old) (prefix_push p k) ∙ e))
         ∙ ap (has_key (ks ++ k ∷ [])) (last_push p k) ∙ one_key ks k k ∙ or_right (has_key ks k) (k == k || false) (or_left (k == k) false (eq-eqb k k refl))))
 
     -- nothing is written where the tables differ at the edge, or where it leads to no node
@@ -147,7 +147,7 @@ module _ (names : KeysymNames) (old new : List Definition) where
     kept_edge p i ks k hp e none = on_nodes old (entry i ks) (entry i (ks ++ k ∷ [])) at
       where
         no_stand : (q : List ℕ) → agrees names old new q ≡ false → (b : Bool) → cond b (stand names old new q) None ≡ None
-        no_stand q h true = ap (λ b. cond b (Some (record { new_node = record { 0 = number_of new (pending new q) }; parent = record { 0 = number_of old (front q) }; keysym = last_key q })) None) h
+        no_stand q h true = ap (λ b. cond b (Some (record { new_node = record { 0 = number_of new (pending new q) }; parent = record { 0 = number_of old (without_last q) }; keysym = last_key q })) None) h
         no_stand q h false = refl
 
         at : (q : List ℕ) → is_node old q ≡ true → entry i ks q ≡ entry i (ks ++ k ∷ []) q
@@ -169,15 +169,15 @@ module _ (names : KeysymNames) (old new : List Definition) where
         clear : agrees names old new (p ++ k ∷ []) ≡ true
         clear = agrees_push p k hp ∙ ap (λ b. b && not (differs_at names old new p k)) agree ∙ ap not same_step
 
-        is_s : Some (record { new_node = record { 0 = number_of new (pending new (p ++ k ∷ [])) }; parent = record { 0 = number_of old (front (p ++ k ∷ [])) }; keysym = last_key (p ++ k ∷ []) }) ≡ Some s
+        is_s : Some (record { new_node = record { 0 = number_of new (pending new (p ++ k ∷ [])) }; parent = record { 0 = number_of old (without_last (p ++ k ∷ [])) }; keysym = last_key (p ++ k ∷ []) }) ≡ Some s
         is_s i1 = Some (record {
           new_node = record { 0 = (ap (number_of new) (pending_from-append new [] p (k ∷ [])) ∙ sym en) i1 };
-          parent = record { 0 = (ap (number_of old) (front_push p k) ∙ e ∙ sym ep) i1 };
+          parent = record { 0 = (ap (number_of old) (prefix_push p k) ∙ e ∙ sym ep) i1 };
           keysym = (last_push p k ∙ sym ek) i1;
         })
 
         here : entry i (ks ++ k ∷ []) (p ++ k ∷ []) ≡ Some s
         here =
             ap (λ b. cond b (stand names old new (p ++ k ∷ [])) None) (done_here p i ks k e)
-            ∙ ap (λ b. cond b (Some (record { new_node = record { 0 = number_of new (pending new (p ++ k ∷ [])) }; parent = record { 0 = number_of old (front (p ++ k ∷ [])) }; keysym = last_key (p ++ k ∷ []) })) None) clear
+            ∙ ap (λ b. cond b (Some (record { new_node = record { 0 = number_of new (pending new (p ++ k ∷ [])) }; parent = record { 0 = number_of old (without_last (p ++ k ∷ [])) }; keysym = last_key (p ++ k ∷ []) })) None) clear
             ∙ is_s

@@ -19,11 +19,11 @@ use Rattle.compose_walk.specs.Steps.{text_bytes, IsStep, difference_of}
 use Rattle.compose_walk.specs.declared.evidence.Kind.{Kind as Found_kind}
 use Rattle.compose_walk.specs.declared.step.KeyStep.{KeyStep}
 use Rattle.compose_walk.specs.Pass.{agrees, differs_at, difference_at, evidence}
-use Rattle.compose_walk.specs.Stands.{front, last_key, stand, IsPlace, evidence_found}
+use Rattle.compose_walk.specs.Stands.{without_last, last_key, stand, IsPlace, evidence_found}
 use Rattle.compose_walk.specs.declared.pass.Stand.{Stand}
 use Rattle.compose_walk.specs.declared.pass.Found.{Found}
-use Rattle.compose_walk.proofs.Places.{number_at_node, node_is_node, not_root, parent_before}
-use Rattle.compose_walk.proofs.Standing.{differ_alike, differs_alike, agrees_push, pushed, front_node}
+use Rattle.compose_walk.proofs.NodeNumbers.{number_at_node, node_is_node, not_root, parent_before}
+use Rattle.compose_walk.proofs.Standing.{differ_alike, differs_alike, agrees_push, pushed, prefix_node}
 use Rattle.compose_walk.proofs.Nodes.{Standing, standing}
 
 -- ---- a node has at most 31 keys
@@ -53,7 +53,7 @@ module _ (names : KeysymNames) (old new : List Definition) (sound : is_table old
       r ∙ ap (λ ys. get_or ys i o) e ∙ get_or-map (stand names old new) (nodes old) i [] o in_range
 
   pub is_there : is_some (stand names old new (node old i)) ≡ true
-  is_there = ap (λ b. is_some (cond {A = Option Stand} b (Some (record { new_node = record { 0 = number_of new (pending new (node old i)) }; parent = record { 0 = number_of old (front (node old i)) }; keysym = last_key (node old i) })) None)) agree
+  is_there = ap (λ b. is_some (cond {A = Option Stand} b (Some (record { new_node = record { 0 = number_of new (pending new (node old i)) }; parent = record { 0 = number_of old (without_last (node old i)) }; keysym = last_key (node old i) })) None)) agree
 
   module _ (s : Stand) (at : stand names old new (node old i) ≡ Some s) (other : i == 0 ≡ false) where
     here : is_node old (node old i) ≡ true
@@ -65,14 +65,14 @@ module _ (names : KeysymNames) (old new : List Definition) (sound : is_table old
     said : Standing names old new sound (node old i) s
     said = standing names old new sound (node old i) s at
 
-    before_is : node old s.parent.0 ≡ front (node old i)
-    before_is = ap (node old) said.parent ∙ node_at_number old (front (node old i)) (front_node old (node old i) here)
+    before_is : node old s.parent.0 ≡ without_last (node old i)
+    before_is = ap (node old) said.parent ∙ node_at_number old (without_last (node old i)) (prefix_node old (node old i) here)
 
     pub parent_below : s.parent.0 < i
     parent_below =
-        let less = parent_before old (front (node old i)) (last_key (node old i)) (front_node old (node old i) here) (ap (is_node old) (sym (pushed (node old i) some_key)) ∙ here) in
-        let at_i : number_of old (front (node old i) ++ last_key (node old i) ∷ []) ≡ i = ap (number_of old) (sym (pushed (node old i) some_key)) ∙ number_at_node old i in_range in
-        let from : s.parent.0 ≡ number_of old (front (node old i)) = said.parent in omega arith
+        let less = parent_before old (without_last (node old i)) (last_key (node old i)) (prefix_node old (node old i) here) (ap (is_node old) (sym (pushed (node old i) some_key)) ∙ here) in
+        let at_i : number_of old (without_last (node old i) ++ last_key (node old i) ∷ []) ≡ i = ap (number_of old) (sym (pushed (node old i) some_key)) ∙ number_at_node old i in_range in
+        let from : s.parent.0 ≡ number_of old (without_last (node old i)) = said.parent in omega arith
 
     pub parent_in_range : s.parent.0 < length (nodes old)
     parent_in_range = let less = parent_below in omega arith
@@ -80,12 +80,12 @@ module _ (names : KeysymNames) (old new : List Definition) (sound : is_table old
     pub parent_agrees : agrees names old new (node old s.parent.0) ≡ true
     parent_agrees =
         ap (agrees names old new) before_is
-        ∙ (and_parts (agrees names old new (front (node old i))) (not (differs_at names old new (front (node old i)) (last_key (node old i))))
-        (sym (agrees_push names old new sound (front (node old i)) (last_key (node old i)) (front_node old (node old i) here)) ∙ ap (agrees names old new) (sym (pushed (node old i) some_key)) ∙ agree)).0
+        ∙ (and_parts (agrees names old new (without_last (node old i))) (not (differs_at names old new (without_last (node old i)) (last_key (node old i))))
+        (sym (agrees_push names old new sound (without_last (node old i)) (last_key (node old i)) (prefix_node old (node old i) here)) ∙ ap (agrees names old new) (sym (pushed (node old i) some_key)) ∙ agree)).0
 
     pub one_back : (whole keys : List ℕ) → whole ≡ node old i ++ keys → whole ≡ node old s.parent.0 ++ s.keysym ∷ keys
     one_back whole keys e =
-        e ∙ ap (λ p. p ++ keys) (pushed (node old i) some_key) ∙ append_assoc (front (node old i)) (last_key (node old i) ∷ []) keys
+        e ∙ ap (λ p. p ++ keys) (pushed (node old i) some_key) ∙ append_assoc (without_last (node old i)) (last_key (node old i) ∷ []) keys
         ∙ ap (λ p. p ++ last_key (node old i) ∷ keys) (sym before_is) ∙ ap (λ k. node old s.parent.0 ++ k ∷ keys) (sym said.keysym)
 
     -- there is room for one key more

@@ -12,10 +12,10 @@ use Rattle.compose_walk.specs.declared.pass.Stand.{Stand}
 use Rattle.compose_walk.specs.declared.pass.Found.{Found}
 
 -- all keys but the last one, and the last one
-abbrev pub front : List ℕ → List ℕ
-front [] = []
-front (k ∷ []) = []
-front (k ∷ j ∷ p) = k ∷ front (j ∷ p)
+abbrev pub without_last : List ℕ → List ℕ
+without_last [] = []
+without_last (k ∷ []) = []
+without_last (k ∷ j ∷ p) = k ∷ without_last (j ∷ p)
 
 abbrev pub last_key : List ℕ → ℕ
 last_key [] = 0
@@ -27,13 +27,13 @@ abbrev pub stand : KeysymNames → List Definition → List Definition → List 
 stand names old new p =
     if agrees names old new p then Some (record {
       new_node = record { 0 = number_of new (pending new p) };
-      parent = record { 0 = number_of old (front p) };
+      parent = record { 0 = number_of old (without_last p) };
       keysym = last_key p;
     }) else None
 
 -- the edge that leads to p was looked at: it is one of a node before the one with this number, or one of these keys at that node
 abbrev pub is_done : List Definition → ℕ → List ℕ → List ℕ → Bool
-is_done old i ks p = is_empty p || (nat_lt (number_of old (front p)) i || (number_of old (front p) == i && has_key ks (last_key p)))
+is_done old i ks p = is_empty p || (nat_lt (number_of old (without_last p)) i || (number_of old (without_last p) == i && has_key ks (last_key p)))
 
 abbrev pub stands_at : KeysymNames → List Definition → List Definition → ℕ → List ℕ → List (Option Stand)
 stands_at names old new i ks = map (λ p. if is_done old i ks p then stand names old new p else None) (nodes old)

@@ -3,7 +3,7 @@ use Rattle.std.specs.Prelude.{◌≡◌, ℕ, List, [], ◌∷◌, ◌++◌}
 use Rattle.compose_wire.specs.Messages.{Request, Fits}
 use Rattle.compose_wire.specs.Frames.{frame}
 
--- what is done with a feeder: a piece is put behind the held bytes, or a request is given out from their front
+-- what is done with a feeder: a piece is put behind the held bytes, or a request is given out from their beginning
 pub data Turn : Type 0 where
   takes : List ℕ → Turn
   gives : Request → Turn

@@ -5,7 +5,7 @@ ghost use Rattle.compose_wire.specs.Messages.{Request, Fits, AreBytes};
 ghost use Rattle.compose_wire.specs.Cut.{Turn, Leads, stream_of, requests_of};
 ghost use Rattle.compose_wire.specs.Frames.{frame, frames, Fault, fault_at, size_said, BeginsWithFrame, IsBegun, max_frame};
 
-/// No frame begins another one, so a stream is these requests and no others.
+/// No frame is a prefix of another one, so a stream is these requests and no others.
 pub fn law_one_frame()
     ensures { (q r : Request) (x y : List ℕ) → Fits q → Fits r → frame q ++ x ≡ frame r ++ y → (q ≡ r) × (x ≡ y) }
 {}

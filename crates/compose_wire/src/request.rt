@@ -68,7 +68,7 @@ pub enum Body {
     Reset,
     /// Closes the session.
     Close,
-    /// Loads a table that refuses a sequence which begins another one.
+    /// Loads a table that refuses a sequence which is a prefix of another one.
     Load(Payload),
     /// Loads a table in which the longer of two such sequences counts.
     LoadLongest(Payload),

@@ -7,7 +7,7 @@ use Rattle.std.specs.List.{list_any}
 use Rattle.std.specs.Option.{option_or, option_map_or}
 use Rattle.keysym_core.specs.Keysym.{max_keysym}
 use Rattle.keysym_core.specs.Names.{NameRow, CharacterRow, first_character}
-use Rattle.keysym_core.specs.Given.{is_fixed, is_entry, gives, IsEachFirst, AreKeysyms, counts, HasCountingRows, with_character}
+use Rattle.keysym_core.specs.GivenCharacters.{is_fixed, is_entry, gives, IsEachFirst, AreKeysyms, counts, HasCountingRows, with_character}
 use Rattle.keysym_core.specs.Table.{character_rows, IsTable}
 use Rattle.keysym_core.proofs.Rows.{pushed, none_is_not_some, first_character-character_rows}
 use Rattle.std.proofs.lemmas.List.{map-append}
@@ -78,10 +78,10 @@ keysyms-push rows row fits all = λ c k there.
     by c k false before false e there = absurd (true≢false (sym there))
 
 -- a table with one more character is a table
-pub table_with_character : {places : List (ℕ × ℕ)} {names : List NameRow} {characters after : List CharacterRow} (row : CharacterRow)
-    → IsTable places names characters → first_character characters row.value ≡ None → row.value ≤ max_keysym → after ≡ characters ++ row ∷ [] → IsTable places names after
-table_with_character {places} {names} {characters} {after} row table new fits e = record {
-  first_places = table.first_places;
+pub table_with_character : {indexes : List (ℕ × ℕ)} {names : List NameRow} {characters after : List CharacterRow} (row : CharacterRow)
+    → IsTable indexes names characters → first_character characters row.value ≡ None → row.value ≤ max_keysym → after ≡ characters ++ row ∷ [] → IsTable indexes names after
+table_with_character {indexes} {names} {characters} {after} row table new fits e = record {
+  first_indexes = table.first_indexes;
   agree = table.agree;
   first_names = table.first_names;
   each_first = subst IsEachFirst (sym e) (each_first-push characters row new table.each_first);

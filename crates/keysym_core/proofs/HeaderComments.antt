@@ -40,13 +40,13 @@ behind_blanks text blanks rest e all stops = ap noted_character e ∙ ap (λ t. 
 
 noted_read : (text : List ℕ) (number : ℕ) → NotesNumber text number → noted_character text ≡ graphic_character number
 noted_read text number n =
-    let front = codes "U+" ++ (n.digits ++ n.others) in
-    let e : text ≡ n.blanks ++ (n.opening ++ front) = n.bytes ∙ in_order n.blanks n.opening (codes "U+") n.digits n.others in
+    let prefix = codes "U+" ++ (n.digits ++ n.others) in
+    let e : text ≡ n.blanks ++ (n.opening ++ prefix) = n.bytes ∙ in_order n.blanks n.opening (codes "U+") n.digits n.others in
     let stops : begins is_hexadecimal_digit n.others ≡ false = not-true (begins is_hexadecimal_digit n.others) n.are_all_digits in
     let read = number_read n.digits n.others n.are_digits stops ∙ ap graphic_character n.is_number in
     elim n.is_opening [
-      | inl o ↦ behind_blanks text n.blanks front (e ∙ ap (λ t. n.blanks ++ (t ++ front)) o) n.are_blanks refl ∙ read
-      | inr o ↦ behind_blanks text n.blanks (codes "(" ++ front) (e ∙ ap (λ t. n.blanks ++ (t ++ front)) o) n.are_blanks refl ∙ read
+      | inl o ↦ behind_blanks text n.blanks prefix (e ∙ ap (λ t. n.blanks ++ (t ++ prefix)) o) n.are_blanks refl ∙ read
+      | inr o ↦ behind_blanks text n.blanks (codes "(" ++ prefix) (e ∙ ap (λ t. n.blanks ++ (t ++ prefix)) o) n.are_blanks refl ∙ read
     ]
 
 -- ---- what is read is noted

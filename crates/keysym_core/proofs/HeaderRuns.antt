@@ -1,4 +1,4 @@
--- Runs of bytes at the front: what is skipped, and what is taken.
+-- Runs of bytes at the beginning: what is skipped, and what is taken.
 use Rattle.std.proofs.Common.{◌≡◌, ℕ, suc, ◌+◌, List, [], ◌∷◌, ◌++◌, length, take, drop, Bool, true, false, cond, not, Option, Some, None, refl, sym, ◌∙◌, ap, one-add, take-append-drop}
 use Rattle.std.specs.List.{list_all}
 use Rattle.std.specs.Cmp.Lexicographic.{bytes_decides}
@@ -9,20 +9,20 @@ use Rattle.compose_text.specs.Bytes.{begins}
 
 -- ---- bytes that pass, before one that doesn't
 
-pub run_length-all : (p : ℕ → Bool) (front rest : List ℕ) → list_all p front ≡ true → begins p rest ≡ false → run_length p (front ++ rest) ≡ length front
+pub run_length-all : (p : ℕ → Bool) (prefix rest : List ℕ) → list_all p prefix ≡ true → begins p rest ≡ false → run_length p (prefix ++ rest) ≡ length prefix
 run_length-all p [] [] all stops = refl
 run_length-all p [] (b ∷ rest) all stops = ap (λ t. cond (not (not t)) (1 + run_length p rest) 0) stops
-run_length-all p (b ∷ front) rest all stops =
-    let parts = and_parts (p b) (list_all p front) all in
-    ap (λ t. cond (not (not t)) (1 + run_length p (front ++ rest)) 0) parts.0 ∙ ap (λ n. 1 + n) (run_length-all p front rest parts.1 stops) ∙ one-add (length front)
+run_length-all p (b ∷ prefix) rest all stops =
+    let parts = and_parts (p b) (list_all p prefix) all in
+    ap (λ t. cond (not (not t)) (1 + run_length p (prefix ++ rest)) 0) parts.0 ∙ ap (λ n. 1 + n) (run_length-all p prefix rest parts.1 stops) ∙ one-add (length prefix)
 
-pub run_all : (p : ℕ → Bool) (front rest : List ℕ) → list_all p front ≡ true → begins p rest ≡ false → run p (front ++ rest) ≡ front
-run_all p front rest all stops = ap (λ n. take n (front ++ rest)) (run_length-all p front rest all stops) ∙ take-append_seam front rest
+pub run_all : (p : ℕ → Bool) (prefix rest : List ℕ) → list_all p prefix ≡ true → begins p rest ≡ false → run p (prefix ++ rest) ≡ prefix
+run_all p prefix rest all stops = ap (λ n. take n (prefix ++ rest)) (run_length-all p prefix rest all stops) ∙ take-append_seam prefix rest
 
-pub behind_all : (p : ℕ → Bool) (front rest : List ℕ) → list_all p front ≡ true → begins p rest ≡ false → behind_run p (front ++ rest) ≡ rest
-behind_all p front rest all stops = ap (λ n. drop n (front ++ rest)) (run_length-all p front rest all stops) ∙ drop-append_seam front rest
+pub behind_all : (p : ℕ → Bool) (prefix rest : List ℕ) → list_all p prefix ≡ true → begins p rest ≡ false → behind_run p (prefix ++ rest) ≡ rest
+behind_all p prefix rest all stops = ap (λ n. drop n (prefix ++ rest)) (run_length-all p prefix rest all stops) ∙ drop-append_seam prefix rest
 
--- ---- the run at the front of any bytes
+-- ---- the run at the beginning of any bytes
 
 pub parts_of : (p : ℕ → Bool) (bytes : List ℕ) → bytes ≡ run p bytes ++ behind_run p bytes
 parts_of p bytes = sym (take-append-drop (run_length p bytes) bytes)

@@ -6,35 +6,35 @@ use Rattle.std.specs.List.{list_any}
 use Rattle.std.specs.List.Sorted.{IsNonDecreasingBy, IsPartitionPoint}
 use Rattle.keysym_core.specs.Keysym.{max_keysym}
 use Rattle.keysym_core.specs.Names.{CharacterRow}
-use Rattle.keysym_core.specs.Given.{rank, is_entry}
+use Rattle.keysym_core.specs.GivenCharacters.{rank, is_entry}
 use Rattle.keysym_core.specs.Next.{IsLeastFrom}
 
--- the place of an entry of k and c
+-- the index of an entry of k and c
 pub record EntryAt (c k : ℕ) (entries : List CharacterRow) (d : CharacterRow) : Type 0 where
-  pub place : ℕ
-  pub inside : place < length entries
-  pub character : (get_or entries place d).character ≡ c
-  pub value : (get_or entries place d).value ≡ k
+  pub index : ℕ
+  pub inside : index < length entries
+  pub character : (get_or entries index d).character ≡ c
+  pub value : (get_or entries index d).value ≡ k
 
--- an entry that some test finds has a place
-pub entry_place : (c k : ℕ) (entries : List CharacterRow) (d : CharacterRow) → list_any (is_entry c k) entries ≡ true → EntryAt c k entries d
-entry_place c k [] d h = absurd (true≢false (sym h))
-entry_place c k (row ∷ entries) d h = by (is_entry c k row) refl h (entry_place c k entries d)
+-- an entry that some test finds has an index
+pub entry_index : (c k : ℕ) (entries : List CharacterRow) (d : CharacterRow) → list_any (is_entry c k) entries ≡ true → EntryAt c k entries d
+entry_index c k [] d h = absurd (true≢false (sym h))
+entry_index c k (row ∷ entries) d h = by (is_entry c k row) refl h (entry_index c k entries d)
   where
     by : (b : Bool) → is_entry c k row ≡ b → (b || list_any (is_entry c k) entries) ≡ true → (list_any (is_entry c k) entries ≡ true → EntryAt c k entries d) → EntryAt c k (row ∷ entries) d
     by true e h others =
         let parts = and_parts (row.character == c) (row.value == k) e in
-        record { place = 0; inside = omega arith; character = eqb-true row.character c parts.0; value = eqb-true row.value k parts.1 }
+        record { index = 0; inside = omega arith; character = eqb-true row.character c parts.0; value = eqb-true row.value k parts.1 }
     by false e h others =
         let rest = others h in
-        record { place = suc rest.place; inside = omega (arith, rest.inside); character = rest.character; value = rest.value }
+        record { index = suc rest.index; inside = omega (arith, rest.inside); character = rest.character; value = rest.value }
 
 -- a test that the second part passes
 or-true : (a b : Bool) → b ≡ true → (a || b) ≡ true
 or-true true b h = refl
 or-true false b h = h
 
--- an entry at a place is found
+-- an entry at an index is found
 pub entry_found : (entries : List CharacterRow) (i : ℕ) (d : CharacterRow) → i < length entries → list_any (is_entry (get_or entries i d).character (get_or entries i d).value) entries ≡ true
 entry_found [] i d h = absurd (omega (arith, h))
 entry_found (row ∷ entries) zero d h =
@@ -42,41 +42,41 @@ entry_found (row ∷ entries) zero d h =
     ap (λ b. b || list_any (is_entry row.character row.value) entries) own
 entry_found (row ∷ entries) (suc i) d h = or-true (is_entry (get_or entries i d).character (get_or entries i d).value row) _ (entry_found entries i d (omega (arith, h)))
 
-module _ (entries : List CharacterRow) (d : CharacterRow) (c low place : ℕ)
+module _ (entries : List CharacterRow) (d : CharacterRow) (c low index : ℕ)
     (sorted : IsNonDecreasingBy rank entries)
     (keysyms : (x k : ℕ) → list_any (is_entry x k) entries ≡ true → k ≤ max_keysym)
-    (split : IsPartitionPoint (λ (e : CharacterRow). ltb (rank e) (c * 0x1_0000_0000 + low) ≡ true) (λ (e : CharacterRow). ltb (rank e) (c * 0x1_0000_0000 + low) ≡ false) entries place) where
-  -- an entry from `low` on follows the place
-  pub behind_place : (k : ℕ) → low ≤ k → (e : EntryAt c k entries d) → place ≤ e.place
-  behind_place k more e = ⊎_elim
-      (λ before. absurd (let low_rank = ltb-true (rank (get_or entries e.place d)) (c * 0x1_0000_0000 + low) (split.0 e.place d (omega arith) before) in omega (arith, low_rank, e.character, e.value, more)))
+    (split : IsPartitionPoint (λ (e : CharacterRow). ltb (rank e) (c * 0x1_0000_0000 + low) ≡ true) (λ (e : CharacterRow). ltb (rank e) (c * 0x1_0000_0000 + low) ≡ false) entries index) where
+  -- an entry from `low` on follows the index
+  pub behind_index : (k : ℕ) → low ≤ k → (e : EntryAt c k entries d) → index ≤ e.index
+  behind_index k more e = ⊎_elim
+      (λ before. absurd (let low_rank = ltb-true (rank (get_or entries e.index d)) (c * 0x1_0000_0000 + low) (split.0 e.index d (omega arith) before) in omega (arith, low_rank, e.character, e.value, more)))
       (λ after. after)
-      (cases_lt e.place place)
+      (cases_lt e.index index)
 
   -- behind all entries there is none
-  pub none_behind : length entries ≤ place → IsLeastFrom low (λ k. list_any (is_entry c k) entries ≡ true) None
+  pub none_behind : length entries ≤ index → IsLeastFrom low (λ k. list_any (is_entry c k) entries ≡ true) None
   none_behind past = λ k more there.
-      let e = entry_place c k entries d there in
-      omega (arith, behind_place k more e, e.inside)
+      let e = entry_index c k entries d there in
+      omega (arith, behind_index k more e, e.inside)
 
   -- behind an entry of another character there is none
-  pub none_of_another : place < length entries → (get_or entries place d).character ≢ c → IsLeastFrom low (λ k. list_any (is_entry c k) entries ≡ true) None
+  pub none_of_another : index < length entries → (get_or entries index d).character ≢ c → IsLeastFrom low (λ k. list_any (is_entry c k) entries ≡ true) None
   none_of_another inside other = λ k more there.
-      let e = entry_place c k entries d there in
-      let later = sorted place e.place d (behind_place k more e) e.inside in
-      let from = ltb-false (rank (get_or entries place d)) (c * 0x1_0000_0000 + low) (split.1 place d (omega arith) inside) in
-      let small = keysyms (get_or entries place d).character (get_or entries place d).value (entry_found entries place d inside) in
+      let e = entry_index c k entries d there in
+      let later = sorted index e.index d (behind_index k more e) e.inside in
+      let from = ltb-false (rank (get_or entries index d)) (c * 0x1_0000_0000 + low) (split.1 index d (omega arith) inside) in
+      let small = keysyms (get_or entries index d).character (get_or entries index d).value (entry_found entries index d inside) in
       let keysym = keysyms c k there in
       omega (arith, later, from, small, keysym, e.character, e.value, other)
 
-  -- the entry at the place is the least
-  pub least_at_place : place < length entries → (get_or entries place d).character ≡ c → IsLeastFrom low (λ k. list_any (is_entry c k) entries ≡ true) (Some (get_or entries place d).value)
-  least_at_place inside same =
-      let from = ltb-false (rank (get_or entries place d)) (c * 0x1_0000_0000 + low) (split.1 place d (omega arith) inside) in (
+  -- the entry at the index is the least
+  pub least_at_index : index < length entries → (get_or entries index d).character ≡ c → IsLeastFrom low (λ k. list_any (is_entry c k) entries ≡ true) (Some (get_or entries index d).value)
+  least_at_index inside same =
+      let from = ltb-false (rank (get_or entries index d)) (c * 0x1_0000_0000 + low) (split.1 index d (omega arith) inside) in (
         omega (arith, from, same),
-        ap (λ x. list_any (is_entry x (get_or entries place d).value) entries) (sym same) ∙ entry_found entries place d inside,
+        ap (λ x. list_any (is_entry x (get_or entries index d).value) entries) (sym same) ∙ entry_found entries index d inside,
         λ j more there.
-            let e = entry_place c j entries d there in
-            let later = sorted place e.place d (behind_place j more e) e.inside in
+            let e = entry_index c j entries d there in
+            let later = sorted index e.index d (behind_index j more e) e.inside in
             omega (arith, later, same, e.character, e.value),
       )

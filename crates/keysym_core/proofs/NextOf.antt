@@ -5,7 +5,7 @@ use Rattle.std.proofs.lemmas.Bool.Decides.{nat_tests}
 use Rattle.std.specs.Option.{option_map_or}
 use Rattle.compose_text.specs.Numbers.{is_between}
 use Rattle.keysym_core.specs.Names.{KeysymNames, character_of, first_character, keysym_of_character, is_latin1, is_unicode_keysym, is_surrogate, is_keypad_digit, is_control}
-use Rattle.keysym_core.specs.Given.{is_fixed, gives, keypad_keysym}
+use Rattle.keysym_core.specs.GivenCharacters.{is_fixed, gives, keypad_keysym}
 use Rattle.keysym_core.specs.Next.{IsLeastFrom, lesser}
 use Rattle.keysym_core.proofs.Rows.{none_is_not_some}
 use Rattle.keysym_core.proofs.Forms.{keysym-unicode, not-true}

@@ -22,7 +22,7 @@ use Rattle.std.proofs.Common.{slice_get, suc, ◌==◌}
 use Rattle.std.proofs.lemmas.Slice.Eq.{bytes_eq-Decides}
 use Rattle.std.proofs.lemmas.Option.{slice_get-map}
 use Rattle.std.proofs.lemmas.Bool.{and_parts}
-use Rattle.keysym_core.specs.Table.{FirstNamesLookUp, name_rows, character_rows, place_from, ShowsFirstPlaces, agrees_with_form, is_addable, are_addable, IsTable}
+use Rattle.keysym_core.specs.Table.{FirstNamesLookUp, name_rows, character_rows, index_from, ShowsFirstIndexes, agrees_with_form, is_addable, are_addable, IsTable}
 
 -- the map from names finds what the rows say
 pub row_value-name_rows : (name : List ℕ) (entries : List (String Global × ℕ)) → lookup (λ k. bytes_eq name (string_bytes k)) entries ≡ row_value (name_rows entries) name
@@ -39,13 +39,13 @@ pub pushed : {X : Type 0} (b : Bool) (x : X) (rest more last : Option X) → mor
 pushed true x rest more last e = refl
 pushed false x rest more last e = e
 
--- a row behind the others has the last place
-pub place_from-push : (k at : ℕ) (rows : List NameRow) (row : NameRow)
-    → place_from k at (rows ++ row ∷ []) ≡ option_or (place_from k at rows) (cond (nat_eq k row.value) (Some (at + length rows)) None)
-place_from-push k at [] row = ap (λ n. cond (nat_eq k row.value) (Some n) None) (omega arith)
-place_from-push k at (r ∷ rows) row =
-    pushed (nat_eq k r.value) at (place_from k (at + 1) rows) (place_from k (at + 1) (rows ++ row ∷ [])) _
-    (place_from-push k (at + 1) rows row ∙ ap (λ n. option_or (place_from k (at + 1) rows) (cond (nat_eq k row.value) (Some n) None)) (omega arith))
+-- a row behind the others has the last index
+pub index_from-push : (k at : ℕ) (rows : List NameRow) (row : NameRow)
+    → index_from k at (rows ++ row ∷ []) ≡ option_or (index_from k at rows) (cond (nat_eq k row.value) (Some (at + length rows)) None)
+index_from-push k at [] row = ap (λ n. cond (nat_eq k row.value) (Some n) None) (omega arith)
+index_from-push k at (r ∷ rows) row =
+    pushed (nat_eq k r.value) at (index_from k (at + 1) rows) (index_from k (at + 1) (rows ++ row ∷ [])) _
+    (index_from-push k (at + 1) rows row ∙ ap (λ n. option_or (index_from k (at + 1) rows) (cond (nat_eq k row.value) (Some n) None)) (omega arith))
 
 -- a new entry behind the others is found last
 pub lookup-push : {X : Type 0} (k : ℕ) (entries : List (ℕ × X)) (v : ℕ) (x : X)
@@ -53,14 +53,14 @@ pub lookup-push : {X : Type 0} (k : ℕ) (entries : List (ℕ × X)) (v : ℕ) (
 lookup-push k [] v x = refl
 lookup-push k (e ∷ entries) v x = pushed (nat_eq k e.0) e.1 (lookup (nat_eq k) entries) (lookup (nat_eq k) (entries ++ (v, x) ∷ [])) _ (lookup-push k entries v x)
 
--- a value's first row gives it its place
-pub first_places-new : (places : List (ℕ × ℕ)) (rows : List NameRow) (row : NameRow) (n : ℕ) → n ≡ length rows
-    → ShowsFirstPlaces places rows → ShowsFirstPlaces (places ++ (row.value, n) ∷ []) (rows ++ row ∷ [])
-first_places-new places rows row n e shows = λ k.
-    lookup-push k places row.value n
+-- a value's first row gives it its index
+pub first_indexes-new : (indexes : List (ℕ × ℕ)) (rows : List NameRow) (row : NameRow) (n : ℕ) → n ≡ length rows
+    → ShowsFirstIndexes indexes rows → ShowsFirstIndexes (indexes ++ (row.value, n) ∷ []) (rows ++ row ∷ [])
+first_indexes-new indexes rows row n e shows = λ k.
+    lookup-push k indexes row.value n
     ∙ ap (λ o. option_or o (cond (nat_eq k row.value) (Some n) None)) (shows k)
-    ∙ ap (λ m. option_or (place_from k 0 rows) (cond (nat_eq k row.value) (Some m) None)) (e ∙ sym (zero-add (length rows)))
-    ∙ sym (place_from-push k 0 rows row)
+    ∙ ap (λ m. option_or (index_from k 0 rows) (cond (nat_eq k row.value) (Some m) None)) (e ∙ sym (zero-add (length rows)))
+    ∙ sym (index_from-push k 0 rows row)
 
 -- nothing is not something
 pub none_is_not_some : {X : Type 0} {x : X} → None ≡ Some x → ⊥
@@ -72,14 +72,14 @@ untaken (Some y) b p x h = refl
 untaken None false p x h = refl
 untaken None true p x h = absurd (none_is_not_some (h refl))
 
--- a value's further rows leave it its place
-pub first_places-known : (places : List (ℕ × ℕ)) (rows : List NameRow) (row : NameRow) (place : ℕ) → lookup (nat_eq row.value) places ≡ Some place
-    → ShowsFirstPlaces places rows → ShowsFirstPlaces places (rows ++ row ∷ [])
-first_places-known places rows row place known shows = λ k.
+-- a value's further rows leave it its index
+pub first_indexes-known : (indexes : List (ℕ × ℕ)) (rows : List NameRow) (row : NameRow) (position : ℕ) → lookup (nat_eq row.value) indexes ≡ Some position
+    → ShowsFirstIndexes indexes rows → ShowsFirstIndexes indexes (rows ++ row ∷ [])
+first_indexes-known indexes rows row position known shows = λ k.
     shows k
-    ∙ sym (untaken (place_from k 0 rows) (nat_eq k row.value) place (0 + length rows)
-    (λ same. ap (λ v. place_from v 0 rows) (eqb-true k row.value same) ∙ sym (shows row.value) ∙ known))
-    ∙ sym (place_from-push k 0 rows row)
+    ∙ sym (untaken (index_from k 0 rows) (nat_eq k row.value) position (0 + length rows)
+    (λ same. ap (λ v. index_from v 0 rows) (eqb-true k row.value same) ∙ sym (shows row.value) ∙ known))
+    ∙ sym (index_from-push k 0 rows row)
 
 -- what holds of all rows holds of all with one more of which it holds
 pub list_all-push : {X : Type 0} (p : X → Bool) (xs : List X) (x : X) → list_all p xs ≡ true → p x ≡ true → list_all p (xs ++ x ∷ []) ≡ true
@@ -139,10 +139,10 @@ pub same_names : {ns ms : List NameRow} {cs ds : List CharacterRow} → ns ≡ m
 same_names {ns} {ms} {cs} {ds} e f = ap (λ n. record { names = n; characters = cs }) e ∙ ap (λ x. record { names = ms; characters = x }) f
 
 -- what a map's `get` found stands in it
-pub known_place : (k : ℕ) (places : List (ℕ × ℕ)) (found : Option (Bor ℕ)) → option_copied found ≡ lookup (nat_eq k) places → is_some found ≡ true
-    → (place : ℕ) × (lookup (nat_eq k) places ≡ Some place)
-known_place k places None e h = absurd (true≢false (sym h))
-known_place k places (Some place) e h = (place.now, sym e)
+pub known_index : (k : ℕ) (indexes : List (ℕ × ℕ)) (found : Option (Bor ℕ)) → option_copied found ≡ lookup (nat_eq k) indexes → is_some found ≡ true
+    → (position : ℕ) × (lookup (nat_eq k) indexes ≡ Some position)
+known_index k indexes None e h = absurd (true≢false (sym h))
+known_index k indexes (Some position) e h = (position.now, sym e)
 
 -- as many rows as entries
 pub length-name_rows : (entries : List (String Global × ℕ)) → length (name_rows entries) ≡ length entries
@@ -152,7 +152,7 @@ length-name_rows entries = length-map entries (λ e. record { name = string_byte
 abbrev pub listed_row : Bor (List ℕ) × ℕ → NameRow
 listed_row r = record { name = r.0.now; value = r.1 }
 
--- the rows from a place on, and the one there
+-- the rows from an index on, and the one there
 pub rows_from : (rows : List (Bor (List ℕ) × ℕ)) (i : ℕ) (d : Bor (List ℕ) × ℕ) → i < length rows
     → map listed_row (drop i rows) ≡ listed_row (get_or rows i d) ∷ map listed_row (drop (i + 1) rows)
 rows_from rows i d h = ap (map listed_row) (drop-cons rows i d h) ∙ ap (λ n. listed_row (get_or rows i d) ∷ map listed_row (drop n rows)) (sym (add-one i))
@@ -214,45 +214,45 @@ first_names-push rows row new looks = λ k n e. row_value-push n rows row ∙ by
         let name : m ≡ n = cc in
         ap (λ o. option_or o (cond (bytes_eq n row.name) (Some row.value) None)) (looks k n (f ∙ ap Some name))
 
--- the row at the place of a value's first row has that value's first name
-pub record NamedAt (k at place : ℕ) (rows : List NameRow) : Type 0 where
+-- the row at the index of a value's first row has that value's first name
+pub record NamedAt (k at position : ℕ) (rows : List NameRow) : Type 0 where
   pub index : ℕ
   pub row : NameRow
-  pub there : place ≡ at + index
+  pub there : position ≡ at + index
   pub found : slice_get rows index ≡ Some row
   pub first : first_name rows k ≡ Some row.name
 
-pub named_place : (k at : ℕ) (rows : List NameRow) (place : ℕ) → place_from k at rows ≡ Some place → NamedAt k at place rows
-named_place k at [] place e = absurd (none_is_not_some e)
-named_place k at (row ∷ rows) place e = by (nat_eq k row.value) refl e (named_place k (at + 1) rows place)
+pub named_index : (k at : ℕ) (rows : List NameRow) (position : ℕ) → index_from k at rows ≡ Some position → NamedAt k at position rows
+named_index k at [] position e = absurd (none_is_not_some e)
+named_index k at (row ∷ rows) position e = by (nat_eq k row.value) refl e (named_index k (at + 1) rows position)
   where
-    by : (b : Bool) → nat_eq k row.value ≡ b → cond b (Some at) (place_from k (at + 1) rows) ≡ Some place → (place_from k (at + 1) rows ≡ Some place → NamedAt k (at + 1) place rows) → NamedAt k at place (row ∷ rows)
+    by : (b : Bool) → nat_eq k row.value ≡ b → cond b (Some at) (index_from k (at + 1) rows) ≡ Some position → (index_from k (at + 1) rows ≡ Some position → NamedAt k (at + 1) position rows) → NamedAt k at position (row ∷ rows)
     by true same e others =
-        let here : at ≡ place = cc in
+        let here : at ≡ position = cc in
         record { index = 0; row = row; there = omega (arith, here); found = refl; first = ap (λ b. cond b (Some row.name) (first_name rows k)) same }
     by false same e others =
         let rest = others e in
         record { index = suc rest.index; row = rest.row; there = omega (arith, rest.there); found = rest.found; first = ap (λ b. cond b (Some row.name) (first_name rows k)) same ∙ rest.first }
 
 -- a value without a row has no name
-pub no_place : (k at : ℕ) (rows : List NameRow) → place_from k at rows ≡ None → first_name rows k ≡ None
-no_place k at [] e = refl
-no_place k at (row ∷ rows) e = by (nat_eq k row.value) refl e (no_place k (at + 1) rows)
+pub no_index : (k at : ℕ) (rows : List NameRow) → index_from k at rows ≡ None → first_name rows k ≡ None
+no_index k at [] e = refl
+no_index k at (row ∷ rows) e = by (nat_eq k row.value) refl e (no_index k (at + 1) rows)
   where
-    by : (b : Bool) → nat_eq k row.value ≡ b → cond b (Some at) (place_from k (at + 1) rows) ≡ None → (place_from k (at + 1) rows ≡ None → first_name rows k ≡ None) → first_name (row ∷ rows) k ≡ None
+    by : (b : Bool) → nat_eq k row.value ≡ b → cond b (Some at) (index_from k (at + 1) rows) ≡ None → (index_from k (at + 1) rows ≡ None → first_name rows k ≡ None) → first_name (row ∷ rows) k ≡ None
     by true same e others = absurd (none_is_not_some (sym e))
     by false same e others = ap (λ b. cond b (Some row.name) (first_name rows k)) same ∙ others e
 
--- the first name by the place of its row
-pub first_name-at_place : (k place : ℕ) (rows : List NameRow) → place_from k 0 rows ≡ Some place → option_map (λ (row : NameRow). row.name) (slice_get rows place) ≡ first_name rows k
-first_name-at_place k place rows e =
-    let named = named_place k 0 rows place e in
-    let same : place ≡ named.index = omega (arith, named.there) in
+-- the first name by the index of its row
+pub first_name-at_index : (k position : ℕ) (rows : List NameRow) → index_from k 0 rows ≡ Some position → option_map (λ (row : NameRow). row.name) (slice_get rows position) ≡ first_name rows k
+first_name-at_index k position rows e =
+    let named = named_index k 0 rows position e in
+    let same : position ≡ named.index = omega (arith, named.there) in
     ap (λ i. option_map (λ (row : NameRow). row.name) (slice_get rows i)) same ∙ ap (option_map (λ (row : NameRow). row.name)) named.found ∙ sym named.first
 
 -- what a map's `get_index` found is the name of the row there
-pub name-at : (entries : List (String Global × ℕ)) (place : ℕ) → option_map (λ (row : NameRow). row.name) (slice_get (name_rows entries) place) ≡ option_map (λ e. string_bytes e.0) (slice_get entries place)
-name-at entries place = ap (option_map (λ (row : NameRow). row.name)) (slice_get-map (λ e. record { name = string_bytes e.0; value = e.1 }) entries place) ∙ named (slice_get entries place)
+pub name-at : (entries : List (String Global × ℕ)) (position : ℕ) → option_map (λ (row : NameRow). row.name) (slice_get (name_rows entries) position) ≡ option_map (λ e. string_bytes e.0) (slice_get entries position)
+name-at entries position = ap (option_map (λ (row : NameRow). row.name)) (slice_get-map (λ e. record { name = string_bytes e.0; value = e.1 }) entries position) ∙ named (slice_get entries position)
   where
     named : (o : Option (String Global × ℕ)) → option_map (λ (row : NameRow). row.name) (option_map (λ e. record { name = string_bytes e.0; value = e.1 }) o) ≡ option_map (λ e. string_bytes e.0) o
     named None = refl
@@ -301,11 +301,11 @@ name_looks_up names k None looks e = tt
 name_looks_up names k (Some name) looks e = row_looks_up names name.now k (looks k name.now (sym e))
 
 -- a table with one more name is a table
-pub table_with_name : {places after : List (ℕ × ℕ)} {names grown : List NameRow} {characters : List CharacterRow} (row : NameRow)
-    → IsTable places names characters → row_value names row.name ≡ None → agrees_with_form row ≡ true → grown ≡ names ++ row ∷ []
-    → ShowsFirstPlaces after (names ++ row ∷ []) → IsTable after grown characters
-table_with_name {places} {after} {names} {grown} {characters} row table new agrees e shows = record {
-  first_places = subst (ShowsFirstPlaces after) (sym e) shows;
+pub table_with_name : {indexes after : List (ℕ × ℕ)} {names grown : List NameRow} {characters : List CharacterRow} (row : NameRow)
+    → IsTable indexes names characters → row_value names row.name ≡ None → agrees_with_form row ≡ true → grown ≡ names ++ row ∷ []
+    → ShowsFirstIndexes after (names ++ row ∷ []) → IsTable after grown characters
+table_with_name {indexes} {after} {names} {grown} {characters} row table new agrees e shows = record {
+  first_indexes = subst (ShowsFirstIndexes after) (sym e) shows;
   agree = ap (list_all agrees_with_form) e ∙ list_all-push agrees_with_form names row table.agree agrees;
   first_names = subst FirstNamesLookUp (sym e) (first_names-push names row new table.first_names);
   each_first = table.each_first;

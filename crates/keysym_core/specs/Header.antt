@@ -8,7 +8,7 @@ use Rattle.compose_text.specs.Numbers.{is_hexadecimal_digit, is_hexadecimal, hex
 use Rattle.keysym_core.specs.Keysym.{is_keysym}
 use Rattle.compose_text.specs.Lines.{lines_of}
 use Rattle.keysym_core.specs.Names.{KeysymNames, row_value, value, is_control, is_surrogate}
-use Rattle.keysym_core.specs.Given.{with_character}
+use Rattle.keysym_core.specs.GivenCharacters.{with_character}
 use Rattle.keysym_core.specs.Core.{core_names}
 use Rattle.keysym_core.specs.declared.fault.NameFault.{NameFault}
 use Rattle.keysym_core.specs.declared.fault.NameFault.TheVariants.{NotUtf8, BadLine, ValueTooLarge, NameConflict, TooManyNames, NoMemory}

@@ -2,7 +2,7 @@ pub mod Keysym
 pub mod Names
 pub mod Core
 pub mod Printed
-pub mod Given
+pub mod GivenCharacters
 pub mod Header
 pub mod HeaderLine
 pub mod Next

@@ -6,7 +6,7 @@ use Rattle.std.specs.List.{list_all}
 use Rattle.std.specs.Map.{lookup}
 use Rattle.std.specs.Option.{option_map_or}
 use Rattle.keysym_core.specs.Keysym.{is_keysym}
-use Rattle.keysym_core.specs.Given.{IsEachFirst, AreKeysyms}
+use Rattle.keysym_core.specs.GivenCharacters.{IsEachFirst, AreKeysyms}
 use Rattle.keysym_core.specs.Printed.{first_name}
 use Rattle.keysym_core.specs.Names.{NameRow, CharacterRow, row_value, form_value}
 
@@ -18,14 +18,14 @@ name_rows entries = map (λ e. record { name = string_bytes e.0; value = e.1 }) 
 abbrev pub character_rows : List (ℕ × ℕ) → List CharacterRow
 character_rows entries = map (λ e. record { value = e.0; character = e.1 }) entries
 
--- the place of the first row with this value, where the first of these rows has the place `at`
-abbrev pub place_from : ℕ → ℕ → List NameRow → Option ℕ
-place_from k at [] = None
-place_from k at (row ∷ rows) = if k == row.value then Some at else place_from k (at + 1) rows
+-- the index of the first row with this value, where the first of these rows has the index `at`
+abbrev pub index_from : ℕ → ℕ → List NameRow → Option ℕ
+index_from k at [] = None
+index_from k at (row ∷ rows) = if k == row.value then Some at else index_from k (at + 1) rows
 
--- a map gives each value the place of the first row that has it
-abbrev pub ShowsFirstPlaces : List (ℕ × ℕ) → List NameRow → Type 0
-ShowsFirstPlaces places rows = (k : ℕ) → lookup (nat_eq k) places ≡ place_from k 0 rows
+-- a map gives each value the index of the first row that has it
+abbrev pub ShowsFirstIndexes : List (ℕ × ℕ) → List NameRow → Type 0
+ShowsFirstIndexes indexes rows = (k : ℕ) → lookup (nat_eq k) indexes ≡ index_from k 0 rows
 
 -- the first name of each value looks up as it
 abbrev pub FirstNamesLookUp : List NameRow → Type 0
@@ -45,8 +45,8 @@ are_addable rows [] = true
 are_addable rows (row ∷ others) = is_addable rows row && are_addable (rows ++ row ∷ []) others
 
 -- what holds of the columns of a table
-pub record IsTable (places : List (ℕ × ℕ)) (names : List NameRow) (characters : List CharacterRow) : Type 0 where
-  pub first_places : ShowsFirstPlaces places names
+pub record IsTable (indexes : List (ℕ × ℕ)) (names : List NameRow) (characters : List CharacterRow) : Type 0 where
+  pub first_indexes : ShowsFirstIndexes indexes names
   pub agree : list_all agrees_with_form names ≡ true
   pub first_names : FirstNamesLookUp names
   pub each_first : IsEachFirst characters

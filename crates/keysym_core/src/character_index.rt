@@ -2,7 +2,7 @@
 ghost use Rattle.std.specs.Prelude.{◌≡◌, ◌≤◌, ◌+◌, ◌<◌, ℕ, true};
 ghost use Rattle.std.specs.List.{list_any};
 ghost use Rattle.std.specs.List.Sorted.{IsNonDecreasingBy};
-ghost use Rattle.keysym_core.specs.Given.{rank, is_entry};
+ghost use Rattle.keysym_core.specs.GivenCharacters.{rank, is_entry};
 ghost use Rattle.keysym_core.specs.Keysym.{max_keysym};
 ghost use Rattle.keysym_core.specs.Next.{IsLeastFrom};
 
@@ -25,7 +25,7 @@ impl Model for CharacterEntry {
 }
 
 impl CharacterEntry {
-    /// Its place in the order by characters and then by values.
+    /// Its rank in the order by characters and then by values.
     fn rank(&self) -> u64
         ensures { result ≡ rank self.now }
     {
@@ -51,8 +51,8 @@ pub(crate) fn next_given(entries: &[CharacterEntry], character: char, low: u32) 
     ensures { IsLeastFrom low (λ k. list_any (is_entry character k) entries.now ≡ true) result }
 {
     let first = u64::from(u32::from(character)) * 0x1_0000_0000 + u64::from(low);
-    let place = entries.partition_point(|entry| entry.rank() < first);
-    let entry = entries.get(place)?;
+    let index = entries.partition_point(|entry| entry.rank() < first);
+    let entry = entries.get(index)?;
     if entry.character != character {
         return None;
     }

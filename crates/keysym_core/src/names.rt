@@ -11,7 +11,7 @@ use crate::character_index::{CharacterEntry, next_given, sorted_by_character};
 use crate::core_names::CORE_NAMES;
 use crate::fault::NameFault;
 use crate::form::form_of;
-use crate::guesses::Guesses;
+use crate::hints::Hints;
 use crate::keysym::Keysym;
 use crate::next::{lesser, next_fixed};
 use crate::read::with_lines;
@@ -23,13 +23,13 @@ use std::marker::Model;
 #[derive(Drop)]
 pub struct Names {
     table: NameTable,
-    guesses: Guesses,
+    hints: Hints,
     by_character: Vec<CharacterEntry>,
 }
 
 impl Model for Names {
     ghost use Rattle.std.specs.List.Sorted.{IsNonDecreasingBy};
-    ghost use Rattle.keysym_core.specs.Given.{HasCountingRows, AreKeysyms, rank};
+    ghost use Rattle.keysym_core.specs.GivenCharacters.{HasCountingRows, AreKeysyms, rank};
     ghost use Rattle.keysym_core.specs.Names.{KeysymNames};
 
     ghost Value = { KeysymNames };
@@ -69,26 +69,26 @@ impl Names {
         }
     }
 
-    /// A table with guesses of where its names stand and its index by character. O(n) in the names, and O(m log m) in the m characters.
+    /// A table with hints of where its names stand and its index by character. O(n) in the names, and O(m log m) in the m characters.
     fn of_table(alloc: Global, table: NameTable) -> Result<Names, AllocError>
         ensures { IfOk result (λ names. names ≡ table) }
     {
-        let guesses = table.guesses(alloc)?;
+        let hints = table.hints(alloc)?;
         let by_character = sorted_by_character(table.counting_entries(alloc)?);
         Ok(Names {
             table,
-            guesses,
+            hints,
             by_character,
         })
     }
 
     /// The keysym of a name: that of the table's name, else of the form `U00E9`, else of the form `0xe9`. O(1): a
-    /// test of the form, then one of the name at the place where it likely stands, and only else a hash.
+    /// test of the form, then one of the name at the index where it likely stands, and only else a hash.
     #[inline(always)]
     pub fn lookup(&self, name: &str) -> Option<Keysym>
         ensures { result ≡ value self.now name.now }
     {
-        self.table.lookup(name, &self.guesses)
+        self.table.lookup(name, &self.hints)
     }
 
     /// How a keysym is printed: its first name in the order of the table; else, where it stands for a character by its number, `U` and at

@@ -1,7 +1,7 @@
 //! The least keysym whose text is fixed as a character.
 ghost use Rattle.std.specs.Prelude.{◌≡◌, ◌⊎◌, Some};
 ghost use Rattle.keysym_core.specs.Names.{keysym_of_character};
-ghost use Rattle.keysym_core.specs.Given.{keypad_keysym};
+ghost use Rattle.keysym_core.specs.GivenCharacters.{keypad_keysym};
 ghost use Rattle.keysym_core.specs.Next.{IsLeastFrom, lesser};
 
 use crate::form::keysym_of_character;

@@ -1,14 +1,14 @@
 //! The rows of names and characters, with an index by value.
 ghost use Rattle.std.specs.Prelude.{◌≡◌, ◌∷◌, [], ◌++◌, map, OnOk, IfOk, IsTrue, Some, None, List, ℕ, IfSome, option_copied, option_map, slice_get, true, filter, length};
 ghost use Rattle.keysym_core.specs.Names.{row_value, first_character, value, form_value};
-ghost use Rattle.keysym_core.specs.Given.{HasCountingRows, AreKeysyms, counts, is_fixed, with_character};
+ghost use Rattle.keysym_core.specs.GivenCharacters.{HasCountingRows, AreKeysyms, counts, is_fixed, with_character};
 ghost use Rattle.keysym_core.specs.Printed.{first_name};
-ghost use Rattle.keysym_core.specs.Table.{name_rows, character_rows, is_addable, are_addable, place_from, FirstNamesLookUp, agrees_with_form};
+ghost use Rattle.keysym_core.specs.Table.{name_rows, character_rows, is_addable, are_addable, index_from, FirstNamesLookUp, agrees_with_form};
 ghost use Rattle.std.specs.List.{list_all};
 
 use crate::character_index::CharacterEntry;
 use crate::form::form_value;
-use crate::guesses::Guesses;
+use crate::hints::Hints;
 use crate::keysym::Keysym;
 use indexmap::IndexMap;
 use std::alloc::{AllocError, Global};
@@ -18,8 +18,8 @@ use std::marker::Model;
 #[derive(Drop)]
 pub(crate) struct NameTable {
     names: IndexMap<String, Keysym>,
-    /// The place in `names` of the first name of each value.
-    places: IndexMap<Keysym, usize>,
+    /// The index in `names` of the first name of each value.
+    indexes: IndexMap<Keysym, usize>,
     characters: IndexMap<Keysym, char>,
 }
 
@@ -31,7 +31,7 @@ impl Model for NameTable {
 
     ghost view = { λ t. record { names = name_rows t.names.entries; characters = character_rows t.characters.entries } };
 
-    ghost invariant = { λ t. IsTable t.places.entries (name_rows t.names.entries) (character_rows t.characters.entries) };
+    ghost invariant = { λ t. IsTable t.indexes.entries (name_rows t.names.entries) (character_rows t.characters.entries) };
 }
 
 impl NameTable {
@@ -51,7 +51,7 @@ impl NameTable {
     {
         NameTable {
             names: IndexMap::new(alloc),
-            places: IndexMap::new(alloc),
+            indexes: IndexMap::new(alloc),
             characters: IndexMap::new(alloc),
         }
     }
@@ -71,13 +71,13 @@ impl NameTable {
 
     /// The keysym of a name. One that is a form needs no search, since a row of that name agrees with it. O(1).
     #[inline(always)]
-    pub(crate) fn lookup(&self, name: &str, guesses: &Guesses) -> Option<Keysym>
+    pub(crate) fn lookup(&self, name: &str, hints: &Hints) -> Option<Keysym>
         ensures { result ≡ value self.now name.now }
     {
         let names = &self.names;
         match form_value(name.as_bytes()) {
             Some(keysym) => Some(keysym),
-            None => value_by_guess(names, name, guesses.place(name.as_bytes())),
+            None => value_by_hint(names, name, hints.index_of(name.as_bytes())),
         }
     }
 
@@ -101,30 +101,30 @@ impl NameTable {
         ensures found { IfSome result (λ name. value self.now name.now ≡ Some keysym) }
         ensures forms { (n : List ℕ) → form_value n ≡ Some keysym → value self.now n ≡ Some keysym }
     {
-        let place = self.first_place(keysym)?;
-        self.name_at(place)
+        let index = self.first_index(keysym)?;
+        self.name_at(index)
     }
 
-    /// The place of the first row with this value. O(1).
-    fn first_place(&self, keysym: Keysym) -> Option<usize>
-        ensures same { result ≡ place_from keysym 0 self.now.names }
+    /// The index of the first row with this value. O(1).
+    fn first_index(&self, keysym: Keysym) -> Option<usize>
+        ensures same { result ≡ index_from keysym 0 self.now.names }
         ensures first_names { FirstNamesLookUp self.now.names }
         ensures agree { list_all agrees_with_form self.now.names ≡ true }
     {
-        self.places.get(&keysym).copied()
+        self.indexes.get(&keysym).copied()
     }
 
-    /// The name of the row at a place. O(1).
-    fn name_at(&self, place: usize) -> Option<&str>
-        ensures { option_copied result ≡ option_map (λ row. row.name) (slice_get self.now.names place) }
+    /// The name of the row at an index. O(1).
+    fn name_at(&self, index: usize) -> Option<&str>
+        ensures { option_copied result ≡ option_map (λ row. row.name) (slice_get self.now.names index) }
     {
-        let (name, _) = self.names.get_index(place)?;
+        let (name, _) = self.names.get_index(index)?;
         Some(name.as_str())
     }
 
-    /// Guesses of where each name stands. O(n) in the names.
-    pub(crate) fn guesses(&self, alloc: Global) -> Result<Guesses, AllocError> {
-        Guesses::new(alloc, &self.names)
+    /// Hints of where each name stands. O(n) in the names.
+    pub(crate) fn hints(&self, alloc: Global) -> Result<Hints, AllocError> {
+        Hints::new(alloc, &self.names)
     }
 
     /// The rows that count for texts. O(n) in the rows.
@@ -157,31 +157,31 @@ impl NameTable {
         ensures { OnOk result (self.new ≡ record self.old { names = self.old.names ++ record { name = name.now; value = value } ∷ [] }) }
     {
         let alloc = *self.names.allocator();
-        let place = self.names.len();
+        let index = self.names.len();
         let kept = String::from_str(alloc, name)?;
-        self.places.reserve(1)?;
+        self.indexes.reserve(1)?;
         self.names.insert(kept, value)?;
-        if self.places.get(&value).is_none() {
-            self.places.insert(value, place)?;
+        if self.indexes.get(&value).is_none() {
+            self.indexes.insert(value, index)?;
         }
         Ok(())
     }
 }
 
-/// The value of the row with this name, which is looked for at the guessed place first. O(1), and without a hash where it stands there.
+/// The value of the row with this name, which is looked for at the hinted index first. O(1), and without a hash where it stands there.
 #[inline(always)]
-fn value_by_guess(rows: &IndexMap<String, Keysym>, name: &str, guess: usize) -> Option<Keysym>
+fn value_by_hint(rows: &IndexMap<String, Keysym>, name: &str, hint: usize) -> Option<Keysym>
     ensures { result ≡ row_value (name_rows rows.now.entries) name.now }
 {
-    if let Some((guessed, keysym)) = rows.get_index(guess) {
-        if guessed.as_str() == name {
+    if let Some((hinted, keysym)) = rows.get_index(hint) {
+        if hinted.as_str() == name {
             return Some(*keysym);
         }
     }
     value_by_hash(rows, name)
 }
 
-/// The value of the row with this name. O(1). A call of its own, so that a look-up by a guess is short enough to stand in its caller.
+/// The value of the row with this name. O(1). A call of its own, so that a look-up by a hint is short enough to stand in its caller.
 #[inline(never)]
 fn value_by_hash(rows: &IndexMap<String, Keysym>, name: &str) -> Option<Keysym>
     ensures { result ≡ row_value (name_rows rows.now.entries) name.now }

@@ -3,5 +3,5 @@ use Rattle.compose_manifest.specs.Text as text
 use Rattle.compose_manifest.proofs.are_entries.Given as goal
 
 -- the entries that are left decide
-abbrev pub invariant-loop-place : goal.invariant-loop-place
-invariant-loop-place l = text.are_entries (drop l.place l.entries) (drop l.place l.sources) ≡ text.are_entries l.entries l.sources
+abbrev pub invariant-loop-index : goal.invariant-loop-index
+invariant-loop-index l = text.are_entries (drop l.index l.entries) (drop l.index l.sources) ≡ text.are_entries l.entries l.sources

@@ -1,9 +1,9 @@
 use Rattle.std.proofs.Common.{◌≡◌, subst, rules}
 use Rattle.compose_model.specs.Certificate.{IsValid, TypesAll}
 use Rattle.compose_model.specs.Follows.{Follows, Waits}
-use Rattle.compose_migration.specs.Given.{parts}
+use Rattle.compose_migration.specs.MigrationGives.{parts}
 use Rattle.compose_check.specs.Input.{Parts, parts_of}
-use Rattle.compose_check.specs.Gives.{input_of}
+use Rattle.compose_check.specs.CheckGives.{input_of}
 use Rattle.compose_check.specs.declared.verdict.Verdict.TheVariants.{Yes}
 use Rattle.compose_check.proofs.PartsRead.{migration_refused, repertoire_refused, certificate_refused, all_read, same_parts, fault_gives}
 use Rattle.compose_check.proofs.input.check_bytes.Goals as goal

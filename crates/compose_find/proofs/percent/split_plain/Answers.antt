@@ -1,7 +1,7 @@
 use Rattle.std.proofs.Common.{◌≡◌, ◌-◌, take, drop, sym, ap, ◌∙◌, subst, arith}
 use Rattle.std.specs.List.{prefix_len}
 use Rattle.std.specs.Str.{IsCharBoundary}
-use Rattle.compose_lex.proofs.Scans.{front_taken, behind_left}
+use Rattle.compose_lex.proofs.Scans.{prefix_taken, behind_left}
 use Rattle.compose_find.specs.Expand.{is_plain}
 use Rattle.compose_find.proofs.Percents.{cut_at_percent}
 use Rattle.compose_find.proofs.percent.split_plain.Goals as goal
@@ -23,7 +23,7 @@ returns-clause-plain c =
     let text = c.args.text.now in
     let len = c.leading_len-len.ensures ∙ ap (prefix_len is_plain) c.as_bytes.ensures.value in
     let whole : c.leading_len-len.result - 0 ≡ c.leading_len-len.result = omega arith in
-    c.range.ensures.value ∙ ap (λ n. take n text) (whole ∙ len) ∙ sym (front_taken is_plain text)
+    c.range.ensures.value ∙ ap (λ n. take n text) (whole ∙ len) ∙ sym (prefix_taken is_plain text)
 
 pub returns-clause-rest : goal.returns-clause-rest
 returns-clause-rest c =

@@ -3,7 +3,7 @@ use Rattle.std.specs.List.{list_any, position_or_len}
 use Rattle.std.proofs.lemmas.List.{take_all}
 use Rattle.compose_model.specs.Table.{has_key}
 use Rattle.compose_model.specs.Nodes.{nodes, node, edges, keysyms}
-use Rattle.compose_fresh.proofs.Places.{position-none, position-or, position-same, any_more}
+use Rattle.compose_fresh.proofs.Positions.{position-none, position-or, position-same, any_more}
 use Rattle.compose_fresh.proofs.Used.{keysyms_are_edges}
 use Rattle.compose_fresh.proofs.fresh.first_used.Goals as goal
 

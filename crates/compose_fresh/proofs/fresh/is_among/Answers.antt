@@ -1,5 +1,5 @@
 use Rattle.std.proofs.Common.{◌∙◌}
-use Rattle.compose_fresh.proofs.Places.{among}
+use Rattle.compose_fresh.proofs.Positions.{among}
 use Rattle.compose_fresh.proofs.fresh.is_among.Goals as goal
 
 pub returns : goal.returns

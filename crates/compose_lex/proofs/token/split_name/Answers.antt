@@ -2,7 +2,7 @@ use Rattle.std.proofs.Common.{◌≡◌, ◌-◌, take, drop, sym, ap, ◌∙◌
 use Rattle.std.specs.List.{prefix_len}
 use Rattle.std.specs.Str.{IsCharBoundary}
 use Rattle.compose_text.specs.Bytes.{is_name_byte}
-use Rattle.compose_lex.proofs.Scans.{front_taken, behind_left, cut_behind_name}
+use Rattle.compose_lex.proofs.Scans.{prefix_taken, behind_left, cut_behind_name}
 use Rattle.compose_lex.proofs.token.split_name.Goals as goal
 
 pub range-requires-clause-end_boundary : goal.range-requires-clause-end_boundary
@@ -22,7 +22,7 @@ returns-clause-name c =
     let text = c.args.text.now in
     let len = c.name_len-len.ensures ∙ ap (prefix_len is_name_byte) c.as_bytes.ensures.value in
     let whole : c.name_len-len.result - 0 ≡ c.name_len-len.result = omega arith in
-    c.range.ensures.value ∙ ap (λ n. take n text) (whole ∙ len) ∙ sym (front_taken is_name_byte text)
+    c.range.ensures.value ∙ ap (λ n. take n text) (whole ∙ len) ∙ sym (prefix_taken is_name_byte text)
 
 pub returns-clause-rest : goal.returns-clause-rest
 returns-clause-rest c =

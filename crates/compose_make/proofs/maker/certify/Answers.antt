@@ -5,7 +5,7 @@ use Rattle.compose_model.specs.Certificate.{Certificate, Typing}
 use Rattle.compose_cert.specs.Spelling.{max_count, are_counted}
 use Rattle.compose_make.specs.Least.{AreLeastTypings}
 use Rattle.compose_make.specs.Found.{IsTypings}
-use Rattle.compose_make.specs.Made.{IsMadeFor}
+use Rattle.compose_make.specs.IsMade.{IsMadeFor}
 use Rattle.compose_make.proofs.Certified.{counted, made, opened}
 use Rattle.compose_make.proofs.maker.certify.Goals as goal
 

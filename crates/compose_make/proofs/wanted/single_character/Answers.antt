@@ -2,7 +2,7 @@ use Rattle.std.proofs.Common.{◌≡◌, ◌++◌, [], length, sym, ◌∙◌, a
 use Rattle.std.proofs.lemmas.Str.{encode_same}
 use Rattle.std.proofs.lemmas.List.{nil_from_length}
 use Rattle.std.specs.Str.Iter.{chars_rest}
-use Rattle.compose_make.proofs.Reduction.{never_silent, never_front}
+use Rattle.compose_make.proofs.Reduction.{never_silent, never_prefix}
 use Rattle.compose_make.proofs.wanted.single_character.Goals as goal
 
 pub returns-in_default : goal.returns-in_default
@@ -16,4 +16,4 @@ returns-in-Some-next c d e =
     let whole : encode_utf8 d ++ [] ≡ encode_utf8 first ++ rest = append-nil (encode_utf8 d) ∙ sym e ∙ sym c.chars-characters.ensures.rest ∙ c.in-Some.ensures.steps.0 in
     let none : rest ≡ [] = sym (encode_same d first [] rest whole).1 in
     let more : rest ≡ encode_utf8 c.in-Some-next.field-0 ++ chars_rest c.next-2.new.self = c.in-Some-next.ensures.steps.0 in
-    never_front (encode_utf8 c.in-Some-next.field-0) (chars_rest c.next-2.new.self) (never_silent c.in-Some-next.field-0) (sym none ∙ more)
+    never_prefix (encode_utf8 c.in-Some-next.field-0) (chars_rest c.next-2.new.self) (never_silent c.in-Some-next.field-0) (sym none ∙ more)

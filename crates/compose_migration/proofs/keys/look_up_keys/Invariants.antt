@@ -3,9 +3,9 @@ use Rattle.std.specs.Prelude.{Some}
 use Rattle.keysym_core.specs.Names.{value}
 use Rattle.compose_migration.proofs.keys.look_up_keys.Given as goal
 
--- the keys so far and the values of the words that are left are the values of all words
+-- the keys so far and the values of the key names that are left are the values of all key names
 abbrev pub invariant-loop-index : goal.invariant-loop-index
 invariant-loop-index l = record {
   count : length l.keys.items ≡ l.index;
-  values : map (λ k. Some k) l.keys.items ++ map (value l.names) (drop l.index (map (λ word. word.now) l.words)) ≡ map (value l.names) (map (λ word. word.now) l.words);
+  values : map (λ k. Some k) l.keys.items ++ map (value l.names) (drop l.index (map (λ key_name. key_name.now) l.key_names)) ≡ map (value l.names) (map (λ key_name. key_name.now) l.key_names);
 }

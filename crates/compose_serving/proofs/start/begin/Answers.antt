@@ -1,6 +1,6 @@
 use Rattle.std.proofs.Common.{◌≡◌, sym, subst, rules}
 use Rattle.std.specs.Prelude.{Err}
-use Rattle.compose_tree.specs.Given.{first_table}
+use Rattle.compose_tree.specs.TableGives.{first_table}
 use Rattle.compose_cert.specs.Reading.{certificate_of}
 use Rattle.compose_service.specs.Start.{started}
 use Rattle.compose_serving.specs.Begin.{Start, BeginGives}

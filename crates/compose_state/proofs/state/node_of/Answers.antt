@@ -1,5 +1,5 @@
 use Rattle.std.proofs.Common.{sym, ◌∙◌, arith}
-use Rattle.compose_state.proofs.Places.{at_root, at_in_range, at_next, at_stop, typed_again}
+use Rattle.compose_state.proofs.PathNodes.{at_root, at_in_range, at_next, at_stop, typed_again}
 use Rattle.compose_state.proofs.state.node_of.Goals as goal
 
 pub loop-index-init : goal.loop-index-init

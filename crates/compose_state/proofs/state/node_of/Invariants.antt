@@ -1,4 +1,4 @@
-use Rattle.compose_state.proofs.Places.{IsAt}
+use Rattle.compose_state.proofs.PathNodes.{IsAt}
 use Rattle.compose_state.proofs.state.node_of.Given as goal
 
 -- the keysyms so far are the node

@@ -1,7 +1,7 @@
 use Rattle.std.proofs.Common.{sym, subst}
 use Rattle.compose_migration.specs.Migration.{or_because}
 use Rattle.compose_check.specs.Input.{parts_of}
-use Rattle.compose_check.specs.Gives.{input_of}
+use Rattle.compose_check.specs.CheckGives.{input_of}
 use Rattle.compose_tool.specs.Parts.{unread}
 use Rattle.compose_tool.specs.Refused.{IsRefused}
 use Rattle.compose_tool.specs.declared.refusal.Refusal.{Refusal}

@@ -1,5 +1,5 @@
 use Rattle.std.proofs.Common.{subst, rules}
-use Rattle.compose_migration.specs.Given.{parts}
+use Rattle.compose_migration.specs.MigrationGives.{parts}
 use Rattle.compose_walk.specs.Walks.{IsWalk}
 use Rattle.compose_tool.specs.Parts.{Explainable}
 use Rattle.compose_tool.proofs.Moves.{taken}

@@ -1,7 +1,7 @@
 use Rattle.std.proofs.Common.{rules, sym, ◌∙◌, ap, subst, nat_cmp}
 use Rattle.std.specs.Prelude.{Result}
 use Rattle.compose_model.specs.Nodes.{rising}
-use Rattle.compose_migration.specs.Given.{given_of, parts}
+use Rattle.compose_migration.specs.MigrationGives.{given_of, parts}
 use Rattle.compose_tool.specs.Parts.{NoAnswer, Needs, make_parts}
 use Rattle.compose_tool.specs.Refused.{Gives}
 use Rattle.compose_tool.specs.Answers.{IsAllMadeText}

@@ -1,4 +1,4 @@
-use Rattle.compose_migration.specs.Given.{parts}
+use Rattle.compose_migration.specs.MigrationGives.{parts}
 use Rattle.compose_tool.proofs.Untypable.{all_told}
 use Rattle.compose_tool.proofs.making_all.tell_untypable.Goals as goal
 

@@ -1,6 +1,6 @@
 use Rattle.std.proofs.Common.{sym, subst}
 use Rattle.compose_migration.specs.Migration.{migration_of}
-use Rattle.compose_migration.specs.Given.{given_of}
+use Rattle.compose_migration.specs.MigrationGives.{given_of}
 use Rattle.compose_tool.specs.Refused.{IsRefused}
 use Rattle.compose_tool.specs.declared.refusal.Refusal.{Refusal}
 use Rattle.compose_tool.proofs.Moves.{migration_refused, unmoved}

@@ -16,8 +16,8 @@ overflow_add-index_mut c =
     let there = node_there ds es k e c.requires.at_nodes c.loop-edge-test.true c.edge-item.is in
     let count = c.index_mut.ensures.value ∙ ap (λ counts. get_or counts e.node c.index_mut.result.now) c.loop-edge.invariant ∙ count_at 0 e.node c.index_mut.result.now ds counted there in
     let own = of_node_and_behind (0 + e.node) counted in let few = few_from (0 + e.node) counted in
-    let front = length-take k es in
-    omega (arith, count, own, few, front, c.requires.few, c.loop-edge-test.true)
+    let prefix = length-take k es in
+    omega (arith, count, own, few, prefix, c.requires.few, c.loop-edge-test.true)
 
 pub loop-edge-preserved : goal.loop-edge-preserved
 loop-edge-preserved c =

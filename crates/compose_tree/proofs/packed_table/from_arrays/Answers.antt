@@ -6,8 +6,8 @@ use Rattle.std.proofs.Common.{subst}
 
 pub invariant_of-result : goal.invariant_of-result
 invariant_of-result c =
-    subst (IsPacked c.args.nodes.items c.args.edges.items c.args.places.items (string_bytes c.args.texts))
-    (sym (unpack_packed c.args.nodes.items c.args.edges.items c.args.places.items (string_bytes c.args.texts) c.args.sequences.now c.requires)) c.requires
+    subst (IsPacked c.args.nodes.items c.args.edges.items c.args.offsets.items (string_bytes c.args.texts))
+    (sym (unpack_packed c.args.nodes.items c.args.edges.items c.args.offsets.items (string_bytes c.args.texts) c.args.sequences.now c.requires)) c.requires
 
 pub returns : goal.returns
-returns c = unpack_packed c.args.nodes.items c.args.edges.items c.args.places.items (string_bytes c.args.texts) c.args.sequences.now c.requires
+returns c = unpack_packed c.args.nodes.items c.args.edges.items c.args.offsets.items (string_bytes c.args.texts) c.args.sequences.now c.requires

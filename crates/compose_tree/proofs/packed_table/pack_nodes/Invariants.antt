@@ -6,6 +6,6 @@ use Rattle.compose_tree.proofs.packed_table.pack_nodes.Given as goal
 
 abbrev pub invariant-loop-index : goal.invariant-loop-index
 invariant-loop-index l = record {
-  nodes : packed_nodes 0 (gathered 0 l.depths l.edges) ≡ l.nodes.items ++ packed_nodes l.place (gathered l.index (drop l.index l.depths) l.edges);
-  left : l.place + edges_from l.index l.edges ≡ length l.edges;
+  nodes : packed_nodes 0 (gathered 0 l.depths l.edges) ≡ l.nodes.items ++ packed_nodes l.offset (gathered l.index (drop l.index l.depths) l.edges);
+  left : l.offset + edges_from l.index l.edges ≡ length l.edges;
 }

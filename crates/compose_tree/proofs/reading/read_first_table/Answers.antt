@@ -1,7 +1,7 @@
 use Rattle.std.proofs.Common.{List, subst}
 use Rattle.std.specs.Prelude.{Result}
 use Rattle.compose_model.specs.Table.{Definition}
-use Rattle.compose_tree.specs.Given.{NoTable, TableGives}
+use Rattle.compose_tree.specs.TableGives.{NoTable, TableGives}
 use Rattle.compose_tree.proofs.FirstSource.{root_named}
 use Rattle.compose_tree.proofs.reading.read_first_table.Goals as goal
 

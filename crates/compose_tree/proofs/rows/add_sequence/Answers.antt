@@ -1,12 +1,12 @@
 use Rattle.std.proofs.Common.{◌+◌, take, arith, ◌∙◌}
 use Rattle.std.proofs.lemmas.List.{get_or_default}
-use Rattle.compose_tree.proofs.Adding.{adds_here, rows_after, path_after, count_after, front_nodes}
+use Rattle.compose_tree.proofs.Adding.{adds_here, rows_after, path_after, count_after, prefix_nodes}
 use Rattle.compose_tree.proofs.rows.add_sequence.Goals as goal
 
 pub returns-then-opened-len-clause-many : goal.returns-then-opened-len-clause-many
 returns-then-opened-len-clause-many c =
     let a = adds_here c.args.sequences.now c.args.index c.args.rows.now c.args.path.now.items c.args.sequence.now c.args.shared c.requires.settled c.requires.in_range c.requires.rows c.requires.path c.requires.sequence c.requires.shared in
-    λ e. omega (arith, a.nodes_count, front_nodes c.args.sequences.now (c.args.index + 1) c.requires.settled)
+    λ e. omega (arith, a.nodes_count, prefix_nodes c.args.sequences.now (c.args.index + 1) c.requires.settled)
 
 pub index-requires : goal.index-requires
 index-requires c =

@@ -1,6 +1,6 @@
 use Rattle.std.proofs.Common.{refl, sym, ◌∙◌, ap, eqb-true, Some}
 use Rattle.compose_model.specs.Nodes.{node}
-use Rattle.compose_walk.proofs.Places.{root_at_zero, not_root}
+use Rattle.compose_walk.proofs.NodeNumbers.{root_at_zero, not_root}
 use Rattle.compose_walk.proofs.Stepped.{step_to_node, step_to_leaf, step_at_rest, step_breaks, to_leaf_below}
 use Rattle.compose_walk.proofs.step.key_step.Goals as goal
 

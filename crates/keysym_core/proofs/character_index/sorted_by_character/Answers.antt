@@ -1,6 +1,6 @@
 use Rattle.std.proofs.Common.{sym, rules}
 use Rattle.std.proofs.lemmas.List.Sorted.{list_any-IsPermutation, IsNonDecreasingBy-from_sort_by_key}
-use Rattle.keysym_core.specs.Given.{rank, is_entry}
+use Rattle.keysym_core.specs.GivenCharacters.{rank, is_entry}
 use Rattle.keysym_core.proofs.character_index.sorted_by_character.Goals as goal
 
 pub returns-clause-same : goal.returns-clause-same

@@ -1,6 +1,6 @@
 use Rattle.std.proofs.Common.{rules, refl, ◌≡◌}
 use Rattle.compose_migration.specs.Migration.{NamedParts, migration_of}
-use Rattle.compose_migration.specs.Given.{given_of, parts, named_parts}
+use Rattle.compose_migration.specs.MigrationGives.{given_of, parts, named_parts}
 use Rattle.compose_migration.proofs.Steps.{fault_gives, old_refused, new_refused, all_read}
 use Rattle.compose_migration.proofs.migration.Migration.read.Goals as goal
 

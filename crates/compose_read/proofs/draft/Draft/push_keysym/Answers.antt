@@ -5,11 +5,11 @@ use Rattle.compose_read.proofs.draft.Draft.push_keysym.Goals as goal
 
 pub invariant_of-self-2 : goal.invariant_of-self-2
 invariant_of-self-2 c =
-    with_keysym c.self.inside.keysyms.items (string_bytes c.self.inside.texts) c.self.inside.places.items c.self.inside.first_keysym c.self.inside.first_byte c.self.invariant
+    with_keysym c.self.inside.keysyms.items (string_bytes c.self.inside.texts) c.self.inside.spans.items c.self.inside.first_keysym c.self.inside.first_byte c.self.invariant
     c.push.new.self.items c.args.keysym c.in_ok-push.ensures.items
 
 pub returns-clause-pushed : goal.returns-clause-pushed
 returns-clause-pushed c =
-    drafted_keysym c.self.inside.keysyms.items (string_bytes c.self.inside.texts) c.self.inside.places.items c.self.inside.first_keysym c.self.inside.first_byte c.self.invariant
+    drafted_keysym c.self.inside.keysyms.items (string_bytes c.self.inside.texts) c.self.inside.spans.items c.self.inside.first_keysym c.self.inside.first_byte c.self.invariant
     c.push.new.self.items c.args.keysym c.in_ok-push.ensures.items
     ∙ ap (λ (d : Drafted). with_row d (record { sequence = d.row.sequence ++ c.args.keysym ∷ []; text = d.row.text })) c.self.view_is

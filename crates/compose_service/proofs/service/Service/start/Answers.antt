@@ -1,7 +1,7 @@
 use Rattle.std.proofs.Common.{◌∙◌, sym, ap, List}
 use Rattle.compose_machine.specs.Machine.{Row, with_sessions}
 use Rattle.compose_service.specs.Start.{at_start}
-use Rattle.compose_tree.specs.Given.{first_table}
+use Rattle.compose_tree.specs.TableGives.{first_table}
 use Rattle.compose_cert.specs.Reading.{certificate_of}
 use Rattle.compose_service.proofs.Starting.{table_fault, starts, starts_not}
 use Rattle.compose_service.proofs.service.Service.start.Goals as goal

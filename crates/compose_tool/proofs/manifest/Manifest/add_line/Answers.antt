@@ -3,7 +3,7 @@ use Rattle.std.specs.Str.{is_utf8}
 use Rattle.std.proofs.lemmas.Bool.{cases_Bool}
 use Rattle.std.proofs.lemmas.Str.{is_utf8-from_IsUtf8, IsUtf8-from_is_utf8}
 use Rattle.compose_tool.specs.Manifest.{with_line, with_text, without_return}
-use Rattle.compose_tool.specs.Given.{SaidGives}
+use Rattle.compose_tool.specs.ManifestGives.{SaidGives}
 use Rattle.compose_tool.proofs.manifest.Manifest.add_line.Goals as goal
 
 pub returns-in-Ok : goal.returns-in-Ok

@@ -11,9 +11,9 @@ pub overflow_cast-result : goal.overflow_cast-result
 overflow_cast-result c =
     let p = node c.args.self.now c.args.node.0 in
     let few = edges_few c.args.self.now p c.row.ensures.settled.definitions in
-    let there = scan_found c.args.self.now p c.args.keysym c.in-Some.place c.edges.result.now (c.edges.ensures ∙ ap (λ r. r.edges) c.row.ensures.value) c.in-Some.ensures.0 c.in-Some.ensures.1 in
+    let there = scan_found c.args.self.now p c.args.keysym c.in-Some.index c.edges.result.now (c.edges.ensures ∙ ap (λ r. r.edges) c.row.ensures.value) c.in-Some.ensures.0 c.in-Some.ensures.1 in
     omega (arith, few, there.0)
 
 pub returns : goal.returns
 returns c =
-    scan_found c.args.self.now (node c.args.self.now c.args.node.0) c.args.keysym c.in-Some.place c.edges.result.now (c.edges.ensures ∙ ap (λ r. r.edges) c.row.ensures.value) c.in-Some.ensures.0 c.in-Some.ensures.1
+    scan_found c.args.self.now (node c.args.self.now c.args.node.0) c.args.keysym c.in-Some.index c.edges.result.now (c.edges.ensures ∙ ap (λ r. r.edges) c.row.ensures.value) c.in-Some.ensures.0 c.in-Some.ensures.1

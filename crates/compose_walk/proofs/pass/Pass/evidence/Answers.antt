@@ -1,6 +1,6 @@
 use Rattle.std.proofs.Common.{sym, ◌∙◌}
 use Rattle.compose_model.specs.Nodes.{node}
-use Rattle.compose_walk.proofs.Places.{node_is_node}
+use Rattle.compose_walk.proofs.NodeNumbers.{node_is_node}
 use Rattle.compose_walk.proofs.Nodes.{standing}
 use Rattle.compose_walk.proofs.Traces.{some_stand, some_difference, evidence_is}
 use Rattle.compose_walk.proofs.pass.Pass.evidence.Goals as goal

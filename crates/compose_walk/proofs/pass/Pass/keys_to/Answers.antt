@@ -3,7 +3,7 @@ use Rattle.std.specs.Prelude.{is_some}
 use Rattle.std.proofs.lemmas.Bool.{ne_eqb}
 use Rattle.std.proofs.lemmas.List.{length-map}
 use Rattle.compose_model.specs.Nodes.{nodes, node}
-use Rattle.compose_walk.proofs.Places.{node_is_node, root_at_zero}
+use Rattle.compose_walk.proofs.NodeNumbers.{node_is_node, root_at_zero}
 use Rattle.compose_walk.proofs.Traces.{some_stand, is_there, parent_below, parent_in_range, parent_agrees, one_back, room}
 use Rattle.compose_walk.proofs.pass.Pass.keys_to.Goals as goal
 

@@ -1,7 +1,7 @@
 use Rattle.std.proofs.Common.{◌≡◌, ◌∙◌, ap, sym, subst, rules, ◌&&◌, not, Some, ◌⊎◌}
 use Rattle.std.specs.List.{list_any}
 use Rattle.keysym_core.specs.Names.{KeysymNames, character_of, keysym_of_character}
-use Rattle.keysym_core.specs.Given.{is_entry, is_fixed, gives, keypad_keysym}
+use Rattle.keysym_core.specs.GivenCharacters.{is_entry, is_fixed, gives, keypad_keysym}
 use Rattle.keysym_core.specs.Next.{IsLeastFrom, from_above}
 use Rattle.keysym_core.proofs.NextOf.{next-of_both, least-by_same}
 use Rattle.keysym_core.proofs.names.Names.next_of.Goals as goal

@@ -2,8 +2,8 @@ use Rattle.std.proofs.Common.{◌≡◌, ◌∙◌, ap, sym, ◌++◌, ◌∷◌
 use Rattle.std.proofs.lemmas.Grind.{common_steps}
 use Rattle.std.specs.Map.{lookup}
 use Rattle.keysym_core.specs.Names.{NameRow, KeysymNames, row_value}
-use Rattle.keysym_core.specs.Table.{name_rows, character_rows, ShowsFirstPlaces}
-use Rattle.keysym_core.proofs.Rows.{name_rows-insert, entries-insert, first_places-new, first_places-known, addable_is_new, addable_agrees, known_place, same_names, length-name_rows, table_with_name}
+use Rattle.keysym_core.specs.Table.{name_rows, character_rows, ShowsFirstIndexes}
+use Rattle.keysym_core.proofs.Rows.{name_rows-insert, entries-insert, first_indexes-new, first_indexes-known, addable_is_new, addable_agrees, known_index, same_names, length-name_rows, table_with_name}
 use Rattle.keysym_core.proofs.table.NameTable.add_name.Goals as goal
 
 pub invariant_of-self-in_ok-insert-2 : goal.invariant_of-self-in_ok-insert-2
@@ -15,11 +15,11 @@ invariant_of-self-in_ok-insert-2 c =
     let same : string_bytes c.in_ok-kept.kept ≡ row.name = search rules in
     let grown : name_rows c.insert.new.self.entries ≡ rows ++ row ∷ [] = ap name_rows c.in_ok-insert.ensures.entries ∙ name_rows-insert c.self.inside.names c.in_ok-kept.kept row same new in
     let absent : lookup (nat_eq row.value) c.reserve.new.self.entries ≡ None = grind (arith, common_steps) in
-    let places = c.in_ok-insert-2.ensures.entries ∙ entries-insert c.reserve.new.self row.value c.len-place.result absent in
-    let kept : c.reserve.new.self.entries ≡ c.self.inside.places.entries = c.in_ok-reserve.ensures.entries in
-    let count : c.len-place.result ≡ length rows = c.len-place.ensures.len ∙ sym (length-name_rows c.self.inside.names.entries) in
-    let shows = first_places-new c.reserve.new.self.entries rows row c.len-place.result count (subst (λ es. ShowsFirstPlaces es rows) (sym kept) c.self.invariant.first_places) in
-    table_with_name row c.self.invariant new (addable_agrees c.args.self.now.names row c.requires) grown (λ k. ap (lookup (nat_eq k)) places ∙ shows k)
+    let indexes = c.in_ok-insert-2.ensures.entries ∙ entries-insert c.reserve.new.self row.value c.len-index.result absent in
+    let kept : c.reserve.new.self.entries ≡ c.self.inside.indexes.entries = c.in_ok-reserve.ensures.entries in
+    let count : c.len-index.result ≡ length rows = c.len-index.ensures.len ∙ sym (length-name_rows c.self.inside.names.entries) in
+    let shows = first_indexes-new c.reserve.new.self.entries rows row c.len-index.result count (subst (λ es. ShowsFirstIndexes es rows) (sym kept) c.self.invariant.first_indexes) in
+    table_with_name row c.self.invariant new (addable_agrees c.args.self.now.names row c.requires) grown (λ k. ap (lookup (nat_eq k)) indexes ∙ shows k)
 
 pub invariant_of-self-else-is_none : goal.invariant_of-self-else-is_none
 invariant_of-self-else-is_none c =
@@ -29,9 +29,9 @@ invariant_of-self-else-is_none c =
     let new : row_value rows row.name ≡ None = subst (λ r. row_value r row.name ≡ None) (sym old) (addable_is_new c.args.self.now.names row c.requires) in
     let same : string_bytes c.in_ok-kept.kept ≡ row.name = search rules in
     let grown : name_rows c.insert.new.self.entries ≡ rows ++ row ∷ [] = ap name_rows c.in_ok-insert.ensures.entries ∙ name_rows-insert c.self.inside.names c.in_ok-kept.kept row same new in
-    let kept : c.reserve.new.self.entries ≡ c.self.inside.places.entries = c.in_ok-reserve.ensures.entries in
-    let known = known_place row.value c.reserve.new.self.entries c.get.result c.get.ensures.value c.if-is_none.ensures in
-    let shows = first_places-known c.reserve.new.self.entries rows row known.0 known.1 (subst (λ es. ShowsFirstPlaces es rows) (sym kept) c.self.invariant.first_places) in
+    let kept : c.reserve.new.self.entries ≡ c.self.inside.indexes.entries = c.in_ok-reserve.ensures.entries in
+    let known = known_index row.value c.reserve.new.self.entries c.get.result c.get.ensures.value c.if-is_none.ensures in
+    let shows = first_indexes-known c.reserve.new.self.entries rows row known.0 known.1 (subst (λ es. ShowsFirstIndexes es rows) (sym kept) c.self.invariant.first_indexes) in
     table_with_name row c.self.invariant new (addable_agrees c.args.self.now.names row c.requires) grown shows
 
 pub returns-in_ok-insert-2 : goal.returns-in_ok-insert-2

@@ -1,7 +1,7 @@
 use Rattle.std.proofs.Common.{◌≡◌, ap, sym, subst, filter}
 use Rattle.std.proofs.lemmas.Result.{IfOk-weaker}
 use Rattle.keysym_core.specs.Names.{KeysymNames}
-use Rattle.keysym_core.specs.Given.{counts, HasCountingRows, AreKeysyms}
+use Rattle.keysym_core.specs.GivenCharacters.{counts, HasCountingRows, AreKeysyms}
 use Rattle.keysym_core.specs.Table.{character_rows}
 use Rattle.keysym_core.proofs.Characters.{counting_rows-count, counting_rows-keysyms}
 use Rattle.keysym_core.proofs.table.NameTable.counting_entries.Goals as goal

@@ -12,6 +12,6 @@ returns-in-Some c =
 
 pub returns-in-None : goal.returns-in-None
 returns-in-None c =
-    c.value_by_guess.ensures
+    c.value_by_hint.ensures
     ∙ ap (λ (t : KeysymNames). row_value t.names c.args.name.now) c.self.view_is
     ∙ sym (value-without_form c.args.self.now c.args.name.now (ap form_value (sym c.as_bytes.ensures.value) ∙ sym c.in-None.ensures))

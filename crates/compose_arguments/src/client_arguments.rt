@@ -1,0 +1,66 @@
+//! What `load` and `session` ask for.
+use clap::ArgMatches;
+use std::alloc::{AllocError, Global};
+
+/// The arguments of `load`.
+#[derive(Clone, Copy)]
+pub struct LoadArguments<'a> {
+    /// The path of the service's socket.
+    pub socket: &'a str,
+    /// The path of the new table's manifest.
+    pub new: &'a str,
+    /// The path of the certificate.
+    pub certificate: &'a str,
+}
+
+/// The arguments of `session`.
+#[derive(Drop)]
+pub struct SessionArguments<'a> {
+    /// The path of the service's socket.
+    pub socket: &'a str,
+    /// The number of the session.
+    pub session: u32,
+    /// Whether the session is opened first.
+    pub open: bool,
+    /// Whether it is put to rest before the keys.
+    pub reset: bool,
+    /// The names of the keysyms.
+    pub keys: Vec<&'a str>,
+    /// Whether it is asked where the session stands, after the keys.
+    pub ask: bool,
+    /// Whether the session is closed at the end.
+    pub close: bool,
+}
+
+/// The arguments of `load`, if they are all there.
+pub fn load_arguments<'a>(given: &ArgMatches<'a>) -> Option<LoadArguments<'a>> {
+    Some(LoadArguments {
+        socket: given.get_str("SOCKET")?,
+        new: given.get_str("NEW")?,
+        certificate: given.get_str("CERTIFICATE")?,
+    })
+}
+
+/// The arguments of `session`, if they are all there.
+pub fn session_arguments<'a>(
+    alloc: Global,
+    given: &ArgMatches<'a>,
+) -> Result<Option<SessionArguments<'a>>, AllocError> {
+    let (Some(socket), Some(session)) = (given.get_str("SOCKET"), given.get_one::<u32>("NUMBER"))
+    else {
+        return Ok(None);
+    };
+    let keys = match given.get_strs("KEY") {
+        Some(keys) => Vec::from_slice(alloc, keys)?,
+        None => Vec::new(alloc),
+    };
+    Ok(Some(SessionArguments {
+        socket,
+        session,
+        open: given.get_flag("open"),
+        reset: given.get_flag("reset"),
+        keys,
+        ask: given.get_flag("ask"),
+        close: given.get_flag("close"),
+    }))
+}

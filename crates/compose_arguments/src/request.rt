@@ -1,0 +1,234 @@
+//! What the command line asks for.
+ghost use Rattle.std.specs.Prelude.{◌≡◌, ◌==◌, map, IfOk};
+ghost use Rattle.std.specs.List.{slice_split};
+ghost use Rattle.compose_arguments.specs.Commas.{names_between};
+
+use crate::client_arguments::{LoadArguments, SessionArguments, load_arguments, session_arguments};
+use crate::commands::command_line;
+use crate::manifest_arguments::{ManifestArguments, manifest_arguments};
+use crate::serve_arguments::{ServeArguments, serve_arguments};
+use clap::error::ErrorKind;
+use clap::{ArgMatches, Error};
+use std::alloc::{AllocError, Global};
+
+/// What the command line asks for: its arguments and paths, which are lent by it.
+#[derive(Drop)]
+pub enum Request<'a> {
+    /// Type keys with a table.
+    Type {
+        /// The path of the table's manifest.
+        table: &'a str,
+        /// The names of the keysyms, at least one.
+        keys: Vec<&'a str>,
+    },
+    /// Check a certificate.
+    Check {
+        tables: TablePaths<'a>,
+        /// The names of `--fresh` between commas, where it is given.
+        fresh: Option<Vec<&'a str>>,
+        repertoire: &'a str,
+        certificate: &'a str,
+    },
+    /// Explain how two tables differ.
+    Explain {
+        tables: TablePaths<'a>,
+        /// The names of `--fresh` between commas.
+        fresh: Vec<&'a str>,
+        /// Whether all differences are asked for.
+        all: bool,
+    },
+    /// Make a certificate.
+    Make {
+        tables: TablePaths<'a>,
+        /// The names of `--fresh` between commas.
+        fresh: Vec<&'a str>,
+        /// Whether all characters that can't be typed are asked for.
+        all: bool,
+        repertoire: &'a str,
+        /// The path of the file that is written, where it is given.
+        output: Option<&'a str>,
+    },
+    /// Print the manifest of a Compose file.
+    Manifest(ManifestArguments<'a>),
+    /// Serve typing sessions on a socket.
+    Serve(ServeArguments<'a>),
+    /// Load a table into a running service.
+    Load(LoadArguments<'a>),
+    /// Type in a session of a running service.
+    Session(SessionArguments<'a>),
+}
+
+/// The paths of what an old and a new table are read from.
+#[derive(Clone, Copy)]
+pub struct TablePaths<'a> {
+    /// The path of the old table's manifest.
+    pub old: &'a str,
+    /// The path of the new table's manifest.
+    pub new: &'a str,
+}
+
+/// What the arguments of the command line say.
+#[derive(Drop)]
+pub struct CommandLine<'a> {
+    /// The arguments of each `--names`: the path of a header of names, or `builtin`.
+    pub names: Vec<&'a str>,
+    /// What is asked for.
+    pub request: Request<'a>,
+}
+
+/// What these arguments say, of which the first is the program's name. Else clap's answer: the help or the version, why the arguments are
+/// refused, or that memory was refused. O(bytes of the arguments).
+pub fn read_command_line<'a>(
+    alloc: Global,
+    arguments: &'a [String],
+) -> Result<CommandLine<'a>, Error> {
+    let matches = command_line(alloc)?.try_get_matches_from(arguments)?;
+    let names = names_of(alloc, &matches)?;
+    match request_of(alloc, &matches)? {
+        Some(request) => Ok(CommandLine { names, request }),
+        None => Err(no_request(alloc)?),
+    }
+}
+
+/// The arguments of each `--names` of the command that was found.
+fn names_of<'a>(alloc: Global, matches: &ArgMatches<'a>) -> Result<Vec<&'a str>, AllocError> {
+    let Some((_, given)) = matches.subcommand() else {
+        return Ok(Vec::new(alloc));
+    };
+    match given.get_strs("names") {
+        Some(names) => Ok(Vec::from_slice(alloc, names)?),
+        None => Ok(Vec::new(alloc)),
+    }
+}
+
+/// What is said where an argument is missing that clap has let pass.
+fn no_request(alloc: Global) -> Result<Error, AllocError> {
+    command_line(alloc)?.error(ErrorKind::MissingRequiredArgument, "a word is missing")
+}
+
+/// What the command that was found asks for, if it has its arguments.
+fn request_of<'a>(
+    alloc: Global,
+    matches: &ArgMatches<'a>,
+) -> Result<Option<Request<'a>>, AllocError> {
+    match matches.subcommand() {
+        Some(("type", given)) => type_request(alloc, given),
+        Some(("check", given)) => check_request(alloc, given),
+        Some(("explain", given)) => explain_request(alloc, given),
+        Some(("make", given)) => make_request(alloc, given),
+        Some(("manifest", given)) => Ok(manifest_arguments(given).map(Request::Manifest)),
+        Some(("serve", given)) => Ok(serve_arguments(given).map(Request::Serve)),
+        Some(("load", given)) => Ok(load_arguments(given).map(Request::Load)),
+        Some(("session", given)) => Ok(session_arguments(alloc, given)?.map(Request::Session)),
+        _ => Ok(None),
+    }
+}
+
+/// The arguments of `type`.
+fn type_request<'a>(
+    alloc: Global,
+    given: &ArgMatches<'a>,
+) -> Result<Option<Request<'a>>, AllocError> {
+    let (Some(table), Some(keys)) = (given.get_str("TABLE"), given.get_strs("KEY")) else {
+        return Ok(None);
+    };
+    Ok(Some(Request::Type {
+        table,
+        keys: Vec::from_slice(alloc, keys)?,
+    }))
+}
+
+/// The arguments of `check`.
+fn check_request<'a>(
+    alloc: Global,
+    given: &ArgMatches<'a>,
+) -> Result<Option<Request<'a>>, AllocError> {
+    let Some((tables, repertoire, certificate)) = check_paths(given) else {
+        return Ok(None);
+    };
+    let fresh = match given.get_str("fresh") {
+        Some(text) => Some(names_between(alloc, text)?),
+        None => None,
+    };
+    Ok(Some(Request::Check {
+        tables,
+        fresh,
+        repertoire,
+        certificate,
+    }))
+}
+
+/// The paths of `check`.
+fn check_paths<'a>(given: &ArgMatches<'a>) -> Option<(TablePaths<'a>, &'a str, &'a str)> {
+    Some((
+        table_paths(given)?,
+        given.get_str("REPERTOIRE")?,
+        given.get_str("CERTIFICATE")?,
+    ))
+}
+
+/// The arguments of `explain`.
+fn explain_request<'a>(
+    alloc: Global,
+    given: &ArgMatches<'a>,
+) -> Result<Option<Request<'a>>, AllocError> {
+    let Some(tables) = table_paths(given) else {
+        return Ok(None);
+    };
+    Ok(Some(Request::Explain {
+        tables,
+        fresh: fresh_names(alloc, given)?,
+        all: given.get_flag("all"),
+    }))
+}
+
+/// The arguments of `make`.
+fn make_request<'a>(
+    alloc: Global,
+    given: &ArgMatches<'a>,
+) -> Result<Option<Request<'a>>, AllocError> {
+    let (Some(tables), Some(repertoire)) = (table_paths(given), given.get_str("REPERTOIRE")) else {
+        return Ok(None);
+    };
+    Ok(Some(Request::Make {
+        tables,
+        fresh: fresh_names(alloc, given)?,
+        all: given.get_flag("all"),
+        repertoire,
+        output: given.get_str("output"),
+    }))
+}
+
+/// The paths of an old and a new table.
+fn table_paths<'a>(given: &ArgMatches<'a>) -> Option<TablePaths<'a>> {
+    Some(TablePaths {
+        old: given.get_str("OLD")?,
+        new: given.get_str("NEW")?,
+    })
+}
+
+/// The names of `--fresh` between commas; none where it is not given.
+fn fresh_names<'a>(alloc: Global, given: &ArgMatches<'a>) -> Result<Vec<&'a str>, AllocError> {
+    match given.get_str("fresh") {
+        Some(text) => names_between(alloc, text),
+        None => Ok(Vec::new(alloc)),
+    }
+}
+
+/// The arguments between commas, none of an empty text. Nothing between two commas is an argument too.
+fn names_between<'a>(alloc: Global, text: &'a str) -> Result<Vec<&'a str>, AllocError>
+    ensures { IfOk result (λ arguments. map (λ argument. argument.now) arguments.items ≡ names_between text.now) }
+{
+    if text.is_empty() {
+        return Ok(Vec::new(alloc));
+    }
+    split_words(alloc, text)
+}
+
+/// The parts of a text between commas.
+fn split_words<'a>(alloc: Global, text: &'a str) -> Result<Vec<&'a str>, AllocError>
+    ensures { IfOk result (λ arguments. map (λ argument. argument.now) arguments.items ≡ slice_split (λ b. b == 44) text.now) }
+{
+    let arguments: Vec<&'a str> = text.split(',').collect(alloc)?;
+    Ok(arguments)
+}

@@ -1,7 +1,0 @@
-use Rattle.std.proofs.Common.{◌≡◌, drop}
-use Rattle.compose_cert.specs.Repertoire.{words_in}
-use Rattle.compose_cert.proofs.form.without_blanks.Given as goal
-
--- the bytes that are left have the same words
-abbrev pub invariant-loop-index : goal.invariant-loop-index
-invariant-loop-index l = words_in (drop l.index l.bytes) ≡ words_in l.bytes

@@ -1,0 +1,47 @@
+-- What a check on bytes answers, beside memory that is refused.
+use Rattle.std.specs.Prelude.{◌≡◌, [], Result, Ok, Err}
+use Rattle.keysym_core.specs.declared.fault.NameFault.TheVariants as name_faults
+use Rattle.compose_tree.specs.TableGives.{NoTable}
+use Rattle.compose_migration.specs.Migration.{no_names, no_table}
+use Rattle.compose_migration.specs.MigrationGives.{TableFails}
+use Rattle.compose_migration.specs.declared.fault.Side.TheVariants as sides
+use Rattle.compose_cert.specs.declared.CertFault.TheVariants as cert_faults
+use Rattle.compose_cert.specs.declared.RepertoireFault.TheVariants as repertoire_faults
+use Rattle.compose_check.specs.Input.{Input, Parts, Unread, no_migration, no_repertoire, no_certificate, verdict_on}
+use Rattle.compose_check.specs.declared.verdict.Verdict.{Verdict}
+use Rattle.compose_check.specs.declared.input.CheckInput.{CheckInput}
+use Rattle.compose_check.specs.declared.input.InputFault.{InputFault}
+use Rattle.compose_check.specs.declared.input.InputFault.TheVariants.{Names, Old, New, Repertoire, Certificate, NoMemory}
+
+abbrev pub input_of : CheckInput → Input
+input_of i = record {
+  migration = record {
+    header = i.header.now;
+    key_names = [];
+    old = record { sources = i.old.now; rule = i.old_rule };
+    new = record { sources = i.new.now; rule = i.new_rule };
+  };
+  repertoire = i.repertoire.now;
+  certificate = i.certificate.now;
+}
+
+-- the fault says which part says nothing, and why; memory that is refused is the whole's own fault
+abbrev pub InputRefused : {P : Type 0} → InputFault → Result P Unread → Type 0
+InputRefused (Names name_faults.NoMemory) said = ⊥
+InputRefused (Names fault) said = said ≡ Err (no_migration (no_names fault))
+InputRefused (Old fault) said = (why : NoTable) × (said ≡ Err (no_migration (no_table sides.Old why))) × TableFails fault (Err why)
+InputRefused (New fault) said = (why : NoTable) × (said ≡ Err (no_migration (no_table sides.New why))) × TableFails fault (Err why)
+InputRefused (Repertoire repertoire_faults.NoMemory) said = ⊥
+InputRefused (Repertoire fault) said = said ≡ Err (no_repertoire fault)
+InputRefused (Certificate cert_faults.NoMemory) said = ⊥
+InputRefused (Certificate fault) said = said ≡ Err (no_certificate fault)
+InputRefused NoMemory said = Unit {0}
+
+-- what is read of the parts that are said, or the fault of the first one that says nothing
+abbrev pub InputGives : {P A : Type 0} → (P → A → Type 0) → Result A InputFault → Result P Unread → Type 0
+InputGives {P} reads (Ok read) said = (parts : P) × (said ≡ Ok parts) × reads parts read
+InputGives reads (Err fault) said = InputRefused fault said
+
+-- the verdict on the parts that are said
+abbrev pub CheckGives : Result Verdict InputFault → Result Parts Unread → Type 0
+CheckGives result said = InputGives (λ parts verdict. verdict ≡ verdict_on parts) result said

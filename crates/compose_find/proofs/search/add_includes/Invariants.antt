@@ -1,0 +1,10 @@
+use Rattle.std.proofs.Common.{◌≡◌, ◌≤◌, length, drop}
+use Rattle.compose_find.specs.Found as found
+use Rattle.compose_find.specs.FindGives.{words}
+use Rattle.compose_find.proofs.search.add_includes.Given as goal
+
+-- the includes that are left bring the sources to what all of them do
+abbrev pub invariant-loop-include : goal.invariant-loop-include
+invariant-loop-include l =
+    (found.with_includes l.files (words l.meanings) l.from (drop l.include-index l.includes) l.sources.items ≡ found.with_includes l.files (words l.meanings) l.from l.includes l.fn.sources.items)
+    × (length l.sources.items ≤ 64)

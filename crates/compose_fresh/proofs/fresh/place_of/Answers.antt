@@ -1,8 +1,0 @@
-use Rattle.compose_fresh.proofs.Places.{searched_place, searched_none}
-use Rattle.compose_fresh.proofs.fresh.place_of.Goals as goal
-
-pub returns-in-Ok : goal.returns-in-Ok
-returns-in-Ok c = searched_place c.args.keysyms.now c.args.keysym c.in-Ok.place c.requires c.in-Ok.ensures.position
-
-pub returns-in-Err : goal.returns-in-Err
-returns-in-Err c = searched_none c.args.keysyms.now c.args.keysym c.in-Err.field-0 c.requires c.in-Err.ensures.position

@@ -1,8 +1,0 @@
--- Words joined by commas (code 44).
-use Rattle.std.specs.Prelude.{ℕ, ◌==◌, List, [], ◌∷◌}
-use Rattle.std.specs.List.{slice_split}
-
--- an empty text has no words
-abbrev pub words_between : List ℕ → List (List ℕ)
-words_between [] = []
-words_between (b ∷ text) = slice_split (λ c. c == 44) (b ∷ text)

@@ -1,0 +1,84 @@
+//! Hints of where a name stands, by its first and last bytes.
+use crate::keysym::Keysym;
+use indexmap::IndexMap;
+use std::alloc::{AllocError, Global};
+
+/// How many hints there are for each name: the more, the fewer names fall together.
+const HINTS_PER_NAME: usize = 4;
+
+/// Odd numbers without a pattern, which spread a product's upper bits.
+const SPREAD_OF_FIRST: u64 = 0x9e37_79b9_7f4a_7c15;
+
+const SPREAD_OF_LAST: u64 = 0xff51_afd7_ed55_8ccd;
+
+/// For the names of a table, where each stands among them: 8 bytes a name.
+///
+/// Where names fall together, the hint is right for the first of them alone. So a hint is checked before it is used.
+#[derive(Drop)]
+pub(crate) struct Hints {
+    indexes: Vec<u16>,
+}
+
+impl Hints {
+    /// The hints for these names. O(names).
+    pub(crate) fn new(
+        alloc: Global,
+        names: &IndexMap<String, Keysym>,
+    ) -> Result<Hints, AllocError> {
+        let mut hints = Hints {
+            indexes: vec![in alloc; 0; names.len().saturating_mul(HINTS_PER_NAME)]?,
+        };
+        for (index, name) in names.keys().enumerate() {
+            hints.note(name.as_bytes(), index);
+        }
+        Ok(hints)
+    }
+
+    /// The hint for a name. O(1).
+    pub(crate) fn index_of(&self, name: &[u8]) -> usize {
+        match self.indexes.get(self.slot(name)) {
+            Some(index) => usize::from(*index),
+            None => 0,
+        }
+    }
+
+    /// Notes where a name stands, unless an earlier one falls together with it.
+    fn note(&mut self, name: &[u8], index: usize) {
+        let slot = self.slot(name);
+        if let (Some(hint), Ok(index)) = (self.indexes.get_mut(slot), u16::try_from(index)) {
+            if *hint == 0 {
+                *hint = index;
+            }
+        }
+    }
+
+    /// Which hint is that for this name: a hash of its ends, scaled to the number of hints. O(1).
+    fn slot(&self, name: &[u8]) -> usize {
+        let (first, last) = ends(name);
+        let of_first = first.wrapping_mul(SPREAD_OF_FIRST);
+        let of_last = last.wrapping_mul(SPREAD_OF_LAST);
+        let hash = of_first.wrapping_add(of_last) >> 32;
+        (hash.wrapping_mul(self.indexes.len() as u64) >> 32) as usize
+    }
+}
+
+/// The first and the last bytes of a name as two numbers: eight of each, or four, or one, as far as the name is long enough. O(1).
+fn ends(name: &[u8]) -> (u64, u64) {
+    match (name.first_chunk(), name.last_chunk()) {
+        (Some(first), Some(last)) => (u64::from_le_bytes(*first), u64::from_le_bytes(*last)),
+        _ => short_ends(name),
+    }
+}
+
+/// The same of a name with fewer than eight bytes.
+fn short_ends(name: &[u8]) -> (u64, u64) {
+    if let (Some(first), Some(last)) = (name.first_chunk(), name.last_chunk()) {
+        let first = u32::from_le_bytes(*first);
+        let last = u32::from_le_bytes(*last);
+        return (u64::from(first), u64::from(last));
+    }
+    match (name.first(), name.last()) {
+        (Some(first), Some(last)) => (u64::from(*first), u64::from(*last)),
+        _ => (0, 0),
+    }
+}
