@@ -217,7 +217,8 @@ fn fresh_names<'a>(alloc: Global, given: &ArgMatches<'a>) -> Result<Vec<&'a str>
 
 /// The arguments between commas, none of an empty text. Nothing between two commas is an argument too.
 fn names_between<'a>(alloc: Global, text: &'a str) -> Result<Vec<&'a str>, AllocError>
-    ensures { IfOk result (λ arguments. map (λ argument. argument.now) arguments.items ≡ names_between text.now) }
+    ensures { IfOk result
+        (λ arguments. map (λ argument. argument.now) arguments.items ≡ names_between text.now) }
 {
     if text.is_empty() {
         return Ok(Vec::new(alloc));
@@ -227,7 +228,9 @@ fn names_between<'a>(alloc: Global, text: &'a str) -> Result<Vec<&'a str>, Alloc
 
 /// The parts of a text between commas.
 fn split_words<'a>(alloc: Global, text: &'a str) -> Result<Vec<&'a str>, AllocError>
-    ensures { IfOk result (λ arguments. map (λ argument. argument.now) arguments.items ≡ slice_split (λ b. b == 44) text.now) }
+    ensures { IfOk result
+        (λ arguments. map (λ argument. argument.now) arguments.items
+        ≡ slice_split (λ b. b == 44) text.now) }
 {
     let arguments: Vec<&'a str> = text.split(',').collect(alloc)?;
     Ok(arguments)

@@ -22,7 +22,9 @@ module _ (bytes name rest : List ℕ) (head : sized_by_2 bytes ≡ Some (name, r
   named_so = ap (λ o. o >>= (λ p. named p.0 p.1)) head
 
   pub no_text : (sources : List Source) → is_utf8 name ≡ false → more_source sources bytes ≡ None
-  no_text sources f = ap (λ o. o >>= (λ p. if nat_lt (source_named sources p.0.name) (length sources) then None else Some p)) (named_so ∙ ap (λ b. cond b (sized_by_4 rest >>= (λ p. Some (record { name = name; bytes = p.0 }, p.1))) None) f)
+  no_text sources f =
+      ap (λ o. o >>= (λ p. if nat_lt (source_named sources p.0.name) (length sources) then None else Some p))
+      (named_so ∙ ap (λ b. cond b (sized_by_4 rest >>= (λ p. Some (record { name = name; bytes = p.0 }, p.1))) None) f)
 
   module _ (text : is_utf8 name ≡ true) (content left : List ℕ) (body : sized_by_4 rest ≡ Some (content, left)) (sources : List Source) where
     abbrev pub whole : Source
@@ -30,29 +32,34 @@ module _ (bytes name rest : List ℕ) (head : sized_by_2 bytes ≡ Some (name, r
 
     found : more_source sources bytes ≡ cond (nat_lt (source_named sources name) (length sources)) None (Some (whole, left))
     found = ap (λ o. o >>= (λ p. if nat_lt (source_named sources p.0.name) (length sources) then None else Some p))
-        (named_so ∙ ap (λ b. cond b (sized_by_4 rest >>= (λ p. Some (record { name = name; bytes = p.0 }, p.1))) None) text ∙ ap (λ o. o >>= (λ p. Some (record { name = name; bytes = p.0 }, p.1))) body)
+        (named_so ∙ ap (λ b. cond b (sized_by_4 rest >>= (λ p. Some (record { name = name; bytes = p.0 }, p.1))) None) text
+        ∙ ap (λ o. o >>= (λ p. Some (record { name = name; bytes = p.0 }, p.1))) body)
 
     pub one_more : (sources' : List Source) → add_fault sources name ≡ None → sources' ≡ sources ++ whole ∷ [] → AddsSource sources bytes sources' left
     one_more sources' free e = (whole, found ∙ go (nat_lt (source_named sources name) (length sources)) free, e)
       where
-        go : (b : Bool) → (if b then Some NameTaken else (if nat_le max_sources (length sources) then Some TooManySources else None)) ≡ None → cond {A = Option (Source × List ℕ)} b None (Some (whole, left)) ≡ Some (whole, left)
+        go : (b : Bool) → (if b then Some NameTaken else (if nat_le max_sources (length sources) then Some TooManySources else None)) ≡ None
+            → cond {A = Option (Source × List ℕ)} b None (Some (whole, left)) ≡ Some (whole, left)
         go true h = cc
         go false h = refl
 
     pub name_taken : (fault : SourceFault) → add_fault sources name ≡ Some fault → length sources < 64 → more_source sources bytes ≡ None
     name_taken fault h few = found ∙ go (nat_lt (source_named sources name) (length sources)) (nat_le max_sources (length sources)) refl h
       where
-        go : (b d : Bool) → nat_le max_sources (length sources) ≡ d → (if b then Some NameTaken else (if d then Some TooManySources else None)) ≡ Some fault → cond {A = Option (Source × List ℕ)} b None (Some (whole, left)) ≡ None
+        go : (b d : Bool) → nat_le max_sources (length sources) ≡ d → (if b then Some NameTaken else (if d then Some TooManySources else None)) ≡ Some fault
+            → cond {A = Option (Source × List ℕ)} b None (Some (whole, left)) ≡ None
         go true d e g = refl
         go false true e g = absurd (too_many (leb-true 64 (length sources) e) few)
         go false false e g = cc
 
 -- one source of so many
-pub next_source : (count index : ℕ) (sources sources' : List Source) (bytes rest : List ℕ) → index < count → AddsSource sources bytes sources' rest → sources_at (count - index) sources bytes ≡ sources_at (count - (index + 1)) sources' rest
+pub next_source : (count index : ℕ) (sources sources' : List Source) (bytes rest : List ℕ) → index < count → AddsSource sources bytes sources' rest
+    → sources_at (count - index) sources bytes ≡ sources_at (count - (index + 1)) sources' rest
 next_source count index sources sources' bytes rest l a = go (count - index) (omega arith)
   where
     go : (m : ℕ) → m ≡ suc (count - (index + 1)) → sources_at m sources bytes ≡ sources_at (count - (index + 1)) sources' rest
-    go m e = ap (λ k. sources_at k sources bytes) e ∙ ap (λ o. o >>= (λ p. sources_at (count - (index + 1)) (sources ++ p.0 ∷ []) p.1)) a.1 ∙ ap (λ ss. sources_at (count - (index + 1)) ss rest) (sym a.2)
+    go m e =
+        ap (λ k. sources_at k sources bytes) e ∙ ap (λ o. o >>= (λ p. sources_at (count - (index + 1)) (sources ++ p.0 ∷ []) p.1)) a.1 ∙ ap (λ ss. sources_at (count - (index + 1)) ss rest) (sym a.2)
 
 pub no_source : (count index : ℕ) (sources : List Source) (bytes : List ℕ) → index < count → more_source sources bytes ≡ None → sources_at (count - index) sources bytes ≡ None
 no_source count index sources bytes l h = go (count - index) (omega arith)

@@ -135,7 +135,8 @@ more_read done bytes s x are h =
     let b = bound (source_at bytes) (λ (p : Source × List ℕ). cond {A = Option (Source × List ℕ)} (nat_lt (source_named done p.0.name) (length done)) None (Some p)) (s, x) h in
     go b.value b.is (nat_lt (source_named done b.value.0.name) (length done)) refl b.gives
   where
-    go : (p : Source × List ℕ) → source_at bytes ≡ Some p → (t : Bool) → nat_lt (source_named done p.0.name) (length done) ≡ t → cond {A = Option (Source × List ℕ)} t None (Some p) ≡ Some (s, x) → MoreRead done bytes s x
+    go : (p : Source × List ℕ) → source_at bytes ≡ Some p → (t : Bool) → nat_lt (source_named done p.0.name) (length done) ≡ t → cond {A = Option (Source × List ℕ)} t None (Some p) ≡ Some (s, x)
+        → MoreRead done bytes s x
     go p is true t g = cc
     go p is false t g =
         let both : p ≡ (s, x) = same_Some p (s, x) g in
@@ -195,7 +196,9 @@ ended_read sources rest b are h =
         let same : here ≡ b = same_Some here b g in
         let read : Ended sources rest here = record {
           sources_are = refl;
-          whole = whole ∙ ap (λ (y : List ℕ). to_be_bytes w32 (length certificate) ++ (certificate ++ y)) (empty_is x t) ∙ ap (λ (y : List ℕ). to_be_bytes w32 (length certificate) ++ y) (append-nil certificate);
+          whole =
+              whole ∙ ap (λ (y : List ℕ). to_be_bytes w32 (length certificate) ++ (certificate ++ y)) (empty_is x t)
+              ∙ ap (λ (y : List ℕ). to_be_bytes w32 (length certificate) ++ y) (append-nil certificate);
           fits = fits;
         } in
         subst (λ (y : Bundle). Ended sources rest y) same read
@@ -242,7 +245,8 @@ none payload are not_one = go (bundle_of payload) refl
     go (Some b) e = absurd (not_one b (only payload b are e))
 
 -- what is decoded is what the payload is
-pub read_so : (payload : List ℕ) → AreBytes payload → {X : Type 0} (view : X → Bundle) (result : Result X BundleFault) → MatchResult result (λ x. bundle_of payload ≡ Some (view x)) (λ fault. NotDecoded fault (bundle_of payload))
+pub read_so : (payload : List ℕ) → AreBytes payload → {X : Type 0} (view : X → Bundle) (result : Result X BundleFault)
+    → MatchResult result (λ x. bundle_of payload ≡ Some (view x)) (λ fault. NotDecoded fault (bundle_of payload))
     → MatchResult result (λ x. IsBundle payload (view x)) (λ fault. NotRead fault payload)
 read_so payload are view (Ok x) h = only payload (view x) are h
 read_so payload are view (Err bundle_faults.Form) h = λ b k. absurd (let no : Some b ≡ None = sym (found payload b k) ∙ h in cc)

@@ -42,7 +42,8 @@ take_more sources index s e =
     let l = slice_get_within sources index s e in
     ap (λ n. take n sources) (add-one index) ∙ take-suc sources index s l ∙ ap (λ (y : Source). take index sources ++ y ∷ []) (get_or_from_slice_get sources index s s e)
 
-pub lengths_more : (sources : List Source) (index : ℕ) (s : Source) → slice_get sources index ≡ Some s → AllByRecursion HasLengths (take index sources) → HasLengths s → AllByRecursion HasLengths (take (index + 1) sources)
+pub lengths_more : (sources : List Source) (index : ℕ) (s : Source) → slice_get sources index ≡ Some s → AllByRecursion HasLengths (take index sources) → HasLengths s
+    → AllByRecursion HasLengths (take (index + 1) sources)
 lengths_more sources index s e a h = subst (λ (ss : List Source). AllByRecursion HasLengths ss) (sym (take_more sources index s e)) (all_push HasLengths (take index sources) s a h)
 
 pub start : (sources : List Source) (items : List ℕ) → items ≡ [] ++ to_be_bytes w16 (length sources) → items ≡ so_far sources 0
@@ -61,7 +62,8 @@ module _ (sources : List Source) (certificate : List ℕ) where
   whole = record { sources = sources; certificate = certificate }
 
   -- a source that is too large makes the bundle too large
-  pub source_fails : (index : ℕ) (s : Source) (fault : BundleFault) (old new : List ℕ) → slice_get sources index ≡ Some s → old ≡ so_far sources index → Appends (HasLengths s) old (source_bytes s) (Err fault) new → Writes (Err fault) whole
+  pub source_fails : (index : ℕ) (s : Source) (fault : BundleFault) (old new : List ℕ) → slice_get sources index ≡ Some s → old ≡ so_far sources index
+      → Appends (HasLengths s) old (source_bytes s) (Err fault) new → Writes (Err fault) whole
   source_fails index s bundle_faults.Form old new e o h = absurd h
   source_fails index s bundle_faults.NoMemory old new e o h = tt
   source_fails index s bundle_faults.TooLarge old new e o h = λ f.
@@ -70,8 +72,10 @@ module _ (sources : List Source) (certificate : List ℕ) where
       let before = flat_map source_bytes (take index sources) in
       let all = flat_map source_bytes sources in
       let l = slice_get_within sources index s e in
-      let too : max_payload < length ((head ++ before) ++ source_bytes s) = subst (λ (y : List ℕ). max_payload < length (y ++ source_bytes s)) o (h (lengths_of s (at_index SourceFits sources index s f.sources e))) in
-      let among : length before + length (source_bytes s) ≤ length all = subst (λ (y : Source). length before + length (source_bytes y) ≤ length all) (get_or_from_slice_get sources index s s e) (length-flat_map-take source_bytes sources index s l) in
+      let too : max_payload < length ((head ++ before) ++ source_bytes s) =
+      subst (λ (y : List ℕ). max_payload < length (y ++ source_bytes s)) o (h (lengths_of s (at_index SourceFits sources index s f.sources e))) in
+      let among : length before + length (source_bytes s) ≤ length all =
+      subst (λ (y : Source). length before + length (source_bytes y) ≤ length all) (get_or_from_slice_get sources index s s e) (length-flat_map-take source_bytes sources index s l) in
       let e1 = length-append (head ++ before) (source_bytes s) in
       let e2 = length-append head before in
       let e3 = length-append ((head ++ all) ++ last) certificate in
@@ -84,14 +88,16 @@ module _ (sources : List Source) (certificate : List ℕ) where
       ap (λ (ss : List Source). (to_be_bytes w16 (length sources) ++ flat_map source_bytes ss) ++ (to_be_bytes w32 (length certificate) ++ certificate)) (take-length sources)
       ∙ sym (append_assoc (to_be_bytes w16 (length sources) ++ flat_map source_bytes sources) (to_be_bytes w32 (length certificate)) certificate)
 
-  pub certificate_fails : (fault : BundleFault) (old new : List ℕ) → old ≡ so_far sources (length sources) → Appends (length certificate < 2 ^ 32) old (to_be_bytes w32 (length certificate) ++ certificate) (Err fault) new → Writes (Err fault) whole
+  pub certificate_fails : (fault : BundleFault) (old new : List ℕ) → old ≡ so_far sources (length sources)
+      → Appends (length certificate < 2 ^ 32) old (to_be_bytes w32 (length certificate) ++ certificate) (Err fault) new → Writes (Err fault) whole
   certificate_fails bundle_faults.Form old new o h = absurd h
   certificate_fails bundle_faults.NoMemory old new o h = tt
   certificate_fails bundle_faults.TooLarge old new o h = λ f.
       subst (λ (y : List ℕ). max_payload < length y) (ap (λ (y : List ℕ). y ++ (to_be_bytes w32 (length certificate) ++ certificate)) o ∙ all_of_them) (h f.certificate)
 
   -- all of it is written
-  pub all_written : (u : Unit {0}) (old : List ℕ) (payload : Vec ℕ Global) → old ≡ so_far sources (length sources) → AllByRecursion HasLengths (take (length sources) sources) → AreSources sources → 0 < length sources
+  pub all_written : (u : Unit {0}) (old : List ℕ) (payload : Vec ℕ Global) → old ≡ so_far sources (length sources) → AllByRecursion HasLengths (take (length sources) sources) → AreSources sources
+      → 0 < length sources
       → Appends (length certificate < 2 ^ 32) old (to_be_bytes w32 (length certificate) ++ certificate) (Ok u) payload.items → Writes (Ok payload) whole
   all_written u old payload o a sound some h = (
     record {

@@ -28,14 +28,20 @@ pub struct Bundle<'b> {
 ///
 /// Form where the payload is no bundle, NoMemory where a growth was refused.
 pub fn read_bundle(alloc: Global, payload: &[u8]) -> Result<Bundle<'_>, BundleFault>
-    ensures { MatchResult result (λ b. IsBundle payload.now (record { sources = b.sources; certificate = b.certificate.now })) (λ fault. NotRead fault payload.now) }
+    ensures { MatchResult result
+        (λ b. IsBundle payload.now
+        (record { sources = b.sources; certificate = b.certificate.now }))
+        (λ fault. NotRead fault payload.now) }
 {
     decode(alloc, payload)
 }
 
 /// The bundle that the payload is, part by part.
 fn decode(alloc: Global, bytes: &[u8]) -> Result<Bundle<'_>, BundleFault>
-    ensures { MatchResult result (λ b. bundle_of bytes.now ≡ Some (record { sources = b.sources; certificate = b.certificate.now })) (λ fault. NotDecoded fault (bundle_of bytes.now)) }
+    ensures { MatchResult result
+        (λ b. bundle_of bytes.now
+        ≡ Some (record { sources = b.sources; certificate = b.certificate.now }))
+        (λ fault. NotDecoded fault (bundle_of bytes.now)) }
 {
     let Some((count, rest)) = split_count(bytes) else {
         return Err(BundleFault::Form);
@@ -62,7 +68,8 @@ fn decode(alloc: Global, bytes: &[u8]) -> Result<Bundle<'_>, BundleFault>
 /// So many sources, and the bytes after them.
 fn read_sources(alloc: Global, count: u16, bytes: &[u8]) -> Result<(Sources, &[u8]), BundleFault>
     requires { count ≤ 64 }
-    ensures { MatchResult result (λ p. sources_at count [] bytes.now ≡ Some (p.0, p.1.now)) (λ fault. NotDecoded fault (sources_at count [] bytes.now)) }
+    ensures { MatchResult result (λ p. sources_at count [] bytes.now ≡ Some (p.0, p.1.now))
+        (λ fault. NotDecoded fault (sources_at count [] bytes.now)) }
 {
     let mut sources = Sources::new(alloc);
     let mut rest = bytes;
@@ -82,7 +89,9 @@ fn read_source<'b>(
     bytes: &'b [u8],
 ) -> Result<&'b [u8], BundleFault>
     requires { length sources.old < 64 }
-    ensures { MatchResult result (λ rest. words.AddsSource sources.old bytes.now sources.new rest.now) (λ fault. NotDecoded fault (words.more_source sources.old bytes.now)) }
+    ensures { MatchResult result
+        (λ rest. words.AddsSource sources.old bytes.now sources.new rest.now)
+        (λ fault. NotDecoded fault (words.more_source sources.old bytes.now)) }
 {
     let Some((name, rest)) = split_by_2(bytes) else {
         return Err(BundleFault::Form);
@@ -114,7 +123,9 @@ fn copied(alloc: Global, bytes: &[u8]) -> Result<Vec<u8>, AllocError>
 
 /// A number of two bytes, and the bytes after it.
 fn split_count(bytes: &[u8]) -> Option<(u16, &[u8])>
-    ensures { MatchOption result (split 2 bytes.now ≡ None) (λ p. (head : _) × (split 2 bytes.now ≡ Some (head, p.1.now)) × (p.0 ≡ from_be_bytes w16 head)) }
+    ensures { MatchOption result (split 2 bytes.now ≡ None)
+        (λ p. (head : _) × (split 2 bytes.now ≡ Some (head, p.1.now))
+        × (p.0 ≡ from_be_bytes w16 head)) }
 {
     let (head, rest) = bytes.split_at_checked(2)?;
     Some((u16::from_be_bytes([head[0], head[1]]), rest))

@@ -45,7 +45,8 @@ pub fn write_bundle(
 /// Appends the source at this index.
 fn put_source(payload: &mut Vec<u8>, sources: &Sources, index: usize) -> Result<(), BundleFault>
     requires { index < length sources.now }
-    ensures { (s : Source) × (slice_get sources.now index ≡ Some s) × Appends (HasLengths s) payload.old.items (source_bytes s) result payload.new.items }
+    ensures { (s : Source) × (slice_get sources.now index ≡ Some s)
+        × Appends (HasLengths s) payload.old.items (source_bytes s) result payload.new.items }
 {
     let name = sources.name(index).unwrap();
     let content = sources.bytes(index);
@@ -57,7 +58,8 @@ fn put_source(payload: &mut Vec<u8>, sources: &Sources, index: usize) -> Result<
 
 /// Appends the piece after its length, of two bytes.
 fn put_sized_by_2(payload: &mut Vec<u8>, piece: &[u8]) -> Result<(), BundleFault>
-    ensures { Appends (length piece.now < 2 ^ 16) payload.old.items (to_be_bytes w16 (length piece.now) ++ piece.now) result payload.new.items }
+    ensures { Appends (length piece.now < 2 ^ 16) payload.old.items
+        (to_be_bytes w16 (length piece.now) ++ piece.now) result payload.new.items }
 {
     let Ok(size) = u16::try_from(piece.len()) else {
         return Err(BundleFault::TooLarge);
@@ -70,7 +72,8 @@ fn put_sized_by_2(payload: &mut Vec<u8>, piece: &[u8]) -> Result<(), BundleFault
 
 /// Appends the piece after its length, of four bytes.
 fn put_sized_by_4(payload: &mut Vec<u8>, piece: &[u8]) -> Result<(), BundleFault>
-    ensures { Appends (length piece.now < 2 ^ 32) payload.old.items (to_be_bytes w32 (length piece.now) ++ piece.now) result payload.new.items }
+    ensures { Appends (length piece.now < 2 ^ 32) payload.old.items
+        (to_be_bytes w32 (length piece.now) ++ piece.now) result payload.new.items }
 {
     let Ok(size) = u32::try_from(piece.len()) else {
         return Err(BundleFault::TooLarge);

@@ -56,7 +56,8 @@ keysyms_were : (words : List (List ℕ)) (keys : List ℕ) → keysyms_of words 
 keysyms_were [] keys h = let e : [] ≡ keys = cc in (ap (list_all is_keysym) (sym e), ap (map keysym_text) e)
 keysyms_were (word ∷ words) keys h = go (keysym_of word) (keysyms_of words) refl refl h (λ ks e. keysyms_were words ks e)
   where
-    go : (x : Option ℕ) (y : Option (List ℕ)) → keysym_of word ≡ x → keysyms_of words ≡ y → option_map (λ x. x.0 ∷ x.1) (both x y) ≡ Some keys → ((ks : List ℕ) → keysyms_of words ≡ Some ks → (list_all is_keysym ks ≡ true) × (words ≡ map keysym_text ks))
+    go : (x : Option ℕ) (y : Option (List ℕ)) → keysym_of word ≡ x → keysyms_of words ≡ y → option_map (λ x. x.0 ∷ x.1) (both x y) ≡ Some keys
+        → ((ks : List ℕ) → keysyms_of words ≡ Some ks → (list_all is_keysym ks ≡ true) × (words ≡ map keysym_text ks))
         → (list_all is_keysym keys ≡ true) × (word ∷ words ≡ map keysym_text keys)
     go None None d e h f = cc
     go None (Some ks) d e h f = cc
@@ -114,8 +115,11 @@ number_behind_was word line n h = go (starts_with nat_eq line (word ++ 32 ∷ []
     go : (t : Bool) → starts_with nat_eq line (word ++ 32 ∷ []) ≡ t → cond t (number_of (drop (length word + 1) line)) None ≡ Some n → (is_number n ≡ true) × (line ≡ counted word n)
     go false e h = cc
     go true e h =
-        let a = number_was (drop (length word + 1) line) n h in
-        (a.0, starts_was (word ++ 32 ∷ []) line e ∙ ap (λ k. (word ++ 32 ∷ []) ++ drop k line) (length-append word (32 ∷ [])) ∙ ap (λ ds. (word ++ 32 ∷ []) ++ ds) a.1 ∙ append_assoc word (32 ∷ []) (decimal n))
+        let a = number_was (drop (length word + 1) line) n h in (
+          a.0,
+          starts_was (word ++ 32 ∷ []) line e ∙ ap (λ k. (word ++ 32 ∷ []) ++ drop k line) (length-append word (32 ∷ [])) ∙ ap (λ ds. (word ++ 32 ∷ []) ++ ds) a.1
+              ∙ append_assoc word (32 ∷ []) (decimal n),
+        )
 
 abbrev version_text : ℕ → List ℕ
 version_text v = if v == 1 then codes "compose-certificate 1" else codes "compose-certificate 2"
@@ -137,7 +141,8 @@ bind_with : {A B P : Type 0} (r : Result A CertFault) (f : A → Result B CertFa
 bind_with (Ok x) f y h on = on x refl h
 bind_with (Err e) f y h on = cc
 
-line_was : {A : Type 0} (form : List ℕ → Option A) (n : ℕ) (lines : List (List ℕ)) (x : A × List (List ℕ)) → line_at form n lines ≡ Ok x → (line : List ℕ) × (lines ≡ line ∷ x.1) × (form line ≡ Some x.0)
+line_was : {A : Type 0} (form : List ℕ → Option A) (n : ℕ) (lines : List (List ℕ)) (x : A × List (List ℕ)) → line_at form n lines ≡ Ok x
+    → (line : List ℕ) × (lines ≡ line ∷ x.1) × (form line ≡ Some x.0)
 line_was form n [] x h = cc
 line_was form n (line ∷ []) x h = cc
 line_was {A} form n (line ∷ next ∷ lines) x h = go (form line) refl h
@@ -333,7 +338,8 @@ pub is_counted-certificate : (c : Certificate) → is_certificate c ≡ true →
 is_counted-certificate c h =
     let p = certificate_parts c h in
     and_from (are_counted c.pairs c.typings) (nat_le (length c.fresh) max_count)
-    (and_from (nat_le (length c.pairs) max_count && nat_le (length c.typings) max_count) (list_all is_typed c.typings) (and_from (nat_le (length c.pairs) max_count) (nat_le (length c.typings) max_count) p.few_pairs p.few_typings) (all c.typings p.typings)) p.few_fresh
+    (and_from (nat_le (length c.pairs) max_count && nat_le (length c.typings) max_count) (list_all is_typed c.typings)
+    (and_from (nat_le (length c.pairs) max_count) (nat_le (length c.typings) max_count) p.few_pairs p.few_typings) (all c.typings p.typings)) p.few_fresh
   where
     all : (ts : List Typing) → list_all is_typing ts ≡ true → list_all is_typed ts ≡ true
     all [] h = refl

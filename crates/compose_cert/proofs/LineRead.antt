@@ -103,7 +103,8 @@ some_from_ok None e x h = cc
 some_from_ok (Some v) e x h = cc
 
 pub typing_read : (line word words : List ℕ) (character : ℕ) (keys : List ℕ) (n : ℕ) → divide 32 line ≡ word ∷ divide 32 words → Some character ≡ character_of word
-    → option_map_or (λ v. Ok v) (keysyms_of (divide 32 words)) (Err (NotText n)) ≡ Ok keys → option_map_or (λ v. Ok v) (typing_of line) (Err (NotText n)) ≡ Ok (record { character = character; keys = keys })
+    → option_map_or (λ v. Ok v) (keysyms_of (divide 32 words)) (Err (NotText n)) ≡ Ok keys
+    → option_map_or (λ v. Ok v) (typing_of line) (Err (NotText n)) ≡ Ok (record { character = character; keys = keys })
 typing_read line word words character keys n d c k =
     let told = typing_told line word words d in
     let some = some_from_ok (keysyms_of (divide 32 words)) (NotText n) keys k in
@@ -111,13 +112,15 @@ typing_read line word words character keys n d c k =
 
 -- ---- a line before others
 
-pub line_read : {A : Type 0} (form : List ℕ → Option A) (n : ℕ) (bytes line rest : List ℕ) (x : A) → divide 10 bytes ≡ line ∷ divide 10 rest → form line ≡ Some x → line_at form n (divide 10 bytes) ≡ Ok (x, divide 10 rest)
+pub line_read : {A : Type 0} (form : List ℕ → Option A) (n : ℕ) (bytes line rest : List ℕ) (x : A) → divide 10 bytes ≡ line ∷ divide 10 rest → form line ≡ Some x
+    → line_at form n (divide 10 bytes) ≡ Ok (x, divide 10 rest)
 line_read form n bytes line rest x d e =
     let h = divide_first 10 rest in
     let parts : divide 10 bytes ≡ line ∷ h.first ∷ h.others = d ∙ ap (λ ls. line ∷ ls) h.is in
     ap (line_at form n) parts ∙ rw (h.is, e) refl
 
-pub line_refused : {A : Type 0} (form : List ℕ → Option A) (n : ℕ) (bytes line rest : List ℕ) → divide 10 bytes ≡ line ∷ divide 10 rest → form line ≡ None → line_at form n (divide 10 bytes) ≡ Err (NotText n)
+pub line_refused : {A : Type 0} (form : List ℕ → Option A) (n : ℕ) (bytes line rest : List ℕ) → divide 10 bytes ≡ line ∷ divide 10 rest → form line ≡ None
+    → line_at form n (divide 10 bytes) ≡ Err (NotText n)
 line_refused form n bytes line rest d e =
     let h = divide_first 10 rest in
     let parts : divide 10 bytes ≡ line ∷ h.first ∷ h.others = d ∙ ap (λ ls. line ∷ ls) h.is in
@@ -142,7 +145,8 @@ end_behind n bytes l = go (divide 10 bytes) refl
     go ([] ∷ part ∷ parts) d = refl
     go ((b ∷ part) ∷ parts) d = refl
 
-typing_line : (n : ℕ) (bytes line rest : List ℕ) (t : Typing) → divide 10 bytes ≡ line ∷ divide 10 rest → option_map_or (λ v. Ok v) (typing_of line) (Err (NotText n)) ≡ Ok t → line_at typing_of n (divide 10 bytes) ≡ Ok (t, divide 10 rest)
+typing_line : (n : ℕ) (bytes line rest : List ℕ) (t : Typing) → divide 10 bytes ≡ line ∷ divide 10 rest → option_map_or (λ v. Ok v) (typing_of line) (Err (NotText n)) ≡ Ok t
+    → line_at typing_of n (divide 10 bytes) ≡ Ok (t, divide 10 rest)
 typing_line n bytes line rest t d h = line_read typing_of n bytes line rest t d (some_from_ok (typing_of line) (NotText n) t h)
 
 pub typing_few : (n : ℕ) (bytes line rest : List ℕ) (t : Typing) → divide 10 bytes ≡ line ∷ divide 10 rest → option_map_or (λ v. Ok v) (typing_of line) (Err (NotText n)) ≡ Ok t

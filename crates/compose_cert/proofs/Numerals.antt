@@ -131,7 +131,8 @@ value_grows UpperHexadecimal n (c ∷ ds) = omega (arith, value_grows UpperHexad
 
 -- ---- digits with no zero before them, written again
 
-onto_step : (upper : Bool) (k n v d : ℕ) (acc : List ℕ) → n / 16 ≡ v → digit_glyph upper (n % 16) ≡ d → digits_onto (suc k) 16 upper n acc ≡ cond (v == 0) (d ∷ acc) (digits_onto k 16 upper v (d ∷ acc))
+onto_step : (upper : Bool) (k n v d : ℕ) (acc : List ℕ) → n / 16 ≡ v → digit_glyph upper (n % 16) ≡ d
+    → digits_onto (suc k) 16 upper n acc ≡ cond (v == 0) (d ∷ acc) (digits_onto k 16 upper v (d ∷ acc))
 onto_step upper k n v d acc q r = rw (q, r) refl
 
 -- a number that isn't m, and not below it, is above it
@@ -192,7 +193,8 @@ above_47 true c h = go (or_cases (is_between 48 57 c) (is_between 65 70 c) h)
     go (inl a) = from 48 57 c a
     go (inr a) = omega (arith, from 65 70 c a)
 
-hex_again : (upper : Bool) (ds : List ℕ) → list_all (is_hex upper) ds ≡ true → 0 < length ds → (get_or ds 0 0 ≡ 48 → length ds ≡ 1) → digits_value 16 ds < 2 ^ 32 → digits 16 upper (digits_value 16 ds) ≡ ds
+hex_again : (upper : Bool) (ds : List ℕ) → list_all (is_hex upper) ds ≡ true → 0 < length ds → (get_or ds 0 0 ≡ 48 → length ds ≡ 1) → digits_value 16 ds < 2 ^ 32
+    → digits 16 upper (digits_value 16 ds) ≡ ds
 unfolding digits
 hex_again upper [] a s f l = absurd (omega arith)
 hex_again upper (c ∷ cs) a s f l =
@@ -202,7 +204,8 @@ hex_again upper (c ∷ cs) a s f l =
     let all = all_push (is_hex upper) last.0 last.1 (ap (list_all (is_hex upper)) (sym last.2) ∙ a) in
     let is : digits_value 16 (c ∷ cs) ≡ digits_value 16 (last.0 ++ last.1 ∷ []) = ap (digits_value 16) last.2 in
     let size = ap length last.2 ∙ length-append last.0 (last.1 ∷ []) in
-    let first : 0 < length last.0 → 48 < get_or last.0 0 0 = λ s. omega (arith, above_from 48 c low (λ z. omega (arith, f z)), get_or_append_left last.0 (last.1 ∷ []) 0 0 s, ap (λ ds. get_or ds 0 0) last.2) in
+    let first : 0 < length last.0
+    → 48 < get_or last.0 0 0 = λ s. omega (arith, above_from 48 c low (λ z. omega (arith, f z)), get_or_append_left last.0 (last.1 ∷ []) 0 0 s, ap (λ ds. get_or ds 0 0) last.2) in
     ap (digits 16 upper) is ∙ written_onto upper 63 last.0 last.1 [] all.0 all.1 first (omega arith) ∙ sym last.2
 
 hex_parts : (upper : Bool) (n : ℕ) → n < 2 ^ 32 → (list_all (is_hex upper) (digits 16 upper n) ≡ true) × (0 < n → 48 < get_or (digits 16 upper n) 0 0)
@@ -218,7 +221,8 @@ pub record IsWritten (k : Notation) (n : ℕ) (ds : List ℕ) : Type 0 where
   pub no_zero : get_or ds 0 0 ≡ 48 → length ds ≡ 1
   pub value : digits_value (radix k) ds ≡ n
 
-hex_written : (upper : Bool) (n : ℕ) → n < 2 ^ 32 → (0 < length (digits 16 upper n)) × (get_or (digits 16 upper n) 0 0 ≡ 48 → length (digits 16 upper n) ≡ 1) × (digits_value 16 (digits 16 upper n) ≡ n)
+hex_written : (upper : Bool) (n : ℕ) → n < 2 ^ 32
+    → (0 < length (digits 16 upper n)) × (get_or (digits 16 upper n) 0 0 ≡ 48 → length (digits 16 upper n) ≡ 1) × (digits_value 16 (digits 16 upper n) ≡ n)
 hex_written upper n l =
     let is = digits_is_IsNumeral 16 upper (omega arith) (omega arith) n (omega arith) in
     (is.0.0, λ z. alone (cases_eq n 0) z, is.1)
@@ -251,7 +255,8 @@ is_written Decimal n o l =
 is_written LowerHexadecimal n o l = let w = hex_written false n l in record { digits = (hex_parts false n l).0; some = w.0; no_zero = w.1; value = w.2 }
 is_written UpperHexadecimal n o l = let w = hex_written true n l in record { digits = (hex_parts true n l).0; some = w.0; no_zero = w.1; value = w.2 }
 
-pub written_again : (k : Notation) (ds : List ℕ) → is_one_case k ≡ true → list_all (is_digit k) ds ≡ true → 0 < length ds → (get_or ds 0 0 ≡ 48 → length ds ≡ 1) → digits_value (radix k) ds < 2 ^ 32 → numeral k (digits_value (radix k) ds) ≡ ds
+pub written_again : (k : Notation) (ds : List ℕ) → is_one_case k ≡ true → list_all (is_digit k) ds ≡ true → 0 < length ds → (get_or ds 0 0 ≡ 48 → length ds ≡ 1) → digits_value (radix k) ds < 2 ^ 32
+    → numeral k (digits_value (radix k) ds) ≡ ds
 written_again EitherHexadecimal ds o a s f l = absurd (false≢true o)
 written_again Decimal ds o a s f l = decimal-digits_value (numerals_by_value (AllDigits 10) tells_digits) ds (digits_decimal_again ds a) s f (omega arith)
 written_again LowerHexadecimal ds o a s f l = hex_again false ds a s f l
@@ -280,7 +285,8 @@ too_great k most more i word l v =
     let both : (list_all (is_digit k) word && nat_le (digits_value (radix k) word) most) ≡ false = and_right (list_all (is_digit k) word) (nat_le (digits_value (radix k) word) most) e in
     rw both refl
 
-pub spelled_by_value : (k : Notation) (most : ℕ) (word : List ℕ) → is_one_case k ≡ true → most < 2 ^ 32 → 0 < length word → (get_or word 0 0 ≡ 48 → length word ≡ 1) → IsSpelled (numeral k) most word (value_up_to k most word)
+pub spelled_by_value : (k : Notation) (most : ℕ) (word : List ℕ) → is_one_case k ≡ true → most < 2 ^ 32 → 0 < length word → (get_or word 0 0 ≡ 48 → length word ≡ 1)
+    → IsSpelled (numeral k) most word (value_up_to k most word)
 spelled_by_value k most word o m s f = go (list_all (is_digit k) word && nat_le (digits_value (radix k) word) most) refl
   where
     go : (t : Bool) → (list_all (is_digit k) word && nat_le (digits_value (radix k) word) most) ≡ t → IsSpelled (numeral k) most word (cond t (Some (digits_value (radix k) word)) None)

@@ -44,7 +44,8 @@ filled (suc count) word rest is l f =
     let size : length word ≡ suc count + length rest = ap length is ∙ length-append (replicate (suc count) 48) rest ∙ ap (λ n. n + length rest) (length-replicate (suc count) 48) in
     omega arith
 
-padded_again : (word : List ℕ) → list_all (is_digit UpperHexadecimal) word ≡ true → 4 ≤ length word → (get_or word 0 0 ≡ 48 → length word ≡ 4) → digits_value 16 word < 2 ^ 32 → padded (digits_value 16 word) ≡ word
+padded_again : (word : List ℕ) → list_all (is_digit UpperHexadecimal) word ≡ true → 4 ≤ length word → (get_or word 0 0 ≡ 48 → length word ≡ 4) → digits_value 16 word < 2 ^ 32
+    → padded (digits_value 16 word) ≡ word
 padded_again word a l f small =
     let r = strip word (omega arith) in
     let value : digits_value 16 word ≡ digits_value 16 r.rest = ap (digits_value 16) r.is ∙ zeros r.count r.rest in

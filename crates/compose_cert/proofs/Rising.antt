@@ -34,7 +34,8 @@ above_ranges (r ∷ s ∷ rs) k h l =
         let b : suc (length rs) - 1 ≡ length rs = omega arith in
         ap (λ i. nat_lt (get_or (r ∷ s ∷ rs) i (0, 0)).1 k) a ∙ ap (λ i. nat_lt (get_or (s ∷ rs) i (0, 0)).1 k) (sym b)
 
-    go : (t : Bool) → list_all (λ r. nat_lt r.1 k) (s ∷ rs) ≡ t → nat_lt (get_or (r ∷ s ∷ rs) (length (r ∷ s ∷ rs) - 1) (0, 0)).1 k ≡ list_all (λ r. nat_lt r.1 k) (s ∷ rs) → nat_lt r.1 s.0 ≡ true → nat_le s.0 s.1 ≡ true
+    go : (t : Bool) → list_all (λ r. nat_lt r.1 k) (s ∷ rs) ≡ t → nat_lt (get_or (r ∷ s ∷ rs) (length (r ∷ s ∷ rs) - 1) (0, 0)).1 k ≡ list_all (λ r. nat_lt r.1 k) (s ∷ rs) → nat_lt r.1 s.0 ≡ true
+        → nat_le s.0 s.1 ≡ true
         → nat_lt (get_or (r ∷ s ∷ rs) (length (r ∷ s ∷ rs) - 1) (0, 0)).1 k ≡ (nat_lt r.1 k && list_all (λ r. nat_lt r.1 k) (s ∷ rs))
     go true e i a b =
         let below = ltb-true s.1 k (and_parts (nat_lt s.1 k) (list_all (λ r. nat_lt r.1 k) rs) e).0 in
@@ -67,7 +68,8 @@ above_characters (d ∷ e ∷ cs) c h l =
 
 ranges_push : (rs : List (ℕ × ℕ)) (first last : ℕ) → ranges_rise rs ≡ true → list_all (λ r. nat_lt r.1 first) rs ≡ true → first ≤ last → ranges_rise (rs ++ (first, last) ∷ []) ≡ true
 ranges_push [] first last h b l = le-leb first last l
-ranges_push (r ∷ []) first last h b l = and_from (nat_le r.0 r.1 && nat_lt r.1 first) (nat_le first last) (and_from (nat_le r.0 r.1) (nat_lt r.1 first) h (and_parts (nat_lt r.1 first) true b).0) (le-leb first last l)
+ranges_push (r ∷ []) first last h b l =
+    and_from (nat_le r.0 r.1 && nat_lt r.1 first) (nat_le first last) (and_from (nat_le r.0 r.1) (nat_lt r.1 first) h (and_parts (nat_lt r.1 first) true b).0) (le-leb first last l)
 ranges_push (r ∷ s ∷ rs) first last h b l =
     let p = and_parts (nat_le r.0 r.1 && nat_lt r.1 s.0) (ranges_rise (s ∷ rs)) h in
     let q = and_parts (nat_lt r.1 first) (list_all (λ r. nat_lt r.1 first) (s ∷ rs)) b in
@@ -81,7 +83,8 @@ characters_push (d ∷ e ∷ cs) c h b =
     let q = and_parts (nat_lt d c) (list_all (λ d. nat_lt d c) (e ∷ cs)) b in
     and_from (nat_lt d e) (keys_rise (e ∷ (cs ++ c ∷ []))) p.0 (characters_push (e ∷ cs) c p.1 q.1)
 
-pub range_added : (r : Repertoire) (first last : ℕ) → IsRepertoire r → list_all (λ k. nat_lt k.1 first) r.keys ≡ true → first ≤ last → length r.keys < max_entries → IsRepertoire (record r { keys = r.keys ++ (first, last) ∷ [] })
+pub range_added : (r : Repertoire) (first last : ℕ) → IsRepertoire r → list_all (λ k. nat_lt k.1 first) r.keys ≡ true → first ≤ last → length r.keys < max_entries
+    → IsRepertoire (record r { keys = r.keys ++ (first, last) ∷ [] })
 range_added r first last s b l m = record {
   rise = s.rise;
   few = s.few;
@@ -89,7 +92,8 @@ range_added r first last s b l m = record {
   ranges_rise = ranges_push r.keys first last s.ranges_rise b l;
 }
 
-pub character_added : (r : Repertoire) (c : ℕ) → IsRepertoire r → list_all (λ d. nat_lt d c) r.characters ≡ true → length r.characters < max_entries → IsRepertoire (record r { characters = r.characters ++ c ∷ [] })
+pub character_added : (r : Repertoire) (c : ℕ) → IsRepertoire r → list_all (λ d. nat_lt d c) r.characters ≡ true → length r.characters < max_entries
+    → IsRepertoire (record r { characters = r.characters ++ c ∷ [] })
 character_added r c s b m = record {
   rise = characters_push r.characters c s.rise b;
   few = omega (arith, length-append r.characters (c ∷ []));
@@ -102,7 +106,8 @@ character_added r c s b m = record {
 pub range_falls : (n first last : ℕ) (r : Repertoire) → length r.characters ≡ 0 → list_all (λ k. nat_lt k.1 first) r.keys ≡ false → with_entry n (Some (Keys first last)) r ≡ Err (NotRising n)
 range_falls n first last r e b = rw (le-ltb 0 (length r.characters) (omega arith), b) refl
 
-pub ranges_many : (n first last : ℕ) (r : Repertoire) → length r.characters ≡ 0 → list_all (λ k. nat_lt k.1 first) r.keys ≡ true → max_entries ≤ length r.keys → with_entry n (Some (Keys first last)) r ≡ Err TooMany
+pub ranges_many : (n first last : ℕ) (r : Repertoire) → length r.characters ≡ 0 → list_all (λ k. nat_lt k.1 first) r.keys ≡ true → max_entries ≤ length r.keys
+    → with_entry n (Some (Keys first last)) r ≡ Err TooMany
 ranges_many n first last r e b m = rw (le-ltb 0 (length r.characters) (omega arith), b, le-leb max_entries (length r.keys) m) refl
 
 pub character_falls : (n c : ℕ) (r : Repertoire) → list_all (λ d. nat_lt d c) r.characters ≡ false → with_entry n (Some (Character c)) r ≡ Err (NotRising n)
@@ -161,7 +166,8 @@ begins_above rs m k h b i a l = go (cases_lt m i)
     go (inl c) = omega (arith, ranges_apart rs m i h c l, range_goes_up rs m h (omega arith))
     go (inr c) = let e : i ≡ m = omega arith in omega (arith, ap (λ j. (get_or rs j (0, 0)).0) e)
 
-pub in_none_of_all : (rs : List (ℕ × ℕ)) (low high k : ℕ) → high ≤ low → ((i : ℕ) → i < low → (get_or rs i (0, 0)).1 < k) → ((i : ℕ) → high ≤ i → i < length rs → k < (get_or rs i (0, 0)).0) → list_any (λ r. is_between r.0 r.1 k) rs ≡ false
+pub in_none_of_all : (rs : List (ℕ × ℕ)) (low high k : ℕ) → high ≤ low → ((i : ℕ) → i < low → (get_or rs i (0, 0)).1 < k) → ((i : ℕ) → high ≤ i → i < length rs → k < (get_or rs i (0, 0)).0)
+    → list_any (λ r. is_between r.0 r.1 k) rs ≡ false
 in_none_of_all rs low high k l b a = in_none rs k (λ i m. go i m (cases_lt i low))
   where
     go : (i : ℕ) → i < length rs → (i < low) ⊎ (low ≤ i) → ((get_or rs i (0, 0)).1 < k) ⊎ (k < (get_or rs i (0, 0)).0)

@@ -21,7 +21,8 @@ all_typings (x ∷ ts) s t =
     and_from (is_typing x) (list_all is_typing ts) one (all_typings ts a.1 b.1)
 
 -- counted parts that are numbers, typings and keysyms make a certificate
-pub certificate_from_parts : (c : Certificate) → is_counted c ≡ true → c.bound < 2 ^ 32 → list_all are_numbers c.pairs ≡ true → list_all is_spelled c.typings ≡ true → list_all is_keysym c.fresh ≡ true → is_certificate c ≡ true
+pub certificate_from_parts : (c : Certificate) → is_counted c ≡ true → c.bound < 2 ^ 32 → list_all are_numbers c.pairs ≡ true → list_all is_spelled c.typings ≡ true → list_all is_keysym c.fresh ≡ true
+    → is_certificate c ≡ true
 certificate_from_parts c n b ps ts fs =
     let a = and_parts (are_counted c.pairs c.typings) (nat_le (length c.fresh) max_count) n in
     let d = and_parts (nat_le (length c.pairs) max_count && nat_le (length c.typings) max_count) (list_all is_typed c.typings) a.0 in

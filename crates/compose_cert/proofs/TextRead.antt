@@ -28,7 +28,8 @@ pair_again p h =
     let parts = and_parts (is_number p.0) (is_number p.1) h in
     let a = ltb-true p.0 0x100000000 parts.0 in
     let b = ltb-true p.1 0x100000000 parts.1 in
-    let words : divide 32 (pair_text p) ≡ decimal p.0 ∷ decimal p.1 ∷ [] = word_divided (decimal p.0) (decimal p.1) (decimal_plain p.0 (omega arith)) ∙ ap (λ ws. decimal p.0 ∷ ws) (word_alone (decimal p.1) (decimal_plain p.1 (omega arith))) in
+    let words : divide 32 (pair_text p) ≡ decimal p.0 ∷ decimal p.1 ∷ [] =
+    word_divided (decimal p.0) (decimal p.1) (decimal_plain p.0 (omega arith)) ∙ ap (λ ws. decimal p.0 ∷ ws) (word_alone (decimal p.1) (decimal_plain p.1 (omega arith))) in
     let first : number_of (decimal p.0) ≡ Some p.0 = number_again p.0 parts.0 in
     let second : number_of (decimal p.1) ≡ Some p.1 = number_again p.1 parts.1 in
     ap pair_of_words words ∙ ap (λ o. both o (number_of (decimal p.1))) first ∙ ap (both (Some p.0)) second
@@ -87,7 +88,8 @@ count_again : (word : List ℕ) (n count : ℕ) (rest : List (List ℕ)) → num
 count_again word n count rest e few l = ap (λ r. r >>= if_few (λ count. count)) (line_again (number_behind word) n (counted word count) rest count e l) ∙ rw (not_more count max_count few) refl
 
 typing_line : (n : ℕ) (t : Typing) (rest : List (List ℕ)) → is_typing t ≡ true → 0 < length rest → typing_at n (typing_text t ∷ rest) ≡ Ok (t, rest)
-typing_line n t rest h l = ap (λ r. r >>= if_few (λ (t : Typing). length t.keys)) (line_again typing_of n (typing_text t) rest t (typing_again t h) l) ∙ rw (not_more (length t.keys) max_count (typing_parts t h).few) refl
+typing_line n t rest h l =
+    ap (λ r. r >>= if_few (λ (t : Typing). length t.keys)) (line_again typing_of n (typing_text t) rest t (typing_again t h) l) ∙ rw (not_more (length t.keys) max_count (typing_parts t h).few) refl
 
 times_again : {A : Type 0} (one : ℕ → List (List ℕ) → Result (A × List (List ℕ)) CertFault) (text : A → List ℕ) (good : A → Bool)
     → ((n : ℕ) (x : A) (rest : List (List ℕ)) → good x ≡ true → 0 < length rest → one n (text x ∷ rest) ≡ Ok (x, rest))
@@ -136,7 +138,8 @@ keys_line (k ∷ keys) h =
 typing_is_line : (t : Typing) → is_typing t ≡ true → is_line (typing_text t) ≡ true
 typing_is_line t h =
     let p = typing_parts t h in
-    all_append (λ b. not (b == 10)) (character_text t.character) (flat_map (λ k. 32 ∷ keysym_text k) t.keys) (plain_line (character_text t.character) (character_plain t.character p.character)) (keys_line t.keys p.keysyms)
+    all_append (λ b. not (b == 10)) (character_text t.character) (flat_map (λ k. 32 ∷ keysym_text k) t.keys) (plain_line (character_text t.character) (character_plain t.character p.character))
+    (keys_line t.keys p.keysyms)
 
 -- ---- the whole
 

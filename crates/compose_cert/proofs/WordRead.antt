@@ -54,7 +54,8 @@ no_character_told word h = sym (unwritten character_text is_character (digits_va
 
 range_is_character : (n : ℕ) → n ≤ 0x10ffff → InScalarRange n → is_character n ≡ true
 range_is_character n l (inl b) = and_from (nat_le n 0x10ffff) (not (is_surrogate n)) (le-leb n 0x10ffff l) (ap not (and_left (nat_le 0xd800 n) (nat_le n 0xdfff) (lt-leb 0xd800 n b)))
-range_is_character n l (inr b) = and_from (nat_le n 0x10ffff) (not (is_surrogate n)) (le-leb n 0x10ffff l) (ap not (and_right (nat_le 0xd800 n) (nat_le n 0xdfff) (lt-leb n 0xdfff (omega (arith, b.0)))))
+range_is_character n l (inr b) =
+    and_from (nat_le n 0x10ffff) (not (is_surrogate n)) (le-leb n 0x10ffff l) (ap not (and_right (nat_le 0xd800 n) (nat_le n 0xdfff) (lt-leb n 0xdfff (omega (arith, b.0)))))
 
 gap_is_none : (n : ℕ) → is_character n ≡ true → OutOfScalarRange n → ⊥
 gap_is_none n t (inl b) =
@@ -63,7 +64,8 @@ gap_is_none n t (inl b) =
     false≢true (ap not (sym s) ∙ parts.1)
 gap_is_none n t (inr b) = omega (arith, leb-true n 0x10ffff (and_parts (nat_le n 0x10ffff) (not (is_surrogate n)) t).0)
 
-pub character_told : (word : List ℕ) (n : ℕ) (r : Option ℕ) → starts_with nat_eq word (85 ∷ 43 ∷ []) ≡ true → IsSpelled padded 0x10ffff (drop 2 word) (Some n) → SomeIff r (IsScalar n) n → MatchOption r (OutOfScalarRange n) (λ _. InScalarRange n) → r ≡ character_of word
+pub character_told : (word : List ℕ) (n : ℕ) (r : Option ℕ) → starts_with nat_eq word (85 ∷ 43 ∷ []) ≡ true → IsSpelled padded 0x10ffff (drop 2 word) (Some n) → SomeIff r (IsScalar n) n
+    → MatchOption r (OutOfScalarRange n) (λ _. InScalarRange n) → r ≡ character_of word
 character_told word n (Some x) h s v m = ap Some v.1 ∙ sym (ap character_of (prefixed word n h s.1) ∙ character_again n (range_is_character n s.0 m))
 character_told word n None h s v m =
     let value : digits_value 16 (drop 2 word) ≡ n = ap (digits_value 16) s.1 ∙ padded_value n s.0 in
@@ -71,7 +73,8 @@ character_told word n None h s v m =
 
 -- ---- parts round a byte
 
-pub divide_found : (at : ℕ) (bytes : List ℕ) (i : ℕ) → i < length bytes → get_or bytes i 0 ≡ at → ((k : ℕ) → k < i → get_or bytes k 0 ≡ at → ⊥) → divide at bytes ≡ take i bytes ∷ divide at (drop (suc i) bytes)
+pub divide_found : (at : ℕ) (bytes : List ℕ) (i : ℕ) → i < length bytes → get_or bytes i 0 ≡ at → ((k : ℕ) → k < i → get_or bytes k 0 ≡ at → ⊥)
+    → divide at bytes ≡ take i bytes ∷ divide at (drop (suc i) bytes)
 divide_found at [] i l e n = absurd (omega arith)
 divide_found at (b ∷ bytes) zero l e n = rw (eq-eqb b at e) refl
 divide_found at (b ∷ bytes) (suc i) l e n = rw (ne_eqb b at (n 0 (omega arith)), divide_found at bytes i (omega arith) e (λ k h. n (suc k) (omega arith))) refl

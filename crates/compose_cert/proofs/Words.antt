@@ -61,7 +61,8 @@ pub lines_divided : (lines : List (List ℕ)) → list_all is_line lines ≡ tru
 lines_divided [] h = refl
 lines_divided (line ∷ lines) h =
     let parts = and_parts (is_line line) (list_all is_line lines) h in
-    ap (divide 10) (append_assoc line (10 ∷ []) (ended lines)) ∙ divide_at 10 (λ b. not (b == 10)) (λ b h. negated (b == 10) h) line (ended lines) parts.0 ∙ ap (λ ls. line ∷ ls) (lines_divided lines parts.1)
+    ap (divide 10) (append_assoc line (10 ∷ []) (ended lines)) ∙ divide_at 10 (λ b. not (b == 10)) (λ b h. negated (b == 10) h) line (ended lines) parts.0
+    ∙ ap (λ ls. line ∷ ls) (lines_divided lines parts.1)
   where
     negated : (b : Bool) → not b ≡ true → b ≡ false
     negated true e = cc
@@ -102,7 +103,8 @@ pub number_again : (n : ℕ) → is_number n ≡ true → number_of (decimal n) 
 number_again n h = let l = ltb-true n 0x100000000 h in written_again decimal is_number n (digits_value 10 (decimal n)) (digits_is_IsNumeral 10 false (omega arith) (omega arith) n (omega arith)).1 h
 
 pub keysym_again : (k : ℕ) → is_keysym k ≡ true → keysym_of (keysym_text k) ≡ Some k
-keysym_again k h = let l = leb-true k 0x1fffffff h in written_again keysym_text is_keysym k (digits_value 16 (keysym_text k)) (digits_is_IsNumeral 16 false (omega arith) (omega arith) k (omega arith)).1 h
+keysym_again k h =
+    let l = leb-true k 0x1fffffff h in written_again keysym_text is_keysym k (digits_value 16 (keysym_text k)) (digits_is_IsNumeral 16 false (omega arith) (omega arith) k (omega arith)).1 h
 
 pub zeros : (k : ℕ) (ds : List ℕ) → digits_value 16 (replicate k 48 ++ ds) ≡ digits_value 16 ds
 zeros zero ds = refl

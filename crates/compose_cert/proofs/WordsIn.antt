@@ -56,7 +56,8 @@ pub word_found : (bytes : List ℕ) (i : ℕ) → i < length bytes → is_blank 
 word_found [] i l f e n = absurd (omega arith)
 word_found (b ∷ bytes) zero l f e n = absurd (false≢true (sym f ∙ e))
 word_found (b ∷ bytes) (suc i) l f e n =
-    ap (λ parts. filter (λ word. nat_lt 0 (length word)) parts) (parts_found (b ∷ bytes) (suc i) l e n) ∙ some_kept (take (suc i) (b ∷ bytes)) (divide 32 (map plain_blank (drop (suc (suc i)) (b ∷ bytes)))) (omega arith)
+    ap (λ parts. filter (λ word. nat_lt 0 (length word)) parts) (parts_found (b ∷ bytes) (suc i) l e n)
+    ∙ some_kept (take (suc i) (b ∷ bytes)) (divide 32 (map plain_blank (drop (suc (suc i)) (b ∷ bytes)))) (omega arith)
 
 pub word_unfound : (bytes : List ℕ) → 0 < length bytes → ((k : ℕ) → k < length bytes → is_blank (get_or bytes k 0) ≡ false) → words_in bytes ≡ bytes ∷ []
 word_unfound bytes l n = ap (λ parts. filter (λ word. nat_lt 0 (length word)) parts) (parts_unfound bytes n) ∙ some_kept bytes [] l

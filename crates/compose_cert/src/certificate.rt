@@ -61,16 +61,38 @@ pub struct Certificate {
 impl Model for Certificate {
     ghost Value = { model.Certificate };
 
-    ghost view = { λ c. record { bound = c.bound; pairs = c.pairs.items; typings = c.typings.items; fresh = c.fresh.items } };
+    ghost view = { λ c. record {
+      bound = c.bound;
+      pairs = c.pairs.items;
+      typings =
+          c.typings.items;
+      fresh = c.fresh.items;
+    } };
 
-    ghost invariant = { λ c. IsTrue (is_counted (record { bound = c.bound; pairs = c.pairs.items; typings = c.typings.items; fresh = c.fresh.items })) };
+    ghost invariant = { λ c. IsTrue
+        (is_counted
+        (record {
+          bound = c.bound;
+          pairs = c.pairs.items;
+          typings = c.typings.items;
+          fresh =
+              c.fresh.items;
+        })) };
 }
 
 impl Certificate {
     /// The certificate without fresh keysyms; none where there are more than 1,048,576 pairs, typings or keys of one typing,
     /// or a typing without keys. O(typings).
     pub fn new(bound: u32, pairs: Vec<(u32, u32)>, typings: Vec<Typing>) -> Option<Certificate>
-        ensures { result ≡ (if are_counted pairs.items typings.items then Some (record { bound = bound; pairs = pairs.items; typings = typings.items; fresh = [] }) else None) }
+        ensures { result
+            ≡ (if are_counted pairs.items typings.items then Some
+            (record {
+              bound = bound;
+              pairs = pairs.items;
+              typings = typings.items;
+              fresh =
+                  [];
+            }) else None) }
     {
         if pairs.len() > MOST || typings.len() > MOST || !are_typed(&typings) {
             return None;
@@ -88,7 +110,8 @@ impl Certificate {
     pub fn read(alloc: Global, bytes: &[u8]) -> Result<Certificate, CertFault>
         ensures exact { CertificateGives result (certificate_of bytes.now) }
         ensures found { IfOk result (λ c. Spells bytes.now c) }
-        ensures only { (c : model.Certificate) → Spells bytes.now c → CertificateGives result (Ok c) }
+        ensures only { (c : model.Certificate) → Spells bytes.now c
+            → CertificateGives result (Ok c) }
     {
         read_lines(alloc, bytes)
     }
@@ -174,7 +197,9 @@ impl Certificate {
 
     /// The certificate with these fresh keysyms in place of its own; none where there are more than 1,048,576. O(1).
     pub fn with_fresh(self, fresh: Vec<Keysym>) -> Option<Certificate>
-        ensures { result ≡ (if nat_le (length fresh.items) max_count then Some (record self { fresh = fresh.items }) else None) }
+        ensures { result
+            ≡ (if nat_le (length fresh.items) max_count then Some
+            (record self { fresh = fresh.items }) else None) }
     {
         if fresh.len() > MOST {
             return None;

@@ -14,7 +14,8 @@ use std::alloc::Global;
 /// The line with this number, and what follows its newline. O(its bytes).
 pub fn take_line(bytes: &[u8], line: usize) -> Result<(&[u8], &[u8]), CertFault>
     ensures ok { IfOk result (λ x. divide 10 bytes.now ≡ x.0.now ∷ divide 10 x.1.now) }
-    ensures err { IfErr result (λ e. (e ≡ CertFault.NotText line) × (divide 10 bytes.now ≡ bytes.now ∷ [])) }
+    ensures err { IfErr result
+        (λ e. (e ≡ CertFault.NotText line) × (divide 10 bytes.now ≡ bytes.now ∷ [])) }
 {
     split_at_byte(bytes, b'\n').ok_or(CertFault::NotText { line })
 }
@@ -34,7 +35,8 @@ pub fn version_of(line: &[u8]) -> Option<u8>
 
 /// The number behind a word. The blank between them ends the word that is handed over.
 pub fn number_behind(line: &[u8], word: &[u8]) -> Option<u32>
-    ensures { (name : List ℕ) → word.now ≡ name ++ 32 ∷ [] → result ≡ reading.number_behind name line.now }
+    ensures { (name : List ℕ) → word.now ≡ name ++ 32 ∷ []
+        → result ≡ reading.number_behind name line.now }
 {
     if !line.starts_with(word) {
         return None;
@@ -54,7 +56,8 @@ pub fn pair_of(line: &[u8]) -> Option<(u32, u32)>
 
 /// A typing: a character and its keys, with a blank before each.
 pub fn typing_of(alloc: Global, text: &[u8], line: usize) -> Result<Typing, CertFault>
-    ensures { Says (λ t. t) result (option_map_or Ok (reading.typing_of text.now) (Err (CertFault.NotText line))) }
+    ensures { Says (λ t. t) result
+        (option_map_or Ok (reading.typing_of text.now) (Err (CertFault.NotText line))) }
 {
     let (character, keys) = split_at_byte(text, b' ').ok_or(CertFault::NotText { line })?;
     let character = character_of(character).ok_or(CertFault::NotText { line })?;
@@ -64,7 +67,9 @@ pub fn typing_of(alloc: Global, text: &[u8], line: usize) -> Result<Typing, Cert
 
 /// Keysyms with a blank between them.
 fn keysyms_of(alloc: Global, words: &[u8], line: usize) -> Result<Vec<Keysym>, CertFault>
-    ensures { Says (λ keys. keys.items) result (option_map_or Ok (reading.keysyms_of (divide 32 words.now)) (Err (CertFault.NotText line))) }
+    ensures { Says (λ keys. keys.items) result
+        (option_map_or Ok (reading.keysyms_of (divide 32 words.now))
+        (Err (CertFault.NotText line))) }
 {
     let mut keys = Vec::new(alloc);
     let mut rest = words;

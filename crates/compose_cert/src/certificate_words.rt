@@ -48,7 +48,8 @@ fn code_point(digits: &[u8]) -> Option<u32>
 
 /// What stands before the first such byte, and what follows it. O(bytes before).
 pub fn split_at_byte(bytes: &[u8], at: u8) -> Option<(&[u8], &[u8])>
-    ensures cases { MatchOption result (divide at bytes.now ≡ bytes.now ∷ []) (λ x. divide at bytes.now ≡ x.0.now ∷ divide at x.1.now) }
+    ensures cases { MatchOption result (divide at bytes.now ≡ bytes.now ∷ [])
+        (λ x. divide at bytes.now ≡ x.0.now ∷ divide at x.1.now) }
     ensures shorter { MatchOption result (Unit {0}) (λ x. length x.1.now < length bytes.now) }
 {
     for (index, byte) in bytes.iter().enumerate() {

@@ -95,7 +95,10 @@ impl<T: Drop> From<AllocFailed<T>> for RepertoireFault {
 
 /// A text spells one certificate at most, this is read, and what is read is spelled so.
 pub fn law_one_certificate()
-    ensures one { (bytes : List ℕ) (c d : model.Certificate) → Spells bytes c → Spells bytes d → c ≡ d }
-    ensures read { (bytes : List ℕ) (c : model.Certificate) → Spells bytes c → certificate_of bytes ≡ Ok c }
-    ensures found { (bytes : List ℕ) (c : model.Certificate) → certificate_of bytes ≡ Ok c → Spells bytes c }
+    ensures one { (bytes : List ℕ) (c d : model.Certificate) → Spells bytes c → Spells bytes d
+        → c ≡ d }
+    ensures read { (bytes : List ℕ) (c : model.Certificate) → Spells bytes c
+        → certificate_of bytes ≡ Ok c }
+    ensures found { (bytes : List ℕ) (c : model.Certificate) → certificate_of bytes ≡ Ok c
+        → Spells bytes c }
 {}

@@ -58,7 +58,10 @@ pub fn number_in(word: &[u8], notation: Notation, most: u32) -> Option<u32>
 
 /// The value of the digits, zeros before them too, if it is at most `most`. O(digits).
 pub fn value_of(word: &[u8], notation: Notation, most: u32) -> Option<u32>
-    ensures { result ≡ (if list_all (is_digit notation) word.now && nat_le (digits_value (radix notation) word.now) most then Some (digits_value (radix notation) word.now) else None) }
+    ensures { result
+        ≡ (if list_all (is_digit notation) word.now
+        && nat_le (digits_value (radix notation) word.now) most then Some
+        (digits_value (radix notation) word.now) else None) }
 {
     let mut value = 0u32;
     for byte in word {

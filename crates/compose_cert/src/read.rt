@@ -14,7 +14,8 @@ use std::alloc::Global;
 
 /// The version, and what follows the first line.
 pub fn version_at(bytes: &[u8]) -> Result<(u8, &[u8]), CertFault>
-    ensures { Says (λ x. (x.0, divide 10 x.1.now)) result (reading.line_at reading.version_of 1 (divide 10 bytes.now)) }
+    ensures { Says (λ x. (x.0, divide 10 x.1.now)) result
+        (reading.line_at reading.version_of 1 (divide 10 bytes.now)) }
 {
     let (text, rest) = take_line(bytes, 1)?;
     let version = version_of(text).ok_or(CertFault::NotText { line: 1 })?;
@@ -27,7 +28,9 @@ pub fn number_at<'a>(
     word: &[u8],
     line: usize,
 ) -> Result<(u32, &'a [u8]), CertFault>
-    ensures says { (name : List ℕ) → word.now ≡ name ++ 32 ∷ [] → Says (λ x. (x.0, divide 10 x.1.now)) result (reading.line_at (reading.number_behind name) line (divide 10 bytes.now)) }
+    ensures says { (name : List ℕ) → word.now ≡ name ++ 32 ∷ []
+        → Says (λ x. (x.0, divide 10 x.1.now)) result
+        (reading.line_at (reading.number_behind name) line (divide 10 bytes.now)) }
     ensures no_memory { IfErr result (λ fault. fault ≢ CertFault.NoMemory) }
 {
     let (text, rest) = take_line(bytes, line)?;
@@ -41,7 +44,9 @@ pub fn count_at<'a>(
     word: &[u8],
     line: usize,
 ) -> Result<(usize, &'a [u8]), CertFault>
-    ensures says { (name : List ℕ) → word.now ≡ name ++ 32 ∷ [] → Says (λ x. (x.0, divide 10 x.1.now)) result (reading.count_at name line (divide 10 bytes.now)) }
+    ensures says { (name : List ℕ) → word.now ≡ name ++ 32 ∷ []
+        → Says (λ x. (x.0, divide 10 x.1.now)) result
+        (reading.count_at name line (divide 10 bytes.now)) }
     ensures few { IfOk result (λ x. x.0 ≤ max_count) }
     ensures no_memory { IfErr result (λ fault. fault ≢ CertFault.NoMemory) }
 {
@@ -55,7 +60,8 @@ pub fn count_at<'a>(
 
 /// A pair, and what follows its line.
 fn pair_at(bytes: &[u8], line: usize) -> Result<((u32, u32), &[u8]), CertFault>
-    ensures { Says (λ x. (x.0, divide 10 x.1.now)) result (reading.line_at reading.pair_of line (divide 10 bytes.now)) }
+    ensures { Says (λ x. (x.0, divide 10 x.1.now)) result
+        (reading.line_at reading.pair_of line (divide 10 bytes.now)) }
 {
     let (text, rest) = take_line(bytes, line)?;
     let pair = pair_of(text).ok_or(CertFault::NotText { line })?;
@@ -64,7 +70,8 @@ fn pair_at(bytes: &[u8], line: usize) -> Result<((u32, u32), &[u8]), CertFault>
 
 /// A typing with at most 1,048,576 keys, and what follows its line.
 fn typing_at(alloc: Global, bytes: &[u8], line: usize) -> Result<(Typing, &[u8]), CertFault>
-    ensures { Says (λ x. (x.0, divide 10 x.1.now)) result (reading.typing_at line (divide 10 bytes.now)) }
+    ensures { Says (λ x. (x.0, divide 10 x.1.now)) result
+        (reading.typing_at line (divide 10 bytes.now)) }
 {
     let (text, rest) = take_line(bytes, line)?;
     let typing = typing_of(alloc, text, line)?;
@@ -82,7 +89,8 @@ pub fn pairs_at(
     line: usize,
 ) -> Result<(Vec<(u32, u32)>, &[u8]), CertFault>
     requires { line + count < 2 ^ 64 }
-    ensures { Says (λ x. (x.0.items, divide 10 x.1.now)) result (reading.times (reading.line_at reading.pair_of) count line (divide 10 bytes.now)) }
+    ensures { Says (λ x. (x.0.items, divide 10 x.1.now)) result
+        (reading.times (reading.line_at reading.pair_of) count line (divide 10 bytes.now)) }
 {
     let mut pairs = Vec::with_capacity(alloc, count.min(bytes.len() / SHORTEST_PAIR))?;
     let mut rest = bytes;
@@ -102,7 +110,8 @@ pub fn typings_at(
     line: usize,
 ) -> Result<(Vec<Typing>, &[u8]), CertFault>
     requires { line + count < 2 ^ 64 }
-    ensures { Says (λ x. (x.0.items, divide 10 x.1.now)) result (reading.times reading.typing_at count line (divide 10 bytes.now)) }
+    ensures { Says (λ x. (x.0.items, divide 10 x.1.now)) result
+        (reading.times reading.typing_at count line (divide 10 bytes.now)) }
 {
     let mut typings = Vec::with_capacity(alloc, count.min(bytes.len() / SHORTEST_TYPING))?;
     let mut rest = bytes;
@@ -122,7 +131,8 @@ fn keys_at(
     line: usize,
 ) -> Result<(Vec<Keysym>, &[u8]), CertFault>
     requires { line + count < 2 ^ 64 }
-    ensures { Says (λ x. (x.0.items, divide 10 x.1.now)) result (reading.times (reading.line_at reading.keysym_of) count line (divide 10 bytes.now)) }
+    ensures { Says (λ x. (x.0.items, divide 10 x.1.now)) result
+        (reading.times (reading.line_at reading.keysym_of) count line (divide 10 bytes.now)) }
 {
     let mut keys = Vec::with_capacity(alloc, count.min(bytes.len() / SHORTEST_KEY))?;
     let mut rest = bytes;
@@ -143,7 +153,8 @@ pub fn fresh_at(
     line: usize,
 ) -> Result<Vec<Keysym>, CertFault>
     requires { line < 2 ^ 32 }
-    ensures { Says (λ keys. keys.items) result (reading.fresh_at version line (divide 10 bytes.now)) }
+    ensures { Says (λ keys. keys.items) result
+        (reading.fresh_at version line (divide 10 bytes.now)) }
 {
     if version == 1 {
         end_at(bytes, line)?;

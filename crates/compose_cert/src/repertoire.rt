@@ -26,7 +26,8 @@ impl Model for Repertoire {
 
     ghost view = { λ r. record { characters = r.characters.items; keys = r.keys.items } };
 
-    ghost invariant = { λ r. IsRepertoire (record { characters = r.characters.items; keys = r.keys.items }) };
+    ghost invariant = { λ r. IsRepertoire
+        (record { characters = r.characters.items; keys = r.keys.items }) };
 }
 
 impl Repertoire {
@@ -92,12 +93,24 @@ fn add_entry(
     entry: Entry,
     line: usize,
 ) -> Result<(), RepertoireFault>
-    requires sound { IsRepertoire (record { characters = characters.old.items; keys = keys.old.items }) }
+    requires sound { IsRepertoire
+        (record { characters = characters.old.items; keys = keys.old.items }) }
     requires ordered { IsOrdered entry }
-    ensures sound { OnOk result (IsRepertoire (record { characters = characters.new.items; keys = keys.new.items })) }
-    ensures ok { OnOk result (with_entry line (Some entry) (record { characters = characters.old.items; keys = keys.old.items }) ≡ Ok (record { characters = characters.new.items; keys = keys.new.items })) }
-    ensures err { IfErr result (λ e. e ≢ RepertoireFault.NoMemory → with_entry line (Some entry) (record { characters = characters.old.items; keys = keys.old.items }) ≡ Err e) }
-    ensures fault_first { IfErr result (λ e. e ≡ RepertoireFault.NoMemory → IsOk (with_entry line (Some entry) (record { characters = characters.old.items; keys = keys.old.items }))) }
+    ensures sound { OnOk result
+        (IsRepertoire (record { characters = characters.new.items; keys = keys.new.items })) }
+    ensures ok { OnOk result
+        (with_entry line (Some entry)
+        (record { characters = characters.old.items; keys = keys.old.items })
+        ≡ Ok (record { characters = characters.new.items; keys = keys.new.items })) }
+    ensures err { IfErr result
+        (λ e. e ≢ RepertoireFault.NoMemory
+        → with_entry line (Some entry)
+        (record { characters = characters.old.items; keys = keys.old.items }) ≡ Err e) }
+    ensures fault_first { IfErr result
+        (λ e. e ≡ RepertoireFault.NoMemory
+        → IsOk
+        (with_entry line (Some entry)
+        (record { characters = characters.old.items; keys = keys.old.items }))) }
 {
     match entry {
         Entry::Nothing => Ok(()),

@@ -40,7 +40,8 @@ pub fn character_form(word: &[u8]) -> Option<char>
 
 /// The first word of the bytes, and what follows it; none where there are blanks alone. O(bytes up to its end).
 pub fn first_word(bytes: &[u8]) -> Option<(&[u8], &[u8])>
-    ensures { MatchOption result (repertoire.words_in bytes.now ≡ []) (λ x. repertoire.words_in bytes.now ≡ x.0.now ∷ repertoire.words_in x.1.now) }
+    ensures { MatchOption result (repertoire.words_in bytes.now ≡ [])
+        (λ x. repertoire.words_in bytes.now ≡ x.0.now ∷ repertoire.words_in x.1.now) }
 {
     let start = without_blanks(bytes);
     if start.is_empty() {

@@ -24,7 +24,8 @@ pub fn add_head(
 
 /// The pairs' lines.
 pub fn add_pairs(text: &mut String, pairs: &[(u32, u32)]) -> Result<(), AllocError>
-    ensures text { OnOk result (string_bytes text.new ≡ string_bytes text.old ++ ended (map pair_text pairs.now)) }
+    ensures text { OnOk result
+        (string_bytes text.new ≡ string_bytes text.old ++ ended (map pair_text pairs.now)) }
     ensures numbers { OnOk result (IsTrue (list_all are_numbers pairs.now)) }
 {
     for pair in pairs {
@@ -51,7 +52,8 @@ pub fn add_typings(text: &mut String, typings: &[Typing]) -> Result<(), AllocErr
 
 /// The lines of the fresh keysyms, if there are any.
 pub fn add_fresh(text: &mut String, fresh: &[Keysym]) -> Result<(), AllocError>
-    ensures text { OnOk result (string_bytes text.new ≡ string_bytes text.old ++ ended (fresh_lines fresh.now)) }
+    ensures text { OnOk result
+        (string_bytes text.new ≡ string_bytes text.old ++ ended (fresh_lines fresh.now)) }
     ensures keysyms { OnOk result (IsTrue (list_all is_keysym fresh.now)) }
 {
     if fresh.is_empty() {
@@ -78,7 +80,9 @@ fn version_of(fresh: &[Keysym]) -> &'static str
 
 /// A blank and the keysym, for each of the keys.
 fn add_keys(text: &mut String, keys: &[Keysym]) -> Result<(), AllocError>
-    ensures text { OnOk result (string_bytes text.new ≡ string_bytes text.old ++ flat_map (λ k. 32 ∷ keysym_text k) keys.now) }
+    ensures text { OnOk result
+        (string_bytes text.new
+        ≡ string_bytes text.old ++ flat_map (λ k. 32 ∷ keysym_text k) keys.now) }
     ensures keysyms { OnOk result (IsTrue (list_all is_keysym keys.now)) }
 {
     for key in keys {
@@ -90,7 +94,8 @@ fn add_keys(text: &mut String, keys: &[Keysym]) -> Result<(), AllocError>
 
 /// `U+` and at least four digits.
 fn add_character(text: &mut String, character: char) -> Result<(), AllocError>
-    ensures text { OnOk result (string_bytes text.new ≡ string_bytes text.old ++ character_text character) }
+    ensures text { OnOk result
+        (string_bytes text.new ≡ string_bytes text.old ++ character_text character) }
     ensures character { IsTrue (is_character character) }
 {
     let number = u32::from(character);

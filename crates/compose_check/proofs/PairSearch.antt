@@ -73,7 +73,8 @@ no_more i j p q h = go (compare i j q)
 rises_compared : (i j : ℕ) (pairs : List (ℕ × ℕ)) → pairs_rise pairs ≡ true → IsNonDecreasingBy (λ p. ordering_index (compared i j p)) pairs
 rises_compared i j pairs rise = IsNonDecreasingBy-from_default (λ p. ordering_index (compared i j p)) pairs (0, 0) (λ a b low high. elim (cases_lt a b) [
   | inl less ↦ no_more i j (get_or pairs a (0, 0)) (get_or pairs b (0, 0)) (earlier_before pairs rise a b less high)
-  | inr more ↦ (let is : a ≡ b = omega arith in let e : ordering_index (compared i j (get_or pairs a (0, 0))) ≡ ordering_index (compared i j (get_or pairs b (0, 0))) = ap (λ n. ordering_index (compared i j (get_or pairs n (0, 0)))) is in omega arith)
+  | inr more ↦
+      (let is : a ≡ b = omega arith in let e : ordering_index (compared i j (get_or pairs a (0, 0))) ≡ ordering_index (compared i j (get_or pairs b (0, 0))) = ap (λ n. ordering_index (compared i j (get_or pairs n (0, 0)))) is in omega arith)
 ])
 
 -- ---- the search
@@ -98,7 +99,8 @@ is_other i j p h = go (compare i j p)
     ]
 
 -- a binary search tells whether the numbers are a pair
-pub searched_pair : (pairs : List (ℕ × ℕ)) (i j : ℕ) (r : Result ℕ ℕ) → pairs_rise pairs ≡ true → IsSearchInRange r (length pairs) → IsBinarySearchResult (compared i j) pairs r → is_ok r ≡ has_pair pairs i j
+pub searched_pair : (pairs : List (ℕ × ℕ)) (i j : ℕ) (r : Result ℕ ℕ) → pairs_rise pairs ≡ true → IsSearchInRange r (length pairs) → IsBinarySearchResult (compared i j) pairs r
+    → is_ok r ≡ has_pair pairs i j
 searched_pair pairs i j (Ok k) rise range found = sym (one_passes (λ p. p.0 == i && p.1 == j) (0, 0) pairs k range (is_equal i j (get_or pairs k (0, 0)) (found (0, 0))))
 searched_pair pairs i j (Err k) rise range found =
     let parts = found (rises_compared i j pairs rise) in

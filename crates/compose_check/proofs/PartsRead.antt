@@ -42,7 +42,8 @@ module _ (old new : migrations.TableSources) (index : ℕ) where
   abbrev read_tables : migrations.NamedParts → Result migrations.Parts NoMigration
   read_tables n = table_of_side n.names sides.Old old >>= read_new n
 
-  new_is : (n : migrations.NamedParts) (a : List Definition) (r : Result (List Definition) NoTable) → (or_because (no_table sides.New) r >>= (λ b. (let p : migrations.Parts = record { names = n.names; keys = n.keys; old = a; new = b } in Ok p))) ≡ Err (no_key index) → ⊥
+  new_is : (n : migrations.NamedParts) (a : List Definition) (r : Result (List Definition) NoTable)
+      → (or_because (no_table sides.New) r >>= (λ b. (let p : migrations.Parts = record { names = n.names; keys = n.keys; old = a; new = b } in Ok p))) ≡ Err (no_key index) → ⊥
   new_is n a (Ok b) e = cc
   new_is n a (Err why) e = cc
 
@@ -108,14 +109,17 @@ module _ (input : Input) where
     after_migration = ap (λ r. r >>= with_migration) (is_read (or_because no_migration (migration_of input.migration)) m m_read)
 
     pub repertoire_refused : (fault : InputFault) → InputRefused fault (or_because no_repertoire (repertoire_of input.repertoire)) → InputRefused fault (parts_of input)
-    repertoire_refused fault h = subst (λ (s : Result Parts Unread). InputRefused fault s) (sym after_migration) (step_refused fault (or_because no_repertoire (repertoire_of input.repertoire)) (with_repertoire m) h)
+    repertoire_refused fault h =
+        subst (λ (s : Result Parts Unread). InputRefused fault s) (sym after_migration) (step_refused fault (or_because no_repertoire (repertoire_of input.repertoire)) (with_repertoire m) h)
 
     module _ (r : Repertoire) (r_read : IsRead (or_because no_repertoire (repertoire_of input.repertoire)) r) where
       after_repertoire : parts_of input ≡ (or_because no_certificate (certificate_of input.certificate) >>= with_certificate m r)
       after_repertoire = after_migration ∙ ap (λ x. x >>= with_repertoire m) (is_read (or_because no_repertoire (repertoire_of input.repertoire)) r r_read)
 
       pub certificate_refused : (fault : InputFault) → InputRefused fault (or_because no_certificate (certificate_of input.certificate)) → InputRefused fault (parts_of input)
-      certificate_refused fault h = subst (λ (s : Result Parts Unread). InputRefused fault s) (sym after_repertoire) (step_refused fault (or_because no_certificate (certificate_of input.certificate)) (with_certificate m r) h)
+      certificate_refused fault h =
+          subst (λ (s : Result Parts Unread). InputRefused fault s) (sym after_repertoire) (step_refused fault (or_because no_certificate (certificate_of input.certificate)) (with_certificate m r) h)
 
-      pub all_read : (c : Certificate) → IsRead (or_because no_certificate (certificate_of input.certificate)) c → parts_of input ≡ Ok (record { names = m.names; old = m.old; new = m.new; repertoire = r; certificate = c })
+      pub all_read : (c : Certificate) → IsRead (or_because no_certificate (certificate_of input.certificate)) c
+          → parts_of input ≡ Ok (record { names = m.names; old = m.old; new = m.new; repertoire = r; certificate = c })
       all_read c c_read = after_repertoire ∙ ap (λ x. x >>= with_certificate m r) (is_read (or_because no_certificate (certificate_of input.certificate)) c c_read)

@@ -45,7 +45,8 @@ module _ (names : KeysymNames) (new : List Definition) (k : ℕ) where
 
   -- one that leads to a leaf is one, and gives its text
   pub leaf_types : (l : LeafId) (t : List ℕ) → target_of new [] k ≡ Some (Leaf l) → leaf_text new l.0 ≡ Some t → same (text names k) t ≡ types_itself names new k
-  leaf_types l t to read = sym (ap (λ b. b && option_map_or (same (text names k)) (text_at new (k ∷ [])) false) leads_to.sequence ∙ ap (λ o. option_map_or (same (text names k)) o false) (sym leads_to.text ∙ read))
+  leaf_types l t to read =
+      sym (ap (λ b. b && option_map_or (same (text names k)) (text_at new (k ∷ [])) false) leads_to.sequence ∙ ap (λ o. option_map_or (same (text names k)) o false) (sym leads_to.text ∙ read))
     where
       leads_to : ToLeaf new [] k l
       leads_to = subst (Leads new [] k) to (leads new [] k)

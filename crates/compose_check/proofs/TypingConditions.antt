@@ -23,8 +23,12 @@ module _ (names : KeysymNames) (new : List Definition) (repertoire : Repertoire)
       → first_unmet (typing_conditions names new repertoire (c ∷ cs) (t ∷ ts)) ≡ option_or (typing_fault names new repertoire c t) (first_unmet (typing_conditions names new repertoire cs ts))
   side_by_side c t cs ts = go (nat_lt t.character c) (nat_lt c t.character) (is_right names new repertoire t)
     where
-      go : (low high right : Bool) → first_unmet (cond low (typing_conditions names new repertoire [] (t ∷ ts)) (cond high (typing_conditions names new repertoire (c ∷ cs) []) (record { met = right; fault = TypingWrong c } ∷ typing_conditions names new repertoire cs ts)))
-          ≡ option_or (cond low (Some (TypingUnasked t.character)) (cond high (Some (TypingMissing c)) (cond right None (Some (TypingWrong c))))) (first_unmet (typing_conditions names new repertoire cs ts))
+      go : (low high right : Bool)
+          → first_unmet
+          (cond low (typing_conditions names new repertoire [] (t ∷ ts))
+          (cond high (typing_conditions names new repertoire (c ∷ cs) []) (record { met = right; fault = TypingWrong c } ∷ typing_conditions names new repertoire cs ts)))
+          ≡ option_or (cond low (Some (TypingUnasked t.character)) (cond high (Some (TypingMissing c)) (cond right None (Some (TypingWrong c)))))
+          (first_unmet (typing_conditions names new repertoire cs ts))
       go true high right = refl
       go false true right = refl
       go false false true = refl

@@ -33,14 +33,18 @@ module _ (names : KeysymNames) (old new : List Definition) (pairs : List (ℕ ×
 
   edge_is : (index : ℕ) (u v : List ℕ) (k : ℕ) → all_met (one_edge_conditions names old new pairs index u v k) ≡ edge_is_kept names old new pairs u v k
   edge_is index u v k =
-      three (not (is_cancel (step names new v k).effect)) (same (step names new v k).text (step names old u k).text) (has_pair pairs (number_of old (step names old u k).pending) (number_of new (step names new v k).pending))
+      three (not (is_cancel (step names new v k).effect)) (same (step names new v k).text (step names old u k).text)
+      (has_pair pairs (number_of old (step names old u k).pending) (number_of new (step names new v k).pending))
 
-  edges_from : (index : ℕ) (ps : List (ℕ × ℕ)) → all_met (edge_conditions_from names old new pairs index ps) ≡ list_all (λ p. list_all (edge_is_kept names old new pairs (node old p.0) (node new p.1)) (edges old (node old p.0))) ps
+  edges_from : (index : ℕ) (ps : List (ℕ × ℕ))
+      → all_met (edge_conditions_from names old new pairs index ps) ≡ list_all (λ p. list_all (edge_is_kept names old new pairs (node old p.0) (node new p.1)) (edges old (node old p.0))) ps
   edges_from index [] = refl
   edges_from index (p ∷ ps) =
       let here = flat_map (one_edge_conditions names old new pairs index (node old p.0) (node new p.1)) (edges old (node old p.0)) in
       list_all-append (λ (d : Condition). d.met) here (edge_conditions_from names old new pairs (1 + index) ps)
-      ∙ ap₂ ◌&&◌ (all_met-flat_map (one_edge_conditions names old new pairs index (node old p.0) (node new p.1)) (edges old (node old p.0)) ∙ (λ i. list_all (λ k. edge_is index (node old p.0) (node new p.1) k i) (edges old (node old p.0))))
+      ∙ ap₂ ◌&&◌
+      (all_met-flat_map (one_edge_conditions names old new pairs index (node old p.0) (node new p.1)) (edges old (node old p.0))
+      ∙ (λ i. list_all (λ k. edge_is index (node old p.0) (node new p.1) k i) (edges old (node old p.0))))
       (edges_from (1 + index) ps)
 
 bounds_from : (bound index : ℕ) (ps : List (List ℕ)) → all_met (bound_conditions_from bound index ps) ≡ list_all (λ p. nat_le (length p) bound) ps
@@ -72,7 +76,8 @@ module _ (names : KeysymNames) (new : List Definition) where
 
   types_from_test : (w : List ℕ) (c : ℕ) → types names new w c ≡ true → Types names new w c
   unfolding typed wanted
-  types_from_test w c h = let both = and_parts (pointwise same (typed w) (wanted w c)) (is_empty (pending new w)) h in record { texts = lists_are (typed w) (wanted w c) both.0; rests = empty_is (pending new w) both.1 }
+  types_from_test w c h =
+      let both = and_parts (pointwise same (typed w) (wanted w c)) (is_empty (pending new w)) h in record { texts = lists_are (typed w) (wanted w c) both.0; rests = empty_is (pending new w) both.1 }
 
   test_from_types : (w : List ℕ) (c : ℕ) → Types names new w c → types names new w c ≡ true
   unfolding typed wanted
@@ -92,7 +97,10 @@ module _ (names : KeysymNames) (new : List Definition) where
     typed_from_met (c ∷ cs) (t ∷ ts) h = go (nat_lt t.character c) (nat_lt c t.character) refl refl h (typed_from_met cs ts)
       where
         go : (low high : Bool) → nat_lt t.character c ≡ low → nat_lt c t.character ≡ high
-            → all_met (cond low (typing_conditions names new repertoire [] (t ∷ ts)) (cond high (typing_conditions names new repertoire (c ∷ cs) []) (record { met = is_right names new repertoire t; fault = TypingWrong c } ∷ typing_conditions names new repertoire cs ts))) ≡ true
+            → all_met
+            (cond low (typing_conditions names new repertoire [] (t ∷ ts))
+            (cond high (typing_conditions names new repertoire (c ∷ cs) [])
+            (record { met = is_right names new repertoire t; fault = TypingWrong c } ∷ typing_conditions names new repertoire cs ts))) ≡ true
             → (all_met (typing_conditions names new repertoire cs ts) ≡ true → AreTyped cs ts) → AreTyped (c ∷ cs) (t ∷ ts)
         go true high e f h later = cc
         go false true e f h later = cc
@@ -126,7 +134,10 @@ module _ (names : KeysymNames) (new : List Definition) where
         keys = and_parts (list_all (is_key repertoire) t.keys) (list_all (λ (t : Typing). list_all (is_key repertoire) t.keys) ts) a.by_keys
 
         go : (low high : Bool) → low ≡ false → high ≡ false → is_right names new repertoire t && all_met (typing_conditions names new repertoire cs ts) ≡ true
-            → all_met (cond low (typing_conditions names new repertoire [] (t ∷ ts)) (cond high (typing_conditions names new repertoire (c ∷ cs) []) (record { met = is_right names new repertoire t; fault = TypingWrong c } ∷ typing_conditions names new repertoire cs ts))) ≡ true
+            → all_met
+            (cond low (typing_conditions names new repertoire [] (t ∷ ts))
+            (cond high (typing_conditions names new repertoire (c ∷ cs) [])
+            (record { met = is_right names new repertoire t; fault = TypingWrong c } ∷ typing_conditions names new repertoire cs ts))) ≡ true
         go true high e f h = cc
         go false true e f h = cc
         go false false e f h = h

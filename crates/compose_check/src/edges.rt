@@ -31,9 +31,13 @@ pub(crate) fn check_edges<T: ComposeTable, U: ComposeTable>(
     certificate: &Certificate,
 ) -> Option<CheckFault>
     requires rise { IsTrue (pairs_rise certificate.now.pairs) }
-    requires in_range { IsTrue (pairs_in_range (T.definitions old.now) (U.definitions new.now) certificate.now.pairs) }
+    requires in_range { IsTrue
+        (pairs_in_range (T.definitions old.now) (U.definitions new.now) certificate.now.pairs) }
     requires sound { IsTrue (is_table (T.definitions old.now)) }
-    ensures { result ≡ first_unmet (edge_conditions names.now (T.definitions old.now) (U.definitions new.now) certificate.now.pairs) }
+    ensures { result
+        ≡ first_unmet
+        (edge_conditions names.now (T.definitions old.now)
+        (U.definitions new.now) certificate.now.pairs) }
 {
     for index in 0..certificate.pair_count() {
         let (old_number, new_number) = certificate.pair(index);
@@ -61,7 +65,14 @@ fn check_pair<T: ComposeTable, U: ComposeTable>(
     requires old_in_range { pair.old.0 < length (nodes (T.definitions old.now)) }
     requires new_in_range { pair.new.0 < length (nodes (U.definitions new.now)) }
     requires sound { IsTrue (is_table (T.definitions old.now)) }
-    ensures { result ≡ first_unmet (flat_map (one_edge_conditions names.now (T.definitions old.now) (U.definitions new.now) certificate.now.pairs pair.index (node_at (T.definitions old.now) pair.old.0) (node_at (U.definitions new.now) pair.new.0)) (edges (T.definitions old.now) (node_at (T.definitions old.now) pair.old.0))) }
+    ensures { result
+        ≡ first_unmet
+        (flat_map
+        (one_edge_conditions names.now (T.definitions old.now)
+        (U.definitions new.now) certificate.now.pairs pair.index
+        (node_at (T.definitions old.now) pair.old.0)
+        (node_at (U.definitions new.now) pair.new.0))
+        (edges (T.definitions old.now) (node_at (T.definitions old.now) pair.old.0))) }
 {
     for edge in 0..old.edge_count(pair.old) {
         let (keysym, target) = old.edge(pair.old, edge);
@@ -83,10 +94,16 @@ fn check_edge<T: ComposeTable, U: ComposeTable>(
     target: Target,
 ) -> Option<CheckFault>
     requires rise { IsTrue (pairs_rise certificate.now.pairs) }
-    requires leads { target_of (T.definitions old.now) (node_at (T.definitions old.now) pair.old.0) keysym ≡ Some target }
+    requires leads { target_of (T.definitions old.now)
+        (node_at (T.definitions old.now) pair.old.0) keysym ≡ Some target }
     requires new_in_range { pair.new.0 < length (nodes (U.definitions new.now)) }
     requires sound { IsTrue (is_table (T.definitions old.now)) }
-    ensures { result ≡ first_unmet (one_edge_conditions names.now (T.definitions old.now) (U.definitions new.now) certificate.now.pairs pair.index (node_at (T.definitions old.now) pair.old.0) (node_at (U.definitions new.now) pair.new.0) keysym) }
+    ensures { result
+        ≡ first_unmet
+        (one_edge_conditions names.now (T.definitions old.now)
+        (U.definitions new.now) certificate.now.pairs pair.index
+        (node_at (T.definitions old.now) pair.old.0)
+        (node_at (U.definitions new.now) pair.new.0) keysym) }
 {
     let landing = new.step(pair.new, keysym);
     if cancels(pair.new, landing) {

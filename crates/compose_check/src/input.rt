@@ -71,10 +71,14 @@ pub fn check_bytes<T: ComposeTable>(
     input: &CheckInput<'_>,
 ) -> Result<Verdict, InputFault>
     ensures exact { CheckGives result (parts_of (input_of input.entry.now)) }
-    ensures valid { (p : Parts) → parts_of (input_of input.entry.now) ≡ Ok p → result ≡ Ok Verdict.Yes → IsValid p.names p.old p.new p.repertoire p.certificate }
-    ensures follows { (p : Parts) → parts_of (input_of input.entry.now) ≡ Ok p → result ≡ Ok Verdict.Yes → Follows p.names p.certificate.fresh p.old p.new }
-    ensures waits { (p : Parts) → parts_of (input_of input.entry.now) ≡ Ok p → result ≡ Ok Verdict.Yes → Waits p.new p.certificate.bound }
-    ensures types { (p : Parts) → parts_of (input_of input.entry.now) ≡ Ok p → result ≡ Ok Verdict.Yes → TypesAll p.names p.new p.repertoire p.certificate.typings }
+    ensures valid { (p : Parts) → parts_of (input_of input.entry.now) ≡ Ok p
+        → result ≡ Ok Verdict.Yes → IsValid p.names p.old p.new p.repertoire p.certificate }
+    ensures follows { (p : Parts) → parts_of (input_of input.entry.now) ≡ Ok p
+        → result ≡ Ok Verdict.Yes → Follows p.names p.certificate.fresh p.old p.new }
+    ensures waits { (p : Parts) → parts_of (input_of input.entry.now) ≡ Ok p
+        → result ≡ Ok Verdict.Yes → Waits p.new p.certificate.bound }
+    ensures types { (p : Parts) → parts_of (input_of input.entry.now) ≡ Ok p
+        → result ≡ Ok Verdict.Yes → TypesAll p.names p.new p.repertoire p.certificate.typings }
 {
     let migration: Migration<T> = read_migration(alloc, input)?;
     let repertoire = read_repertoire(alloc, input.repertoire)?;
@@ -93,7 +97,8 @@ fn read_migration<T: ComposeTable>(
     alloc: Global,
     input: &CheckInput<'_>,
 ) -> Result<Migration<T>, InputFault>
-    ensures { InputGives (λ said read. said ≡ parts T.definitions read) result (or_because no_migration (migration_of (input_of input.entry.now).migration)) }
+    ensures { InputGives (λ said read. said ≡ parts T.definitions read) result
+        (or_because no_migration (migration_of (input_of input.entry.now).migration)) }
 {
     let given = MigrationInput {
         header: input.header,
@@ -116,7 +121,8 @@ fn read_migration<T: ComposeTable>(
 /// The fault of a migration without key names.
 fn input_fault(fault: MigrationFault) -> InputFault
     requires { (index : ℕ) → fault ≢ MigrationFault.Key index }
-    ensures { (said : Result GivenParts NoMigration) → MigrationRefused fault said → InputRefused result (or_because no_migration said) }
+    ensures { (said : Result GivenParts NoMigration) → MigrationRefused fault said
+        → InputRefused result (or_because no_migration said) }
 {
     match fault {
         MigrationFault::Names(fault) => InputFault::Names(fault),
@@ -135,7 +141,8 @@ fn input_fault(fault: MigrationFault) -> InputFault
 
 /// The characters that people need, and the keys that they have.
 fn read_repertoire(alloc: Global, bytes: &[u8]) -> Result<Repertoire, InputFault>
-    ensures { InputGives (λ said repertoire. said ≡ repertoire) result (or_because no_repertoire (repertoire_of bytes.now)) }
+    ensures { InputGives (λ said repertoire. said ≡ repertoire) result
+        (or_because no_repertoire (repertoire_of bytes.now)) }
 {
     match Repertoire::read(alloc, bytes) {
         Ok(repertoire) => Ok(repertoire),
@@ -146,7 +153,8 @@ fn read_repertoire(alloc: Global, bytes: &[u8]) -> Result<Repertoire, InputFault
 
 /// The certificate.
 fn read_certificate(alloc: Global, bytes: &[u8]) -> Result<Certificate, InputFault>
-    ensures { InputGives (λ said certificate. said ≡ certificate) result (or_because no_certificate (certificate_of bytes.now)) }
+    ensures { InputGives (λ said certificate. said ≡ certificate) result
+        (or_because no_certificate (certificate_of bytes.now)) }
 {
     match Certificate::read(alloc, bytes) {
         Ok(certificate) => Ok(certificate),

@@ -27,7 +27,8 @@ pub(crate) fn commits<T: ComposeTable>(
     text: &str,
 ) -> bool
     requires { IsLandingOf (T.definitions table.now) landing }
-    ensures { result ≡ same (landing_text names.now (T.definitions table.now) keysym landing) text.now }
+    ensures { result
+        ≡ same (landing_text names.now (T.definitions table.now) keysym landing) text.now }
 {
     match landing {
         Some(target) => text_to(table, target) == text,

@@ -17,7 +17,9 @@ pub(crate) fn check_pairs(
     old_count: u32,
     new_count: u32,
 ) -> Option<CheckFault>
-    ensures { (old new : List Definition) → old_count ≡ length (nodes old) → new_count ≡ length (nodes new) → result ≡ first_unmet (pair_conditions old new certificate.now.pairs) }
+    ensures { (old new : List Definition) → old_count ≡ length (nodes old)
+        → new_count ≡ length (nodes new)
+        → result ≡ first_unmet (pair_conditions old new certificate.now.pairs) }
 {
     if !are_rising(certificate) {
         return Some(CheckFault::PairsNotRising);
@@ -55,7 +57,8 @@ fn are_rising(certificate: &Certificate) -> bool
 
 /// Whether the pairs' numbers are below these counts.
 fn are_in_range(certificate: &Certificate, old_count: u32, new_count: u32) -> bool
-    ensures { result ≡ list_all (λ p. nat_lt p.0 old_count && nat_lt p.1 new_count) certificate.now.pairs }
+    ensures { result
+        ≡ list_all (λ p. nat_lt p.0 old_count && nat_lt p.1 new_count) certificate.now.pairs }
 {
     certificate
         .pairs()

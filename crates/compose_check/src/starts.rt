@@ -23,7 +23,9 @@ pub(crate) fn check_starts<T: ComposeTable, U: ComposeTable>(
 ) -> Option<CheckFault>
     requires rise { IsTrue (keys_rise fresh.now) }
     requires prefix_free { IsTrue (is_prefix_free (U.definitions new.now)) }
-    ensures { result ≡ first_unmet (start_conditions names.now fresh.now (T.definitions old.now) (U.definitions new.now)) }
+    ensures { result
+        ≡ first_unmet
+        (start_conditions names.now fresh.now (T.definitions old.now) (U.definitions new.now)) }
 {
     for index in 0..new.edge_count(NodeId::ROOT) {
         let (keysym, target) = new.edge(NodeId::ROOT, index);
@@ -46,7 +48,10 @@ fn is_kept<T: ComposeTable, U: ComposeTable>(
     requires rise { IsTrue (keys_rise fresh.now) }
     requires leads { target_of (U.definitions new.now) [] keysym ≡ Some target }
     requires prefix_free { IsTrue (is_prefix_free (U.definitions new.now)) }
-    ensures { result ≡ (has_edge (T.definitions old.now) [] keysym || (has_key fresh.now keysym || words.types_itself names.now (U.definitions new.now) keysym)) }
+    ensures { result
+        ≡ (has_edge (T.definitions old.now) [] keysym
+        || (has_key fresh.now keysym
+        || words.types_itself names.now (U.definitions new.now) keysym)) }
 {
     begins(old, keysym) || is_among(fresh, keysym) || types_itself(new, names, keysym, target)
 }

@@ -25,7 +25,10 @@ pub(crate) fn check_typings<U: ComposeTable>(
     repertoire: &Repertoire,
     certificate: &Certificate,
 ) -> Option<CheckFault>
-    ensures { result ≡ first_unmet (typing_conditions names.now (U.definitions new.now) repertoire.now repertoire.now.characters certificate.now.typings) }
+    ensures { result
+        ≡ first_unmet
+        (typing_conditions names.now
+        (U.definitions new.now) repertoire.now repertoire.now.characters certificate.now.typings) }
 {
     let count = repertoire.count().min(certificate.typing_count());
     for index in 0..count {
@@ -46,7 +49,11 @@ pub(crate) fn check_typings<U: ComposeTable>(
 /// The fault where the characters or the typings go on after the index at which the other ones end.
 fn check_ends(repertoire: &Repertoire, certificate: &Certificate, end: usize) -> Option<CheckFault>
     requires { end ≡ min (length repertoire.now.characters) (length certificate.now.typings) }
-    ensures { (names : KeysymNames) (new : List Definition) → result ≡ first_unmet (typing_conditions names new repertoire.now (drop end repertoire.now.characters) (drop end certificate.now.typings)) }
+    ensures { (names : KeysymNames) (new : List Definition)
+        → result
+        ≡ first_unmet
+        (typing_conditions names new repertoire.now (drop end repertoire.now.characters)
+        (drop end certificate.now.typings)) }
 {
     if end < repertoire.count() {
         return Some(CheckFault::TypingMissing {
@@ -69,7 +76,8 @@ fn check_typing<U: ComposeTable>(
     character: char,
     typing: &Typing,
 ) -> Option<CheckFault>
-    ensures { result ≡ typing_fault names.now (U.definitions new.now) repertoire.now character typing.now }
+    ensures { result
+        ≡ typing_fault names.now (U.definitions new.now) repertoire.now character typing.now }
 {
     if typing.character() < character {
         return Some(CheckFault::TypingUnasked {

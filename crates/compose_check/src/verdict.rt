@@ -30,8 +30,12 @@ pub enum Verdict {
 
 /// No condition fails exactly where the certificate is valid.
 pub fn law_conditions()
-    ensures valid { (names : KeysymNames) (old new : List Definition) (repertoire : model.Repertoire) (c : model.Certificate) → fault_of names old new repertoire c ≡ None → IsValid names old new repertoire c }
-    ensures only { (names : KeysymNames) (old new : List Definition) (repertoire : model.Repertoire) (c : model.Certificate) → IsValid names old new repertoire c → fault_of names old new repertoire c ≡ None }
+    ensures valid { (names : KeysymNames) (old new : List Definition)
+        (repertoire : model.Repertoire) (c : model.Certificate)
+        → fault_of names old new repertoire c ≡ None → IsValid names old new repertoire c }
+    ensures only { (names : KeysymNames) (old new : List Definition)
+        (repertoire : model.Repertoire) (c : model.Certificate)
+        → IsValid names old new repertoire c → fault_of names old new repertoire c ≡ None }
 {}
 
 /// Looks at a certificate for a move from the old table to the new one.
@@ -50,18 +54,26 @@ pub fn check<T: ComposeTable, U: ComposeTable>(
     repertoire: &Repertoire,
     certificate: &Certificate,
 ) -> Verdict
-    ensures exact { result ≡ verdict_of (fault_of names.now (T.definitions old.now) (U.definitions new.now) repertoire.now certificate.now) }
-    ensures valid { result ≡ Verdict.Yes → IsValid names.now (T.definitions old.now) (U.definitions new.now) repertoire.now certificate.now }
-    ensures only { IsValid names.now (T.definitions old.now) (U.definitions new.now) repertoire.now certificate.now → result ≡ Verdict.Yes }
+    ensures exact { result
+        ≡ verdict_of
+        (fault_of names.now (T.definitions old.now)
+        (U.definitions new.now) repertoire.now certificate.now) }
+    ensures valid { result ≡ Verdict.Yes
+        → IsValid names.now (T.definitions old.now)
+        (U.definitions new.now) repertoire.now certificate.now }
+    ensures only { IsValid names.now (T.definitions old.now)
+        (U.definitions new.now) repertoire.now certificate.now → result ≡ Verdict.Yes }
 
     // typing goes on as with the old table
-    ensures follows { result ≡ Verdict.Yes → Follows names.now certificate.now.fresh (T.definitions old.now) (U.definitions new.now) }
+    ensures follows { result ≡ Verdict.Yes
+        → Follows names.now certificate.now.fresh (T.definitions old.now) (U.definitions new.now) }
 
     // no more keysyms are pending than the bound says
     ensures waits { result ≡ Verdict.Yes → Waits (U.definitions new.now) certificate.now.bound }
 
     // each character of the repertoire can be typed
-    ensures types { result ≡ Verdict.Yes → TypesAll names.now (U.definitions new.now) repertoire.now certificate.now.typings }
+    ensures types { result ≡ Verdict.Yes
+        → TypesAll names.now (U.definitions new.now) repertoire.now certificate.now.typings }
 {
     law_conditions();
     law_pairs_lift();
@@ -80,7 +92,9 @@ fn first_fault<T: ComposeTable, U: ComposeTable>(
     repertoire: &Repertoire,
     certificate: &Certificate,
 ) -> Option<CheckFault>
-    ensures exact { result ≡ fault_of names.now (T.definitions old.now) (U.definitions new.now) repertoire.now certificate.now }
+    ensures exact { result
+        ≡ fault_of names.now (T.definitions old.now)
+        (U.definitions new.now) repertoire.now certificate.now }
     ensures old_prefix_free { IsTrue (is_prefix_free (T.definitions old.now)) }
     ensures new_prefix_free { IsTrue (is_prefix_free (U.definitions new.now)) }
 {

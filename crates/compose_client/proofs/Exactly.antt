@@ -27,7 +27,8 @@ module _ (held held' : List ℕ) where
       let short = begun.short b.whole in
       omega arith
 
-  pub gives_reply : (result : Result (Option Reply) ReplyFault) → Gives result held held' → (r : ReplyValue) (more : List ℕ) → ReplyFits r → held ≡ reply_bytes r ++ more → GivesReply r more result held'
+  pub gives_reply : (result : Result (Option Reply) ReplyFault) → Gives result held held' → (r : ReplyValue) (more : List ℕ) → ReplyFits r → held ≡ reply_bytes r ++ more
+      → GivesReply r more result held'
   gives_reply (Ok (Some reply)) so r more f e =
       let same = one_reply so.value r held' more so.fits f (sym so.bytes ∙ e) in
       (subst (λ (q : ReplyValue). SaysReply reply q) same.0 so.says, same.1)

@@ -32,7 +32,8 @@ module _ (r : Reply) (more : List ℕ) (f : ReplyFits r) where
   reply_again : reply_at (reply_bytes r ++ more) ≡ r
   reply_again =
       let session : from_be_bytes w32 (to_be_bytes w32 r.session) ≡ r.session = from_be_bytes-to_be_bytes_4 r.session f.session in
-      let answer : answer_at (answer_kind r.answer) (take (size_said (reply_bytes r ++ more)) (drop 9 (reply_bytes r ++ more))) ≡ r.answer = ap (answer_at (answer_kind r.answer)) payload_again ∙ answer_again r.answer f.answer in
+      let answer : answer_at (answer_kind r.answer) (take (size_said (reply_bytes r ++ more)) (drop 9 (reply_bytes r ++ more))) ≡ r.answer =
+      ap (answer_at (answer_kind r.answer)) payload_again ∙ answer_again r.answer f.answer in
       λ i. record { session = session i; answer = answer i }
 
   frame_long : 9 + size_said (reply_bytes r ++ more) ≡ length (reply_bytes r)

@@ -71,7 +71,8 @@ unfolding told
 head_same kind rest more l =
     let further : nat_lt (length (rest ++ more)) 8 ≡ nat_lt (length rest) 8 = le-ltb (length (rest ++ more)) 8 (omega (arith, length-append rest more)) ∙ sym (le-ltb (length rest) 8 l) in
     ap (told kind (rest ++ more) (is_reply_kind kind)) further
-    ∙ ap (λ bytes. cond (not (is_reply_kind kind)) (Some unknown_kind) (cond (nat_lt (length rest) 8) None (cond (is_reply_length kind (from_be_bytes w32 bytes)) None (Some bad_length)))) (four_stay 4 rest more l)
+    ∙ ap (λ bytes. cond (not (is_reply_kind kind)) (Some unknown_kind) (cond (nat_lt (length rest) 8) None (cond (is_reply_length kind (from_be_bytes w32 bytes)) None (Some bad_length))))
+    (four_stay 4 rest more l)
 
 pub head_stays : (held more : List ℕ) (fault : Fault) → head_fault held ≡ Some fault → head_fault (held ++ more) ≡ Some fault
 unfolding told

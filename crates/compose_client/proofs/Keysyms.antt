@@ -8,7 +8,8 @@ use Rattle.compose_client.specs.Giving.{keysyms_at}
 use Rattle.compose_client.proofs.OneReply.{keysyms_again}
 
 -- four bytes are a keysym
-pub more_keysyms : (bytes : List ℕ) → 4 ≤ length bytes → keysyms_at bytes ≡ (get_or bytes 0 0 * 16777216 + get_or bytes 1 0 * 65536 + get_or bytes 2 0 * 256 + get_or bytes 3 0) ∷ keysyms_at (drop 4 bytes)
+pub more_keysyms : (bytes : List ℕ) → 4 ≤ length bytes
+    → keysyms_at bytes ≡ (get_or bytes 0 0 * 16777216 + get_or bytes 1 0 * 65536 + get_or bytes 2 0 * 256 + get_or bytes 3 0) ∷ keysyms_at (drop 4 bytes)
 more_keysyms [] l = absurd (omega arith)
 more_keysyms (a ∷ []) l = absurd (omega arith)
 more_keysyms (a ∷ b ∷ []) l = absurd (omega arith)

@@ -65,9 +65,12 @@ length_again v f = let short = payload_short v f in from_be_bytes-to_be_bytes_4 
 pub one_reply : (q r : Reply) (x y : List ℕ) → ReplyFits q → ReplyFits r → reply_bytes q ++ x ≡ reply_bytes r ++ y → (q ≡ r) × (x ≡ y)
 one_reply q r x y f g e =
     let kinds : answer_kind q.answer ≡ answer_kind r.answer = cc in
-    let rest : to_be_bytes w32 q.session ++ (to_be_bytes w32 (length (answer_payload q.answer)) ++ (answer_payload q.answer ++ x)) ≡ to_be_bytes w32 r.session ++ (to_be_bytes w32 (length (answer_payload r.answer)) ++ (answer_payload r.answer ++ y)) = cc in
+    let rest : to_be_bytes w32 q.session ++ (to_be_bytes w32 (length (answer_payload q.answer)) ++ (answer_payload q.answer ++ x))
+    ≡ to_be_bytes w32 r.session ++ (to_be_bytes w32 (length (answer_payload r.answer)) ++ (answer_payload r.answer ++ y)) = cc in
     let first = parted (to_be_bytes w32 q.session) (to_be_bytes w32 r.session) _ _ refl rest in
-    let second = parted (to_be_bytes w32 (length (answer_payload q.answer))) (to_be_bytes w32 (length (answer_payload r.answer))) (answer_payload q.answer ++ x) (answer_payload r.answer ++ y) refl first.1 in
+    let second =
+    parted (to_be_bytes w32 (length (answer_payload q.answer))) (to_be_bytes w32 (length (answer_payload r.answer))) (answer_payload q.answer ++ x)
+    (answer_payload r.answer ++ y) refl first.1 in
     let session : q.session ≡ r.session = sym (from_be_bytes-to_be_bytes_4 q.session f.session) ∙ ap (from_be_bytes w32) first.0 ∙ from_be_bytes-to_be_bytes_4 r.session g.session in
     let long : length (answer_payload q.answer) ≡ length (answer_payload r.answer) = sym (length_again q.answer f.answer) ∙ ap (from_be_bytes w32) second.0 ∙ length_again r.answer g.answer in
     let p = parted (answer_payload q.answer) (answer_payload r.answer) x y long second.1 in

@@ -47,7 +47,8 @@ fn read_loaded(payload: &[u8]) -> Answer
 /// The keysyms of four bytes each; none where one is above the greatest keysym. Bytes of less than a keysym at the end are passed over.
 fn read_keysyms(bytes: &[u8]) -> Option<ArrayVec<Keysym, 31>>
     requires { length bytes.now ≤ 124 }
-    ensures { MatchOption result (¬ (AreKeysyms (keysyms_at bytes.now))) (λ keysyms. (keysyms.items ≡ keysyms_at bytes.now) × AreKeysyms (keysyms_at bytes.now)) }
+    ensures { MatchOption result (¬ (AreKeysyms (keysyms_at bytes.now)))
+        (λ keysyms. (keysyms.items ≡ keysyms_at bytes.now) × AreKeysyms (keysyms_at bytes.now)) }
 {
     let mut keysyms = ArrayVec::new();
     let mut rest = bytes;

@@ -68,8 +68,10 @@ impl ReplyFeeder {
     /// having at most 266 bytes.
     pub fn next_reply(&mut self) -> Result<Option<Reply>, ReplyFault>
         ensures so { Gives result self.old self.new }
-        ensures reply { (r : words.Reply) (more : List ℕ) → ReplyFits r → self.old ≡ reply_bytes r ++ more → GivesReply r more result self.new }
-        ensures fault { (fault : Fault) → head_fault self.old ≡ Some fault → result ≡ Err (reply_fault fault) }
+        ensures reply { (r : words.Reply) (more : List ℕ) → ReplyFits r
+            → self.old ≡ reply_bytes r ++ more → GivesReply r more result self.new }
+        ensures fault { (fault : Fault) → head_fault self.old ≡ Some fault
+            → result ≡ Err (reply_fault fault) }
         ensures bad_payload { HasBadPayload self.old → result ≡ Err ReplyFault.BadPayload }
         ensures none { IsReplyBegun self.old → result ≡ Ok None }
     {

@@ -60,8 +60,10 @@ fn payload_size(held: &[u8]) -> Result<Option<usize>, ReplyFault>
 
 /// Whether the bytes are the frame of this reply.
 fn is_frame_of(bytes: &[u8], reply: &Reply) -> bool
-    ensures yes { (value : words.Reply) → SaysReply reply.now value → result ≡ true → reply_bytes value ≡ bytes.now }
-    ensures no { (value : words.Reply) → SaysReply reply.now value → result ≡ false → reply_bytes value ≢ bytes.now }
+    ensures yes { (value : words.Reply) → SaysReply reply.now value → result ≡ true
+        → reply_bytes value ≡ bytes.now }
+    ensures no { (value : words.Reply) → SaysReply reply.now value → result ≡ false
+        → reply_bytes value ≢ bytes.now }
 {
     let written = put_reply(reply);
     written.as_slice() == bytes

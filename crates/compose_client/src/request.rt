@@ -21,7 +21,8 @@ const MAX_PAYLOAD: usize = 8_388_608;
 pub fn put_request(alloc: Global, request: &Request) -> Result<Vec<u8>, RequestFault>
     ensures ok { IfOk result (λ bytes. bytes.items ≡ frame (request_of request.now)) }
     ensures fits { OnOk result (Fits (request_of request.now)) }
-    ensures too_long { (result ≡ Err RequestFault.TooLong) ↔ (max_payload < length (payload_of (request_of request.now).body)) }
+    ensures too_long { (result ≡ Err RequestFault.TooLong)
+        ↔ (max_payload < length (payload_of (request_of request.now).body)) }
 {
     let session = request.session;
     match &request.body {

@@ -21,7 +21,8 @@ pub child_path : (table : List Definition) (p : List ℕ) (k : ℕ) (n : NodeId)
 child_path table p k n to = sym (node_at_number table (p ++ k ∷ []) to.is_node) ∙ ap (node table) to.number
 
 -- a node has at most 31 keysyms, so a pass goes no deeper
-pub deeper : (table : List Definition) (i k t : ℕ) (n : NodeId) → is_table table ≡ true → i < length (nodes table) → ToNode table (node table i) k n → 32 - length (node table i) ≡ t → 32 - length (node table n.0) < t
+pub deeper : (table : List Definition) (i k t : ℕ) (n : NodeId) → is_table table ≡ true → i < length (nodes table) → ToNode table (node table i) k n → 32 - length (node table i) ≡ t
+    → 32 - length (node table n.0) < t
 deeper table i k t n sound below to e =
     let few : length (node table i) ≤ 31 = node_few table (node table i) sound (node_listed table i below) in
     let longer : length (node table n.0) ≡ length (node table i) + 1 = ap length (sym (child_path table (node table i) k n to)) ∙ length-append (node table i) (k ∷ []) in

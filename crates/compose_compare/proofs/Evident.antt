@@ -29,12 +29,14 @@ some_difference old new h = go (is_cancel new.effect) (same new.text old.text) (
 
 module _ (names : KeysymNames) (fresh : List ℕ) (old new : List Definition) where
   -- the tables agree on p, and not on w after it
-  first_part : (s p w : List ℕ) → s ≡ p ++ w → avoids fresh s ≡ true → uncancelled old s ≡ true → AgreeAlong names old new [] [] p → agree_along names old new (pending old p) (pending new p) w ≡ false → Evidence names fresh old new s
+  first_part : (s p w : List ℕ) → s ≡ p ++ w → avoids fresh s ≡ true → uncancelled old s ≡ true → AgreeAlong names old new [] [] p → agree_along names old new (pending old p) (pending new p) w ≡ false
+      → Evidence names fresh old new s
   first_part s p [] e a g r h = cc
   first_part s p (k ∷ w) e a g r h = elim (cases_Bool (agrees (step names old (pending old p) k) (step names new (pending new p) k))) [
     | inl y ↦ first_part s (p ++ k ∷ []) w (e ∙ sym more) a g
         (agree_joined names old new [] [] p (k ∷ []) r (agrees_from (step names old (pending old p) k) (step names new (pending new p) k) y, tt))
-        (ap (λ z. agree_along names old new z (pending new (p ++ k ∷ [])) w) (pending_from-append old [] p (k ∷ [])) ∙ ap (λ z. agree_along names old new (pending_after old (pending old p) k) z w) (pending_from-append new [] p (k ∷ []))
+        (ap (λ z. agree_along names old new z (pending new (p ++ k ∷ [])) w) (pending_from-append old [] p (k ∷ []))
+        ∙ ap (λ z. agree_along names old new (pending_after old (pending old p) k) z w) (pending_from-append new [] p (k ∷ []))
         ∙ ap (λ b. b && agree_along names old new (pending_after old (pending old p) k) (pending_after new (pending new p) k) w) (sym y) ∙ h)
     | inr n ↦ (let d = some_difference (step names old (pending old p) k) (step names new (pending new p) k) n in
         let split : s ≡ (p ++ k ∷ []) ++ w = e ∙ sym more in
@@ -50,7 +52,9 @@ module _ (names : KeysymNames) (fresh : List ℕ) (old new : List Definition) wh
             last = k;
             keys_are = refl;
             none_fresh = (and_parts (avoids fresh (p ++ k ∷ [])) (avoids fresh w) (sym (list_all-append (λ j. not (has_key fresh j)) (p ++ k ∷ []) w) ∙ ap (avoids fresh) (sym split) ∙ a)).0;
-            old_goes_on = (and_parts (uncancelled old (p ++ k ∷ [])) (uncancelled_from old (pending old (p ++ k ∷ [])) w) (sym (uncancelled_from-append old [] (p ++ k ∷ []) w) ∙ ap (uncancelled old) (sym split) ∙ g)).0;
+            old_goes_on =
+                (and_parts (uncancelled old (p ++ k ∷ [])) (uncancelled_from old (pending old (p ++ k ∷ [])) w)
+                (sym (uncancelled_from-append old [] (p ++ k ∷ []) w) ∙ ap (uncancelled old) (sym split) ∙ g)).0;
             agree = r;
             differ = d.1;
             old_commits = refl;
@@ -68,7 +72,8 @@ module _ (names : KeysymNames) (fresh : List ℕ) (old new : List Definition) wh
 
   -- the evidence of a list is evidence of a longer one
   one_more : (s r : List ℕ) → Evidence names fresh old new s → Evidence names fresh old new (s ++ r)
-  one_more s r x = record { keys = x.keys; rest = x.rest ++ r; kind = x.kind; old_text = x.old_text; new_text = x.new_text; begin = ap (λ y. y ++ r) x.begin ∙ append_assoc x.keys x.rest r; part = x.part }
+  one_more s r x =
+      record { keys = x.keys; rest = x.rest ++ r; kind = x.kind; old_text = x.old_text; new_text = x.new_text; begin = ap (λ y. y ++ r) x.begin ∙ append_assoc x.keys x.rest r; part = x.part }
 
   pub start_evident : (s : List ℕ) → is_table new ≡ true → is_sequence new s ≡ true → is_new_start names fresh old new s ≡ true → Evidence names fresh old new s
   start_evident [] t h n = cc

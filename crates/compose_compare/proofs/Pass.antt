@@ -21,10 +21,13 @@ pub agree_along-append : (names : KeysymNames) (old new : List Definition) (u v 
 agree_along-append names old new u v [] w = refl
 agree_along-append names old new u v (k ∷ p) w =
     ap (λ b. agrees (step names old u k) (step names new v k) && b) (agree_along-append names old new (pending_after old u k) (pending_after new v k) p w)
-    ∙ sym (and_assoc (agrees (step names old u k) (step names new v k)) (agree_along names old new (pending_after old u k) (pending_after new v k) p) (agree_along names old new (pending_from old u (k ∷ p)) (pending_from new v (k ∷ p)) w))
+    ∙ sym
+    (and_assoc (agrees (step names old u k) (step names new v k)) (agree_along names old new (pending_after old u k) (pending_after new v k) p)
+    (agree_along names old new (pending_from old u (k ∷ p)) (pending_from new v (k ∷ p)) w))
 
 -- one key on from a node
-pub stands_on : (names : KeysymNames) (old new : List Definition) (p : List ℕ) (k : ℕ) → is_table old ≡ true → is_node old p ≡ true → stands names old new (p ++ k ∷ []) ≡ stands_after names old new p k (stands names old new p)
+pub stands_on : (names : KeysymNames) (old new : List Definition) (p : List ℕ) (k : ℕ) → is_table old ≡ true → is_node old p ≡ true
+    → stands names old new (p ++ k ∷ []) ≡ stands_after names old new p k (stands names old new p)
 stands_on names old new p k t h =
     let r = node_reached old p t h in
     let both : agree_along names old new [] [] (p ++ k ∷ []) ≡ agree_along names old new [] [] p && (agrees (step names old p k) (step names new (pending new p) k) && true) =
@@ -37,7 +40,9 @@ stands_on names old new p k t h =
     alone true x = refl
     alone false x = refl
 
-    go : (a : Bool) → cond (a && (agrees (step names old p k) (step names new (pending new p) k) && true)) (Some (pending_after new (pending new p) k)) None ≡ stands_after names old new p k (cond a (Some (pending new p)) None)
+    go : (a : Bool)
+        → cond (a && (agrees (step names old p k) (step names new (pending new p) k) && true)) (Some (pending_after new (pending new p) k)) None
+        ≡ stands_after names old new p k (cond a (Some (pending new p)) None)
     go true = alone (agrees (step names old p k) (step names new (pending new p) k)) (Some (pending_after new (pending new p) k))
     go false = refl
 
@@ -55,7 +60,8 @@ node_extended : (table : List Definition) (k : ℕ) (p : List ℕ) → is_node t
 node_extended table k p h = sym (node_means table (k ∷ p)) ∙ h
 
 -- at a node of both tables the new one stands there
-pub stands_there : (names : KeysymNames) (old new : List Definition) (p : List ℕ) → is_table old ≡ true → is_table new ≡ true → is_node old p ≡ true → is_node new p ≡ true → stands names old new p ≡ Some p
+pub stands_there : (names : KeysymNames) (old new : List Definition) (p : List ℕ) → is_table old ≡ true → is_table new ≡ true → is_node old p ≡ true → is_node new p ≡ true
+    → stands names old new p ≡ Some p
 stands_there names old new [] t n h g = refl
 stands_there names old new (k ∷ p) t n h g =
     ap (λ b. cond b (Some (pending new (k ∷ p))) None) (along_test names old new [] [] (k ∷ p) (both_wait names old new [] (k ∷ p) t n (node_extended old k p h) (node_extended new k p g)))
@@ -66,15 +72,19 @@ begins_more [] k w = refl
 begins_more (j ∷ p) k w = and_from (j == j) (is_proper_prefix p (p ++ k ∷ w)) (eq-eqb j j refl) (begins_more p k w)
 
 -- every sequence that goes on from a node where the new table is lost is removed
-pub lost_behind : (names : KeysymNames) (fresh : List ℕ) (old new : List Definition) (p : List ℕ) (k : ℕ) (w : List ℕ) → is_table old ≡ true → is_table new ≡ true → is_prefix_free old ≡ true → is_prefix_free new ≡ true
+pub lost_behind : (names : KeysymNames) (fresh : List ℕ) (old new : List Definition) (p : List ℕ) (k : ℕ) (w : List ℕ) → is_table old ≡ true → is_table new ≡ true → is_prefix_free old ≡ true
+    → is_prefix_free new ≡ true
     → stands names old new p ≡ None → is_sequence old (p ++ k ∷ w) ≡ true → change names fresh old new (p ++ k ∷ w) ≡ Removed
 lost_behind names fresh old new p k w t n free_old free_new lost h =
     (one_kind names fresh old new t n free_old free_new (p ++ k ∷ w) (or_left (is_sequence old (p ++ k ∷ w)) (is_sequence new (p ++ k ∷ w)) h) Removed).0 (
       h,
       record {
-        not_kept = λ kept. let some : Some (pending new p) ≡ None = ap (λ b. cond b (Some (pending new p)) None) (sym (along_test names old new [] [] p (agree-append names old new [] [] p (k ∷ w) kept).0)) ∙ lost in cc;
+        not_kept =
+            λ kept. let some : Some (pending new p) ≡ None = ap (λ b. cond b (Some (pending new p)) None) (sym (along_test names old new [] [] p (agree-append names old new [] [] p (k ∷ w) kept).0)) ∙ lost in cc;
         not_changed = λ x. not_extended_there (list_any-weaker (λ (d : Definition). same (p ++ k ∷ w) d.sequence) (λ d. is_proper_prefix p d.sequence) (λ d e. begun d e) new x.in_new);
-        not_waiting = λ x. not_extended_there (list_any-weaker (λ (d : Definition). is_proper_prefix (p ++ k ∷ w) d.sequence) (λ d. is_proper_prefix p d.sequence) (λ d. shorter_prefix p (k ∷ w) d.sequence) new x);
+        not_waiting =
+            λ x. not_extended_there
+            (list_any-weaker (λ (d : Definition). is_proper_prefix (p ++ k ∷ w) d.sequence) (λ d. is_proper_prefix p d.sequence) (λ d. shorter_prefix p (k ∷ w) d.sequence) new x);
       },
     )
   where

@@ -68,7 +68,9 @@ no_target table p k e = go (target_of table p k) (leads table p k)
 pub node_on : (table : List Definition) (p : List ℕ) (k : ℕ) → node_in (target_of table p k) ≡ node_of table (p ++ k ∷ [])
 node_on table p k = go (is_node table (p ++ k ∷ [])) (is_sequence table (p ++ k ∷ []))
   where
-    go : (a b : Bool) → node_in (cond a (Some (Node (record { 0 = number_of table (p ++ k ∷ []) }))) (cond b (Some (Leaf (record { 0 = leaf_number table (p ++ k ∷ []) }))) None)) ≡ cond a (Some (node_id (number_of table (p ++ k ∷ [])))) None
+    go : (a b : Bool)
+        → node_in (cond a (Some (Node (record { 0 = number_of table (p ++ k ∷ []) }))) (cond b (Some (Leaf (record { 0 = leaf_number table (p ++ k ∷ []) }))) None))
+        ≡ cond a (Some (node_id (number_of table (p ++ k ∷ [])))) None
     go true b = refl
     go false true = refl
     go false false = refl
@@ -134,7 +136,8 @@ module _ (names : KeysymNames) (old new : List Definition) (p : List ℕ) (k : �
     on c h =
         stands_on names old new p k t_old here ∙ ap (stands_after names old new p k) (stood names old new p t e).stands
         ∙ ap (λ y. cond y (Some (pending_after new (pending new p) k)) None) (agrees_unless (step names old p k) (step names new (pending new p) k)
-        ∙ ap not (sym (differs_alike names old new p (node new t.0) k a b here (ap (is_node new) (stood_path names old new p t e) ∙ stood_node names old new p) (stood_path names old new p t e) sa sb) ∙ h))
+        ∙ ap not
+        (sym (differs_alike names old new p (node new t.0) k a b here (ap (is_node new) (stood_path names old new p t e) ∙ stood_node names old new p) (stood_path names old new p t e) sa sb) ∙ h))
 
     -- from somewhere it stands nowhere once the tables differ
     pub now_lost : is_some (difference_of a b) ≡ true → None ≡ stand_of names old new (p ++ k ∷ [])
@@ -173,21 +176,27 @@ no_sequence table z s x = elim (cases_Bool (is_sequence table z)) [
 
 module _ (names : KeysymNames) (fresh : List ℕ) (old new : List Definition) where
   -- a sequence of the old table
-  pub old_told : (p : List ℕ) (k : ℕ) → IsSettled new → is_sequence old (p ++ k ∷ []) ≡ true → (kept : Bool) → kept ≡ is_some (stand_of names old new (p ++ k ∷ [])) → old_change kept (target_of new p k) ≡ change names fresh old new (p ++ k ∷ [])
+  pub old_told : (p : List ℕ) (k : ℕ) → IsSettled new → is_sequence old (p ++ k ∷ []) ≡ true → (kept : Bool) → kept ≡ is_some (stand_of names old new (p ++ k ∷ []))
+      → old_change kept (target_of new p k) ≡ change names fresh old new (p ++ k ∷ [])
   old_told p k s o kept h = go (target_of new p k) (leads new p k) kept (h ∙ some_mapped (stands names old new (p ++ k ∷ [])) ∙ stands_where_kept names old new (p ++ k ∷ [])) ∙ sym whole
     where
       some_mapped : (o : Option (List ℕ)) → is_some (option_map (λ v. node_id (number_of new v)) o) ≡ is_some o
       some_mapped None = refl
       some_mapped (Some v) = refl
 
-      whole : change names fresh old new (p ++ k ∷ []) ≡ cond (agree_along names old new [] [] (p ++ k ∷ [])) Kept (cond (is_sequence new (p ++ k ∷ [])) Changed (cond (is_extended new (p ++ k ∷ [])) Waiting Removed))
-      whole = ap (λ y. cond y (cond (agree_along names old new [] [] (p ++ k ∷ [])) Kept (cond (is_sequence new (p ++ k ∷ [])) Changed (cond (is_extended new (p ++ k ∷ [])) Waiting Removed))) (cond (is_new_start names fresh old new (p ++ k ∷ [])) NewStart Added)) o
+      whole : change names fresh old new (p ++ k ∷ [])
+          ≡ cond (agree_along names old new [] [] (p ++ k ∷ [])) Kept (cond (is_sequence new (p ++ k ∷ [])) Changed (cond (is_extended new (p ++ k ∷ [])) Waiting Removed))
+      whole =
+          ap
+          (λ y. cond y (cond (agree_along names old new [] [] (p ++ k ∷ [])) Kept (cond (is_sequence new (p ++ k ∷ [])) Changed (cond (is_extended new (p ++ k ∷ [])) Waiting Removed)))
+          (cond (is_new_start names fresh old new (p ++ k ∷ [])) NewStart Added)) o
 
       by : (c a q x : Bool) (t : Option Target) → c ≡ a → old_change false t ≡ cond q Changed (cond x Waiting Removed) → old_change c t ≡ cond a Kept (cond q Changed (cond x Waiting Removed))
       by c true q x t e f = ap (λ b. old_change b t) e
       by c false q x t e f = ap (λ b. old_change b t) e ∙ f
 
-      go : (t : Option Target) → Leads new p k t → (c : Bool) → c ≡ agree_along names old new [] [] (p ++ k ∷ []) → old_change c t ≡ cond (agree_along names old new [] [] (p ++ k ∷ [])) Kept (cond (is_sequence new (p ++ k ∷ [])) Changed (cond (is_extended new (p ++ k ∷ [])) Waiting Removed))
+      go : (t : Option Target) → Leads new p k t → (c : Bool) → c ≡ agree_along names old new [] [] (p ++ k ∷ [])
+          → old_change c t ≡ cond (agree_along names old new [] [] (p ++ k ∷ [])) Kept (cond (is_sequence new (p ++ k ∷ [])) Changed (cond (is_extended new (p ++ k ∷ [])) Waiting Removed))
       go (Some (Node n)) l c e = by c (agree_along names old new [] [] (p ++ k ∷ [])) (is_sequence new (p ++ k ∷ [])) (is_extended new (p ++ k ∷ [])) (Some (Node n)) e
           (sym (ap₂ (λ q x. cond q Changed (cond x Waiting Removed)) (no_sequence new (p ++ k ∷ []) s l.extended) l.extended))
       go (Some (Leaf n)) l c e = by c (agree_along names old new [] [] (p ++ k ∷ [])) (is_sequence new (p ++ k ∷ [])) (is_extended new (p ++ k ∷ [])) (Some (Leaf n)) e
@@ -196,13 +205,19 @@ module _ (names : KeysymNames) (fresh : List ℕ) (old new : List Definition) wh
           (sym (ap₂ (λ q x. cond q Changed (cond x Waiting Removed)) l.sequence l.extended))
 
   -- a sequence of the new table
-  pub new_told : (p : List ℕ) (k : ℕ) → IsSettled old → (starts : Bool) → starts ≡ is_new_start names fresh old new (p ++ k ∷ []) → new_change (target_of old p k) starts ≡ cond (is_sequence old (p ++ k ∷ [])) None (Some (change names fresh old new (p ++ k ∷ [])))
+  pub new_told : (p : List ℕ) (k : ℕ) → IsSettled old → (starts : Bool) → starts ≡ is_new_start names fresh old new (p ++ k ∷ [])
+      → new_change (target_of old p k) starts ≡ cond (is_sequence old (p ++ k ∷ [])) None (Some (change names fresh old new (p ++ k ∷ [])))
   new_told p k s starts h = go (target_of old p k) (leads old p k)
     where
       alone : is_sequence old (p ++ k ∷ []) ≡ false → Some (cond starts NewStart Added) ≡ cond (is_sequence old (p ++ k ∷ [])) None (Some (change names fresh old new (p ++ k ∷ [])))
       alone e =
           ap (λ c. Some (cond c NewStart Added)) h
-          ∙ sym (ap (λ y. cond y None (Some (cond y (cond (agree_along names old new [] [] (p ++ k ∷ [])) Kept (cond (is_sequence new (p ++ k ∷ [])) Changed (cond (is_extended new (p ++ k ∷ [])) Waiting Removed))) (cond (is_new_start names fresh old new (p ++ k ∷ [])) NewStart Added)))) e)
+          ∙ sym
+          (ap
+          (λ y. cond y None
+          (Some
+          (cond y (cond (agree_along names old new [] [] (p ++ k ∷ [])) Kept (cond (is_sequence new (p ++ k ∷ [])) Changed (cond (is_extended new (p ++ k ∷ [])) Waiting Removed)))
+          (cond (is_new_start names fresh old new (p ++ k ∷ [])) NewStart Added)))) e)
 
       go : (t : Option Target) → Leads old p k t → new_change t starts ≡ cond (is_sequence old (p ++ k ∷ [])) None (Some (change names fresh old new (p ++ k ∷ [])))
       go (Some (Node n)) l = alone (no_sequence old (p ++ k ∷ []) s l.extended)
@@ -214,7 +229,8 @@ module _ (names : KeysymNames) (fresh : List ℕ) (old new : List Definition) wh
   zero_is_empty i below = ap (λ n. n == 0) (sym (number_at_node new i below)) ∙ zero_test new (node new i) (node_is_node new i below)
 
   -- what begins anew, one key on
-  pub anew_on : (i k : ℕ) → i < length (nodes new) → cond (i == 0) (not (has_edge old [] k) && not (has_key fresh k)) (begins_anew fresh old (node new i)) ≡ begins_anew fresh old (node new i ++ k ∷ [])
+  pub anew_on : (i k : ℕ) → i < length (nodes new)
+      → cond (i == 0) (not (has_edge old [] k) && not (has_key fresh k)) (begins_anew fresh old (node new i)) ≡ begins_anew fresh old (node new i ++ k ∷ [])
   anew_on i k below = go (node new i) (zero_is_empty i below)
     where
       go : (p : List ℕ) → (i == 0) ≡ is_empty p → cond (i == 0) (not (has_edge old [] k) && not (has_key fresh k)) (begins_anew fresh old p) ≡ begins_anew fresh old (p ++ k ∷ [])
@@ -230,7 +246,8 @@ module _ (names : KeysymNames) (fresh : List ℕ) (old new : List Definition) wh
       regroup true b x = refl
       regroup false b x = refl
 
-      go : (p : List ℕ) → (i == 0) ≡ is_empty p → is_sequence new (p ++ k ∷ []) ≡ true → text_at new (p ++ k ∷ []) ≡ Some t → begins_anew fresh old (p ++ k ∷ []) && not (i == 0 && same (text names k) t) ≡ is_new_start names fresh old new (p ++ k ∷ [])
+      go : (p : List ℕ) → (i == 0) ≡ is_empty p → is_sequence new (p ++ k ∷ []) ≡ true → text_at new (p ++ k ∷ []) ≡ Some t
+          → begins_anew fresh old (p ++ k ∷ []) && not (i == 0 && same (text names k) t) ≡ is_new_start names fresh old new (p ++ k ∷ [])
       go [] e s a =
           ap (λ b. begins_anew fresh old (k ∷ []) && not (b && same (text names k) t)) e
           ∙ regroup (has_edge old [] k) (has_key fresh k) (same (text names k) t)

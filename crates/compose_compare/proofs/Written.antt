@@ -44,14 +44,16 @@ module _ {X : Type 0} (d : X) (value : List ℕ → X) (table : List Definition)
         ∙ ap (λ j. is_through p (take i es) s || begins (p ++ j ∷ []) s) (get_or_from_slice_get es i k 0 at)
 
     -- with what goes on from p by the key k
-    more : ((s : List ℕ) → is_sequence table s ≡ true → get_or after (leaf_number table s) d ≡ cond (begins (p ++ k ∷ []) s) (value s) (get_or middle (leaf_number table s) d)) → IsWritten d value table (is_through p (take (i + 1) es)) before after
+    more : ((s : List ℕ) → is_sequence table s ≡ true → get_or after (leaf_number table s) d ≡ cond (begins (p ++ k ∷ []) s) (value s) (get_or middle (leaf_number table s) d))
+        → IsWritten d value table (is_through p (take (i + 1) es)) before after
     more next s h =
         next s h ∙ ap (cond (begins (p ++ k ∷ []) s) (value s)) (so_far s h)
         ∙ join (is_through p (take i es) s) (begins (p ++ k ∷ []) s) (value s) (get_or before (leaf_number table s) d)
         ∙ ap (λ b. cond b (value s) (get_or before (leaf_number table s) d)) (sym (through_more s))
 
     -- where the key leads to a node, whose leaves are written
-    pub node_written : is_extended table (p ++ k ∷ []) ≡ true → IsWritten d value table (is_proper_prefix (p ++ k ∷ [])) middle after → IsWritten d value table (is_through p (take (i + 1) es)) before after
+    pub node_written : is_extended table (p ++ k ∷ []) ≡ true → IsWritten d value table (is_proper_prefix (p ++ k ∷ [])) middle after
+        → IsWritten d value table (is_through p (take (i + 1) es)) before after
     node_written x w = more (λ s h. w s h ∙ ap (λ b. cond b (value s) (get_or middle (leaf_number table s) d)) (sym (begins_longer s h)))
       where
         begins_longer : (s : List ℕ) → is_sequence table s ≡ true → begins (p ++ k ∷ []) s ≡ is_proper_prefix (p ++ k ∷ []) s
@@ -62,7 +64,8 @@ module _ {X : Type 0} (d : X) (value : List ℕ → X) (table : List Definition)
         ]
 
     -- where it leads to a leaf, which is written
-    pub leaf_written : is_sequence table (p ++ k ∷ []) ≡ true → leaf_number table (p ++ k ∷ []) < length middle → after ≡ set middle (leaf_number table (p ++ k ∷ [])) (value (p ++ k ∷ [])) → IsWritten d value table (is_through p (take (i + 1) es)) before after
+    pub leaf_written : is_sequence table (p ++ k ∷ []) ≡ true → leaf_number table (p ++ k ∷ []) < length middle → after ≡ set middle (leaf_number table (p ++ k ∷ [])) (value (p ++ k ∷ []))
+        → IsWritten d value table (is_through p (take (i + 1) es)) before after
     leaf_written x below w = more (λ s h. ap (λ xs. get_or xs (leaf_number table s) d) w ∙ here s h (same (p ++ k ∷ []) s) refl)
       where
         no_more : (s : List ℕ) → is_sequence table s ≡ true → is_proper_prefix (p ++ k ∷ []) s ≡ true → ⊥
@@ -92,7 +95,8 @@ module _ {X : Type 0} (d : X) (value : List ℕ → X) (table : List Definition)
   pub all_through : (p s : List ℕ) → is_sequence table s ≡ true → is_through p (edges table p) s ≡ is_proper_prefix p s
   all_through p s q = same_test (is_through p (edges table p) s) (is_proper_prefix p s) (some_by (edges table p))
       (λ h. (let k = first_key p s h in
-      list_any-weaker (λ j. k.0 == j) (λ j. begins (p ++ j ∷ []) s) (λ j e. ap (λ i. begins (p ++ i ∷ []) s) (sym (eqb-true k.0 j e)) ∙ k.1) (edges table p) (edge_listed table p k.0 (edge_by k.0 k.1))))
+      list_any-weaker (λ j. k.0 == j) (λ j. begins (p ++ j ∷ []) s) (λ j e. ap (λ i. begins (p ++ i ∷ []) s) (sym (eqb-true k.0 j e)) ∙ k.1) (edges table p)
+      (edge_listed table p k.0 (edge_by k.0 k.1))))
     where
       some_by : (ks : List ℕ) → is_through p ks s ≡ true → is_proper_prefix p s ≡ true
       some_by [] h = cc
@@ -105,7 +109,8 @@ module _ {X : Type 0} (d : X) (value : List ℕ → X) (table : List Definition)
             (λ x f. ap (is_proper_prefix (p ++ k ∷ [])) (sym (same_is s x.sequence f)) ∙ e) table q)
       ]
 
-  pub all_written : (p : List ℕ) (i : ℕ) (before after : List X) → length (edges table p) ≤ i → IsWritten d value table (is_through p (take i (edges table p))) before after → IsWritten d value table (is_proper_prefix p) before after
+  pub all_written : (p : List ℕ) (i : ℕ) (before after : List X) → length (edges table p) ≤ i → IsWritten d value table (is_through p (take i (edges table p))) before after
+      → IsWritten d value table (is_proper_prefix p) before after
   all_written p i before after n w s h =
       w s h ∙ ap (λ ks. cond (is_through p ks s) (value s) (get_or before (leaf_number table s) d)) (take_all i (edges table p) n)
       ∙ ap (λ b. cond b (value s) (get_or before (leaf_number table s) d)) (all_through p s h)
@@ -129,6 +134,7 @@ module _ {X : Type 0} (d : X) (value : List ℕ → X) (table : List Definition)
           at : (s : List ℕ) → get_or (leaves table) i [] ≡ s → get_or after i d ≡ get_or (map value (leaves table)) i d
           at [] e = absurd (no_empty table settled.definitions (sym (leaf_means table []) ∙ ap (λ q. list_any (same q) (leaves table)) (sym e) ∙ any_at (leaves table) i below))
           at (k ∷ s) e =
-              let number : leaf_number table (k ∷ s) ≡ i = ap (leaf_number table) (sym e) ∙ index_is (leaves table) i (rising_sorted nat_list_cmp_total (map (λ (e : Definition). e.sequence) table)) below in
+              let number : leaf_number table (k ∷ s) ≡ i =
+              ap (leaf_number table) (sym e) ∙ index_is (leaves table) i (rising_sorted nat_list_cmp_total (map (λ (e : Definition). e.sequence) table)) below in
               let sequence : is_sequence table (k ∷ s) ≡ true = sym (leaf_means table (k ∷ s)) ∙ ap (λ q. list_any (same q) (leaves table)) (sym e) ∙ any_at (leaves table) i below in
               ap (λ j. get_or after j d) (sym number) ∙ w (k ∷ s) sequence ∙ ap value (sym e) ∙ sym (get_or-map value (leaves table) i [] d below)

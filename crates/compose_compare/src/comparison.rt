@@ -101,11 +101,18 @@ pub fn compare<T: ComposeTable, U: ComposeTable>(
     fresh: &[Keysym],
 ) -> Result<Comparison, AllocError>
     requires rise { IsTrue (keys_rise fresh.now) }
-    ensures of_old { IfOk result (λ c. c.of_old ≡ old_changes names.now fresh.now (T.definitions old.now) (U.definitions new.now)) }
-    ensures of_new { IfOk result (λ c. c.of_new ≡ new_changes names.now fresh.now (T.definitions old.now) (U.definitions new.now)) }
+    ensures of_old { IfOk result
+        (λ c. c.of_old
+        ≡ old_changes names.now fresh.now (T.definitions old.now) (U.definitions new.now)) }
+    ensures of_new { IfOk result
+        (λ c. c.of_new
+        ≡ new_changes names.now fresh.now (T.definitions old.now) (U.definitions new.now)) }
 
     // nothing is lost exactly where the new table follows
-    ensures follows { AreFresh fresh.now (T.definitions old.now) → IfOk result (λ c. Follows names.now fresh.now (T.definitions old.now) (U.definitions new.now) ↔ IsTrue (is_all_harmless c)) }
+    ensures follows { AreFresh fresh.now (T.definitions old.now)
+        → IfOk result
+        (λ c. Follows names.now fresh.now (T.definitions old.now) (U.definitions new.now)
+        ↔ IsTrue (is_all_harmless c)) }
 {
     law_changes();
     // The contracts of these calls say that the tables are settled.
@@ -123,7 +130,10 @@ fn all_old<T: ComposeTable, U: ComposeTable>(
     new: &U,
     names: &Names,
 ) -> Result<Vec<Change>, AllocError>
-    ensures { (fresh : List ℕ) → IfOk result (λ changes. changes.items ≡ old_changes names.now fresh (T.definitions old.now) (U.definitions new.now)) }
+    ensures { (fresh : List ℕ)
+        → IfOk result
+        (λ changes. changes.items
+        ≡ old_changes names.now fresh (T.definitions old.now) (U.definitions new.now)) }
 {
     // The contracts of these calls say that the tables are settled.
     let _ = old.node_count();
@@ -151,7 +161,9 @@ fn all_new<T: ComposeTable, U: ComposeTable>(
     fresh: &[Keysym],
 ) -> Result<Vec<Option<Change>>, AllocError>
     requires rise { IsTrue (keys_rise fresh.now) }
-    ensures { IfOk result (λ changes. changes.items ≡ new_changes names.now fresh.now (T.definitions old.now) (U.definitions new.now)) }
+    ensures { IfOk result
+        (λ changes. changes.items
+        ≡ new_changes names.now fresh.now (T.definitions old.now) (U.definitions new.now)) }
 {
     // The contracts of these calls say that the tables are settled.
     let _ = old.node_count();

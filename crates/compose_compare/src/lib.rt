@@ -47,40 +47,68 @@ pub enum Change {
 
 /// A new table follows an old one exactly where every sequence of the old one is kept and no added one is a new start.
 pub fn law_keeps()
-    ensures enough { (names : KeysymNames) (fresh : List ℕ) (old new : List Definition) → KeepsAll names fresh old new → Follows names fresh old new }
-    ensures needed { (names : KeysymNames) (fresh : List ℕ) (old new : List Definition) → IsTrue (is_table old) → IsTrue (is_table new) → AreFresh fresh old → Follows names fresh old new → KeepsAll names fresh old new }
+    ensures enough { (names : KeysymNames) (fresh : List ℕ) (old new : List Definition)
+        → KeepsAll names fresh old new → Follows names fresh old new }
+    ensures needed { (names : KeysymNames) (fresh : List ℕ) (old new : List Definition)
+        → IsTrue (is_table old) → IsTrue (is_table new) → AreFresh fresh old
+        → Follows names fresh old new → KeepsAll names fresh old new }
 {}
 
 /// Of two tables without overlap, exactly one thing happens to each sequence of either, and it is what the tests say.
 pub fn law_one_kind()
-    ensures { (names : KeysymNames) (fresh : List ℕ) (old new : List Definition) → IsTrue (is_table old) → IsTrue (is_table new) → IsTrue (is_prefix_free old) → IsTrue (is_prefix_free new)
-        → (s : List ℕ) → IsTrue (is_sequence old s || is_sequence new s) → (c : Change) → Happens names fresh old new s c ↔ change names fresh old new s ≡ c }
+    ensures { (names : KeysymNames) (fresh : List ℕ) (old new : List Definition)
+        → IsTrue (is_table old) → IsTrue (is_table new) → IsTrue (is_prefix_free old)
+        → IsTrue (is_prefix_free new) → (s : List ℕ)
+        → IsTrue (is_sequence old s || is_sequence new s) → (c : Change)
+        → Happens names fresh old new s c ↔ change names fresh old new s ≡ c }
 {}
 
 /// The leaves of two tables together are the sequences of both, each once, and the new table follows exactly where all of them are harmless.
 pub fn law_changes()
-    ensures listed { (old new : List Definition) (s : List ℕ) → list_any (same s) (leaves (old ++ new)) ≡ is_sequence old s || is_sequence new s }
-    ensures rise { (old new : List Definition) → IsStrictlySortedBy (slice_cmp nat_cmp) (leaves (old ++ new)) }
-    ensures by_table { (names : KeysymNames) (fresh : List ℕ) (old new : List Definition) → loses_nothing names fresh old new ≡ list_all is_harmless (old_changes names fresh old new) && list_all (λ c. option_map_or is_harmless c true) (new_changes names fresh old new) }
-    ensures decide { (names : KeysymNames) (fresh : List ℕ) (old new : List Definition) → IsTrue (is_table old) → IsTrue (is_table new) → AreFresh fresh old → Follows names fresh old new ↔ IsTrue (loses_nothing names fresh old new) }
+    ensures listed { (old new : List Definition) (s : List ℕ)
+        → list_any (same s) (leaves (old ++ new)) ≡ is_sequence old s || is_sequence new s }
+    ensures rise { (old new : List Definition)
+        → IsStrictlySortedBy (slice_cmp nat_cmp) (leaves (old ++ new)) }
+    ensures by_table { (names : KeysymNames) (fresh : List ℕ) (old new : List Definition)
+        → loses_nothing names fresh old new
+        ≡ list_all is_harmless (old_changes names fresh old new)
+        && list_all (λ c. option_map_or is_harmless c true) (new_changes names fresh old new) }
+    ensures decide { (names : KeysymNames) (fresh : List ℕ) (old new : List Definition)
+        → IsTrue (is_table old) → IsTrue (is_table new) → AreFresh fresh old
+        → Follows names fresh old new ↔ IsTrue (loses_nothing names fresh old new) }
 {}
 
 /// A sequence of an old table without overlap is kept exactly where its keys still type its text.
 pub fn law_kept()
-    ensures { (names : KeysymNames) (old new : List Definition) → IsTrue (is_table old) → IsTrue (is_prefix_free old) → (s : List ℕ) → IsTrue (is_sequence old s) → IsKept names old new s ↔ StillTypes names new s (unwrap_or (text_at old s) []) }
+    ensures { (names : KeysymNames) (old new : List Definition) → IsTrue (is_table old)
+        → IsTrue (is_prefix_free old) → (s : List ℕ) → IsTrue (is_sequence old s)
+        → IsKept names old new s ↔ StillTypes names new s (unwrap_or (text_at old s) []) }
 {}
 
 /// One pass over the nodes of the old table tells what is kept: where the new table stands is told by where it stood a key before; at a node of both it stands there; and where it is lost, every longer sequence is removed.
 pub fn law_pass()
-    ensures on { (names : KeysymNames) (old new : List Definition) (p : List ℕ) (k : ℕ) → IsTrue (is_table old) → IsTrue (is_node old p) → stands names old new (p ++ k ∷ []) ≡ stands_after names old new p k (stands names old new p) }
-    ensures kept { (names : KeysymNames) (old new : List Definition) (s : List ℕ) → is_some (stands names old new s) ≡ agree_along names old new [] [] s }
-    ensures both { (names : KeysymNames) (old new : List Definition) (p : List ℕ) → IsTrue (is_table old) → IsTrue (is_table new) → IsTrue (is_node old p) → IsTrue (is_node new p) → stands names old new p ≡ Some p }
-    ensures lost { (names : KeysymNames) (fresh : List ℕ) (old new : List Definition) (p : List ℕ) (k : ℕ) (w : List ℕ) → IsTrue (is_table old) → IsTrue (is_table new) → IsTrue (is_prefix_free old) → IsTrue (is_prefix_free new)
-        → stands names old new p ≡ None → IsTrue (is_sequence old (p ++ k ∷ w)) → change names fresh old new (p ++ k ∷ w) ≡ Removed }
+    ensures on { (names : KeysymNames) (old new : List Definition) (p : List ℕ) (k : ℕ)
+        → IsTrue (is_table old) → IsTrue (is_node old p)
+        → stands names old new (p ++ k ∷ [])
+        ≡ stands_after names old new p k (stands names old new p) }
+    ensures kept { (names : KeysymNames) (old new : List Definition) (s : List ℕ)
+        → is_some (stands names old new s) ≡ agree_along names old new [] [] s }
+    ensures both { (names : KeysymNames) (old new : List Definition) (p : List ℕ)
+        → IsTrue (is_table old) → IsTrue (is_table new) → IsTrue (is_node old p)
+        → IsTrue (is_node new p) → stands names old new p ≡ Some p }
+    ensures lost { (names : KeysymNames) (fresh : List ℕ) (old new : List Definition) (p : List ℕ)
+        (k : ℕ) (w : List ℕ) → IsTrue (is_table old) → IsTrue (is_table new)
+        → IsTrue (is_prefix_free old) → IsTrue (is_prefix_free new)
+        → stands names old new p ≡ None → IsTrue (is_sequence old (p ++ k ∷ w))
+        → change names fresh old new (p ++ k ∷ w) ≡ Removed }
 {}
 
 /// Whatever is lost, and every new start, begins with a counterexample.
 pub fn law_evident()
-    ensures lost { (names : KeysymNames) (fresh : List ℕ) (old new : List Definition) (s : List ℕ) → IsTrue (is_table old) → AreFresh fresh old → IsTrue (is_sequence old s) → (IsKept names old new s → ⊥) → Evidence names fresh old new s }
-    ensures start { (names : KeysymNames) (fresh : List ℕ) (old new : List Definition) (s : List ℕ) → IsTrue (is_table new) → IsTrue (is_sequence new s) → IsTrue (is_new_start names fresh old new s) → Evidence names fresh old new s }
+    ensures lost { (names : KeysymNames) (fresh : List ℕ) (old new : List Definition) (s : List ℕ)
+        → IsTrue (is_table old) → AreFresh fresh old → IsTrue (is_sequence old s)
+        → (IsKept names old new s → ⊥) → Evidence names fresh old new s }
+    ensures start { (names : KeysymNames) (fresh : List ℕ) (old new : List Definition)
+        (s : List ℕ) → IsTrue (is_table new) → IsTrue (is_sequence new s)
+        → IsTrue (is_new_start names fresh old new s) → Evidence names fresh old new s }
 {}

@@ -32,11 +32,18 @@ pub fn visit_old<T: ComposeTable, U: ComposeTable>(
     requires old_settled { IsSettled (T.definitions old.now) }
     requires new_settled { IsSettled (U.definitions new.now) }
     requires in_range { node.0 < length (nodes (T.definitions old.now)) }
-    requires stand { stand ≡ stand_of names.now (T.definitions old.now) (U.definitions new.now) (words.node (T.definitions old.now) node.0) }
-    requires same { same ≡ node_of (U.definitions new.now) (words.node (T.definitions old.now) node.0) }
+    requires stand { stand
+        ≡ stand_of names.now (T.definitions old.now) (U.definitions new.now)
+        (words.node (T.definitions old.now) node.0) }
+    requires same { same
+        ≡ node_of (U.definitions new.now) (words.node (T.definitions old.now) node.0) }
     requires fits { length changes.old ≡ length (leaves (T.definitions old.now)) }
     ensures fits { length changes.new ≡ length (leaves (T.definitions old.now)) }
-    ensures written { (fresh : List ℕ) → IsWritten Removed (change names.now fresh (T.definitions old.now) (U.definitions new.now)) (T.definitions old.now) (is_proper_prefix (words.node (T.definitions old.now) node.0)) changes.old changes.new }
+    ensures written { (fresh : List ℕ)
+        → IsWritten Removed
+        (change names.now fresh (T.definitions old.now) (U.definitions new.now))
+        (T.definitions old.now)
+        (is_proper_prefix (words.node (T.definitions old.now) node.0)) changes.old changes.new }
 {
     for index in 0..old.edge_count(node) {
         let (keysym, target) = old.edge(node, index);
@@ -68,11 +75,18 @@ pub fn visit_new<T: ComposeTable, U: ComposeTable>(
     requires new_settled { IsSettled (U.definitions new.now) }
     requires rise { IsTrue (keys_rise fresh.now) }
     requires in_range { node.0 < length (nodes (U.definitions new.now)) }
-    requires same { same ≡ node_of (T.definitions old.now) (words.node (U.definitions new.now) node.0) }
-    requires anew { anew ≡ begins_anew fresh.now (T.definitions old.now) (words.node (U.definitions new.now) node.0) }
+    requires same { same
+        ≡ node_of (T.definitions old.now) (words.node (U.definitions new.now) node.0) }
+    requires anew { anew
+        ≡ begins_anew fresh.now (T.definitions old.now)
+        (words.node (U.definitions new.now) node.0) }
     requires fits { length changes.old ≡ length (leaves (U.definitions new.now)) }
     ensures fits { length changes.new ≡ length (leaves (U.definitions new.now)) }
-    ensures written { IsWritten None (λ s. if is_sequence (T.definitions old.now) s then None else Some (change names.now fresh.now (T.definitions old.now) (U.definitions new.now) s)) (U.definitions new.now) (is_proper_prefix (words.node (U.definitions new.now) node.0)) changes.old changes.new }
+    ensures written { IsWritten None
+        (λ s. if is_sequence (T.definitions old.now) s then None else Some
+        (change names.now fresh.now (T.definitions old.now) (U.definitions new.now) s))
+        (U.definitions new.now)
+        (is_proper_prefix (words.node (U.definitions new.now) node.0)) changes.old changes.new }
 {
     for index in 0..new.edge_count(node) {
         let (keysym, target) = new.edge(node, index);
@@ -111,9 +125,14 @@ fn stand_after<T: ComposeTable, U: ComposeTable>(
 ) -> Option<NodeId>
     requires table { IsTrue (is_table (T.definitions old.now)) }
     requires in_range { node.0 < length (nodes (T.definitions old.now)) }
-    requires stand { stand ≡ stand_of names.now (T.definitions old.now) (U.definitions new.now) (words.node (T.definitions old.now) node.0) }
-    requires target { target_of (T.definitions old.now) (words.node (T.definitions old.now) node.0) keysym ≡ Some target }
-    ensures { result ≡ stand_of names.now (T.definitions old.now) (U.definitions new.now) (words.node (T.definitions old.now) node.0 ++ keysym ∷ []) }
+    requires stand { stand
+        ≡ stand_of names.now (T.definitions old.now) (U.definitions new.now)
+        (words.node (T.definitions old.now) node.0) }
+    requires target { target_of (T.definitions old.now)
+        (words.node (T.definitions old.now) node.0) keysym ≡ Some target }
+    ensures { result
+        ≡ stand_of names.now (T.definitions old.now) (U.definitions new.now)
+        (words.node (T.definitions old.now) node.0 ++ keysym ∷ []) }
 {
     let Some(there) = stand else {
         return None;
@@ -129,7 +148,8 @@ fn stand_after<T: ComposeTable, U: ComposeTable>(
 /// Where the keysym leads from the node, if there is one. O(log edges of the node).
 fn target_from<T: ComposeTable>(table: &T, node: Option<NodeId>, keysym: Keysym) -> Option<Target>
     requires { IfSome node (λ n. n.0 < length (nodes (T.definitions table.now))) }
-    ensures { (p : List ℕ) → node ≡ node_of (T.definitions table.now) p → result ≡ target_of (T.definitions table.now) p keysym }
+    ensures { (p : List ℕ) → node ≡ node_of (T.definitions table.now) p
+        → result ≡ target_of (T.definitions table.now) p keysym }
 {
     match node {
         Some(node) => table.step(node, keysym),
@@ -186,7 +206,9 @@ fn still_anew<T: ComposeTable>(
     keysym: Keysym,
 ) -> bool
     requires { IsTrue (keys_rise fresh.now) }
-    ensures { result ≡ (if node.0 == 0 then not (has_edge (T.definitions old.now) [] keysym) && not (has_key fresh.now keysym) else anew) }
+    ensures { result
+        ≡ (if node.0 == 0 then not (has_edge (T.definitions old.now) [] keysym)
+        && not (has_key fresh.now keysym) else anew) }
 {
     if node == NodeId::ROOT {
         return is_unknown(old, fresh, keysym);
@@ -197,7 +219,8 @@ fn still_anew<T: ComposeTable>(
 /// Whether no sequence of the old table begins with the keysym, and it is not fresh.
 fn is_unknown<T: ComposeTable>(old: &T, fresh: &[Keysym], keysym: Keysym) -> bool
     requires { IsTrue (keys_rise fresh.now) }
-    ensures { result ≡ (not (has_edge (T.definitions old.now) [] keysym) && not (has_key fresh.now keysym)) }
+    ensures { result
+        ≡ (not (has_edge (T.definitions old.now) [] keysym) && not (has_key fresh.now keysym)) }
 {
     if old.step(NodeId::ROOT, keysym).is_some() {
         return false;
@@ -208,7 +231,8 @@ fn is_unknown<T: ComposeTable>(old: &T, fresh: &[Keysym], keysym: Keysym) -> boo
 /// Whether the sequence of the node's keys and this one, which has the text, is a new start, if it is added: it begins anew, and is
 /// not the keysym alone with its own text.
 fn is_start(names: &Names, node: NodeId, keysym: Keysym, text: &str, begins: bool) -> bool
-    ensures { result ≡ (begins && not (node.0 == 0 && same (model.text names.now keysym) text.now)) }
+    ensures { result
+        ≡ (begins && not (node.0 == 0 && same (model.text names.now keysym) text.now)) }
 {
     if node == NodeId::ROOT && is_own_text(names, keysym, text) {
         return false;

@@ -17,6 +17,7 @@ pub find_later : {X : Type 0} (p : X → Bool) (xs : List X) (i : ℕ) (x : X) �
 find_later p xs i x less is fails left = sym (ap (find p) (at_index xs i x less is) ∙ rw fails refl) ∙ left
 
 -- a line that tells the text of one element tells one of the texts
-pub told_at : {X : Type 0} (text : X → List ℕ) (xs : List X) (line : Line) (i : ℕ) (x : X) → i < length xs → x ≡ get_or xs i x → tells (text x) line ≡ true → list_any (λ t. tells t line) (map text xs) ≡ true
+pub told_at : {X : Type 0} (text : X → List ℕ) (xs : List X) (line : Line) (i : ℕ) (x : X) → i < length xs → x ≡ get_or xs i x → tells (text x) line ≡ true
+    → list_any (λ t. tells t line) (map text xs) ≡ true
 told_at text xs line i x less is told =
     list_any_at (λ t. tells t line) (map text xs) i (text x) (rw (length-map xs text) less) (ap (λ t. tells t line) (get_or-map text xs i x (text x) less ∙ ap text (sym is)) ∙ told)

@@ -30,7 +30,8 @@ alone row next rows apart =
     ap (onto_runs row) first.is ∙ rw apart (ap (λ runs. (row ∷ []) ∷ runs) (sym first.is))
 
 -- a row that goes together with the next one joins its run
-joined : (row next : DiffRow) (run rows : List DiffRow) (runs : List (List DiffRow)) → go_together row next ≡ true → runs_of (next ∷ rows) ≡ (next ∷ run) ∷ runs → runs_of (row ∷ next ∷ rows) ≡ (row ∷ next ∷ run) ∷ runs
+joined : (row next : DiffRow) (run rows : List DiffRow) (runs : List (List DiffRow)) → go_together row next ≡ true → runs_of (next ∷ rows) ≡ (next ∷ run) ∷ runs
+    → runs_of (row ∷ next ∷ rows) ≡ (row ∷ next ∷ run) ∷ runs
 joined row next run rows runs together e = ap (onto_runs row) e ∙ rw together refl
 
 -- the rows up to the n-th neighbour that doesn't go together with the one before
@@ -62,7 +63,8 @@ not_false true e = refl
 not_false false e = let clash : true ≡ false = e in cc
 
 -- the two rows at `at - 1` and `at` are the same at other defaults
-neighbours : (rows : List DiffRow) (n at : ℕ) (a b d e : DiffRow) → at ≡ suc n → at < length rows → go_together (get_or rows (at - 1) a) (get_or rows at b) ≡ go_together (get_or rows n d) (get_or rows (suc n) e)
+neighbours : (rows : List DiffRow) (n at : ℕ) (a b d e : DiffRow) → at ≡ suc n → at < length rows
+    → go_together (get_or rows (at - 1) a) (get_or rows at b) ≡ go_together (get_or rows n d) (get_or rows (suc n) e)
 neighbours rows n at a b d e is less =
     let before : at - 1 ≡ n = omega arith in
     ap₂ go_together (ap (λ k. get_or rows k a) before ∙ get_or_default rows n a d (omega arith)) (get_or_default rows at b e less ∙ ap (λ k. get_or rows k e) is)

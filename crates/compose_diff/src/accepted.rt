@@ -139,7 +139,8 @@ fn is_skipped(line: &[u8]) -> bool
 
 /// The number of the first line that is not in the form.
 fn first_bad(lines: &[Line]) -> Option<usize>
-    ensures { result ≡ option_map (λ line. line.number) (find (λ line. not (words.is_in_form line)) lines.now) }
+    ensures { result
+        ≡ option_map (λ line. line.number) (find (λ line. not (words.is_in_form line)) lines.now) }
 {
     for line in lines {
         if !is_in_form(line) {
@@ -171,7 +172,8 @@ fn begins_as(text: &[u8], change: Change) -> bool
 
 /// The change, keys and texts of each row, as they are printed.
 fn row_texts(alloc: Global, rows: &[DiffRow]) -> Result<Vec<String>, AllocError>
-    ensures { IfOk result (λ texts. map (λ text. string_bytes text) texts.items ≡ map row_text rows.now) }
+    ensures { IfOk result
+        (λ texts. map (λ text. string_bytes text) texts.items ≡ map row_text rows.now) }
 {
     let mut texts = Vec::new(alloc);
     for row in rows {
@@ -192,7 +194,9 @@ fn row_text(alloc: Global, row: &DiffRow) -> Result<String, AllocError>
 
 /// The number of the first line that tells none of the texts. Texts in the order of the lines are found at once.
 fn first_stale(lines: &[Line], texts: &[String]) -> Option<usize>
-    ensures { result ≡ option_map (λ line. line.number) (find (words.is_stale (map (λ text. string_bytes text) texts.now)) lines.now) }
+    ensures { result
+        ≡ option_map (λ line. line.number)
+        (find (words.is_stale (map (λ text. string_bytes text) texts.now)) lines.now) }
 {
     let mut hint = 0;
     for line in lines {
@@ -206,7 +210,8 @@ fn first_stale(lines: &[Line], texts: &[String]) -> Option<usize>
 
 /// The index of a text that the line tells, looked for at the hint first.
 fn told_by(line: &Line, hint: usize, texts: &[String]) -> Option<usize>
-    ensures told { not (is_some result) ≡ words.is_stale (map (λ text. string_bytes text) texts.now) line.now }
+    ensures told { not (is_some result)
+        ≡ words.is_stale (map (λ text. string_bytes text) texts.now) line.now }
     ensures within { IfSome result (λ at. at < length texts.now) }
 {
     if hint < texts.len() && tells(&texts[hint], line) {
@@ -246,7 +251,8 @@ fn not_told<'r>(
     rows: &[DiffRow<'r>],
     lines: &[Line],
 ) -> Result<Vec<DiffRow<'r>>, AllocError>
-    ensures { IfOk result (λ left. left.items ≡ filter (λ row. not (words.is_accepted lines.now row)) rows.now) }
+    ensures { IfOk result
+        (λ left. left.items ≡ filter (λ row. not (words.is_accepted lines.now row)) rows.now) }
 {
     let mut left = Vec::new(alloc);
     let mut hint = 0;

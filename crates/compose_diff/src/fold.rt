@@ -45,7 +45,8 @@ fn told<'r>(alloc: Global, rows: &[DiffRow<'r>]) -> Result<Vec<DiffRow<'r>>, All
 
 /// Appends the line of each row to the text.
 fn push_rows(alloc: Global, text: &mut String, rows: &[DiffRow]) -> Result<(), AllocError>
-    ensures { OnOk result (string_bytes text.new ≡ string_bytes text.old ++ words.row_lines rows.now) }
+    ensures { OnOk result
+        (string_bytes text.new ≡ string_bytes text.old ++ words.row_lines rows.now) }
 {
     for row in rows {
         push_row_line(alloc, text, row)?;
@@ -55,7 +56,8 @@ fn push_rows(alloc: Global, text: &mut String, rows: &[DiffRow]) -> Result<(), A
 
 /// Appends the lines of each run of rows to the text.
 fn push_runs(alloc: Global, text: &mut String, rows: &[DiffRow]) -> Result<(), AllocError>
-    ensures { OnOk result (string_bytes text.new ≡ string_bytes text.old ++ words.runs_lines rows.now) }
+    ensures { OnOk result
+        (string_bytes text.new ≡ string_bytes text.old ++ words.runs_lines rows.now) }
 {
     let mut from = 0;
     while from < rows.len() {
@@ -69,7 +71,9 @@ fn push_first_run(alloc: Global, text: &mut String, rows: &[DiffRow]) -> Result<
     requires { 0 < length rows.now }
     ensures some { IfOk result (λ count. 0 < count) }
     ensures within { IfOk result (λ count. count ≤ length rows.now) }
-    ensures lines { IfOk result (λ count. string_bytes text.new ++ words.runs_lines (drop count rows.now) ≡ string_bytes text.old ++ words.runs_lines rows.now) }
+    ensures lines { IfOk result
+        (λ count. string_bytes text.new ++ words.runs_lines (drop count rows.now)
+        ≡ string_bytes text.old ++ words.runs_lines rows.now) }
 {
     let count = run_length(rows);
     push_run(alloc, text, &rows[..count])?;
@@ -81,7 +85,8 @@ fn run_length(rows: &[DiffRow]) -> usize
     requires { 0 < length rows.now }
     ensures some { 0 < result }
     ensures within { result ≤ length rows.now }
-    ensures run { words.runs_of rows.now ≡ take result rows.now ∷ words.runs_of (drop result rows.now) }
+    ensures run { words.runs_of rows.now
+        ≡ take result rows.now ∷ words.runs_of (drop result rows.now) }
 {
     let mut at = 1;
     while at < rows.len() {
@@ -117,14 +122,16 @@ fn stem<'a>(row: &DiffRow<'a>) -> &'a [&'a str]
 
 /// Whether the keys are the same, in order.
 fn are_same(a: &[&str], b: &[&str]) -> bool
-    ensures { result ≡ pointwise bytes_eq (map (λ key. key.now) a.now) (map (λ key. key.now) b.now) }
+    ensures { result
+        ≡ pointwise bytes_eq (map (λ key. key.now) a.now) (map (λ key. key.now) b.now) }
 {
     a == b
 }
 
 /// Appends the lines of a run to the text: one of four rows or more.
 fn push_run(alloc: Global, text: &mut String, run: &[DiffRow]) -> Result<(), AllocError>
-    ensures { OnOk result (string_bytes text.new ≡ string_bytes text.old ++ words.run_lines run.now) }
+    ensures { OnOk result
+        (string_bytes text.new ≡ string_bytes text.old ++ words.run_lines run.now) }
 {
     if run.len() < 4 {
         return push_rows(alloc, text, run);
@@ -135,7 +142,8 @@ fn push_run(alloc: Global, text: &mut String, run: &[DiffRow]) -> Result<(), All
 /// Appends the one line of a run to the text.
 fn push_fold(alloc: Global, text: &mut String, run: &[DiffRow]) -> Result<(), AllocError>
     requires { 4 ≤ length run.now }
-    ensures { OnOk result (string_bytes text.new ≡ string_bytes text.old ++ words.fold_line run.now) }
+    ensures { OnOk result
+        (string_bytes text.new ≡ string_bytes text.old ++ words.fold_line run.now) }
 {
     let first = &run[0];
     let count = run.len();
@@ -149,7 +157,8 @@ fn push_fold(alloc: Global, text: &mut String, run: &[DiffRow]) -> Result<(), Al
 
 /// Appends the texts of the rows to the text.
 fn push_texts(alloc: Global, text: &mut String, rows: &[DiffRow]) -> Result<(), AllocError>
-    ensures { OnOk result (string_bytes text.new ≡ string_bytes text.old ++ words.texts_part rows.now) }
+    ensures { OnOk result
+        (string_bytes text.new ≡ string_bytes text.old ++ words.texts_part rows.now) }
 {
     for row in rows {
         push_quoted(alloc, text, &row.old)?;

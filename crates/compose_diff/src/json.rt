@@ -22,7 +22,8 @@ pub fn json_text(alloc: Global, rows: &[DiffRow]) -> Result<String, AllocError>
 
 /// Appends the object of a row, and a newline, to the text.
 fn push_object(text: &mut String, row: &DiffRow) -> Result<(), AllocError>
-    ensures { OnOk result (string_bytes text.new ≡ string_bytes text.old ++ words.json_row row.now) }
+    ensures { OnOk result
+        (string_bytes text.new ≡ string_bytes text.old ++ words.json_row row.now) }
 {
     push_keys(text, row)?;
     push_texts(text, row)?;
@@ -32,7 +33,8 @@ fn push_object(text: &mut String, row: &DiffRow) -> Result<(), AllocError>
 
 /// Appends the members for what happens and for the keys to the text.
 fn push_keys(text: &mut String, row: &DiffRow) -> Result<(), AllocError>
-    ensures { OnOk result (string_bytes text.new ≡ string_bytes text.old ++ words.json_keys row.now) }
+    ensures { OnOk result
+        (string_bytes text.new ≡ string_bytes text.old ++ words.json_keys row.now) }
 {
     text.push_str("{\"change\":\"")?;
     text.push_str(change_word(row.change))?;
@@ -42,7 +44,8 @@ fn push_keys(text: &mut String, row: &DiffRow) -> Result<(), AllocError>
 
 /// Appends the members for the texts to the text.
 fn push_texts(text: &mut String, row: &DiffRow) -> Result<(), AllocError>
-    ensures { OnOk result (string_bytes text.new ≡ string_bytes text.old ++ words.json_texts row.now) }
+    ensures { OnOk result
+        (string_bytes text.new ≡ string_bytes text.old ++ words.json_texts row.now) }
 {
     text.push_str(",\"old\":")?;
     push_text(text, &row.old)?;
@@ -52,7 +55,8 @@ fn push_texts(text: &mut String, row: &DiffRow) -> Result<(), AllocError>
 
 /// Appends the members for both places to the text.
 fn push_places(text: &mut String, row: &DiffRow) -> Result<(), AllocError>
-    ensures { OnOk result (string_bytes text.new ≡ string_bytes text.old ++ words.json_places row.now) }
+    ensures { OnOk result
+        (string_bytes text.new ≡ string_bytes text.old ++ words.json_places row.now) }
 {
     push_place(text, "old", &row.old)?;
     push_place(text, "new", &row.new)
@@ -60,7 +64,9 @@ fn push_places(text: &mut String, row: &DiffRow) -> Result<(), AllocError>
 
 /// Appends the array of the texts to the text.
 fn push_strings(text: &mut String, texts: &[&str]) -> Result<(), AllocError>
-    ensures { OnOk result (string_bytes text.new ≡ string_bytes text.old ++ words.json_strings (map (λ t. t.now) texts.now)) }
+    ensures { OnOk result
+        (string_bytes text.new
+        ≡ string_bytes text.old ++ words.json_strings (map (λ t. t.now) texts.now)) }
 {
     let Some((first, others)) = texts.split_first() else {
         return text.push_str("[]");
@@ -73,7 +79,9 @@ fn push_strings(text: &mut String, texts: &[&str]) -> Result<(), AllocError>
 
 /// Appends each of the texts, after a comma, to the text.
 fn push_others(text: &mut String, texts: &[&str]) -> Result<(), AllocError>
-    ensures { OnOk result (string_bytes text.new ≡ string_bytes text.old ++ words.other_strings (map (λ t. t.now) texts.now)) }
+    ensures { OnOk result
+        (string_bytes text.new
+        ≡ string_bytes text.old ++ words.other_strings (map (λ t. t.now) texts.now)) }
 {
     for other in texts {
         text.push_str(",")?;
@@ -84,7 +92,8 @@ fn push_others(text: &mut String, texts: &[&str]) -> Result<(), AllocError>
 
 /// Appends the text that a table has, or null, to the text.
 fn push_text(text: &mut String, entry: &Option<Entry>) -> Result<(), AllocError>
-    ensures { OnOk result (string_bytes text.new ≡ string_bytes text.old ++ words.json_text entry.now) }
+    ensures { OnOk result
+        (string_bytes text.new ≡ string_bytes text.old ++ words.json_text entry.now) }
 {
     match entry {
         Some(entry) => push_string(text, entry.text),
@@ -94,7 +103,8 @@ fn push_text(text: &mut String, entry: &Option<Entry>) -> Result<(), AllocError>
 
 /// Appends the members for the place of a definition to the text.
 fn push_place(text: &mut String, side: &str, entry: &Option<Entry>) -> Result<(), AllocError>
-    ensures { OnOk result (string_bytes text.new ≡ string_bytes text.old ++ words.json_place side.now entry.now) }
+    ensures { OnOk result
+        (string_bytes text.new ≡ string_bytes text.old ++ words.json_place side.now entry.now) }
 {
     let Some(entry) = entry else {
         write!(text, ",\"{side}_file\":null,\"{side}_line\":null")?;
@@ -109,7 +119,8 @@ fn push_place(text: &mut String, side: &str, entry: &Option<Entry>) -> Result<()
 
 /// Appends the text as a JSON string to the text.
 fn push_string(text: &mut String, inside: &str) -> Result<(), AllocError>
-    ensures { OnOk result (string_bytes text.new ≡ string_bytes text.old ++ words.json_string inside.now) }
+    ensures { OnOk result
+        (string_bytes text.new ≡ string_bytes text.old ++ words.json_string inside.now) }
 {
     text.push_str("\"")?;
     push_characters(text, inside)?;
@@ -118,7 +129,8 @@ fn push_string(text: &mut String, inside: &str) -> Result<(), AllocError>
 
 /// Appends what stands between the quotes to the text.
 fn push_characters(text: &mut String, inside: &str) -> Result<(), AllocError>
-    ensures { OnOk result (string_bytes text.new ≡ string_bytes text.old ++ words.json_characters inside.now) }
+    ensures { OnOk result
+        (string_bytes text.new ≡ string_bytes text.old ++ words.json_characters inside.now) }
 {
     for character in inside.chars() {
         push_character(text, character)?;
@@ -128,7 +140,8 @@ fn push_characters(text: &mut String, inside: &str) -> Result<(), AllocError>
 
 /// Appends a character of a JSON string to the text.
 fn push_character(text: &mut String, character: char) -> Result<(), AllocError>
-    ensures { OnOk result (string_bytes text.new ≡ string_bytes text.old ++ words.json_character character) }
+    ensures { OnOk result
+        (string_bytes text.new ≡ string_bytes text.old ++ words.json_character character) }
 {
     let number = u32::from(character);
     if number == 34 || number == 92 {

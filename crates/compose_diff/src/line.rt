@@ -36,7 +36,9 @@ pub(crate) fn is_harmless(change: Change) -> bool
 
 /// Appends the word for what happens, and the keys, to the text.
 pub(crate) fn push_keys(text: &mut String, change: Change, keys: &[&str]) -> Result<(), AllocError>
-    ensures { OnOk result (string_bytes text.new ≡ string_bytes text.old ++ words.keys_text change (map (λ key. key.now) keys.now)) }
+    ensures { OnOk result
+        (string_bytes text.new
+        ≡ string_bytes text.old ++ words.keys_text change (map (λ key. key.now) keys.now)) }
 {
     text.push_str(change_word(change))?;
     text.push_str(":")?;
@@ -53,7 +55,8 @@ pub(crate) fn push_quoted(
     text: &mut String,
     entry: &Option<Entry>,
 ) -> Result<(), AllocError>
-    ensures { OnOk result (string_bytes text.new ≡ string_bytes text.old ++ words.text_part entry.now) }
+    ensures { OnOk result
+        (string_bytes text.new ≡ string_bytes text.old ++ words.text_part entry.now) }
 {
     let Some(entry) = entry else {
         return Ok(());
@@ -67,7 +70,8 @@ pub(crate) fn push_quoted(
 
 /// Appends the place of a definition, if a table has it, to the text.
 pub(crate) fn push_place(text: &mut String, entry: &Option<Entry>) -> Result<(), AllocError>
-    ensures { OnOk result (string_bytes text.new ≡ string_bytes text.old ++ words.place_part entry.now) }
+    ensures { OnOk result
+        (string_bytes text.new ≡ string_bytes text.old ++ words.place_part entry.now) }
 {
     let Some(entry) = entry else {
         return Ok(());
@@ -84,7 +88,8 @@ pub(crate) fn push_row_text(
     text: &mut String,
     row: &DiffRow,
 ) -> Result<(), AllocError>
-    ensures { OnOk result (string_bytes text.new ≡ string_bytes text.old ++ words.row_text row.now) }
+    ensures { OnOk result
+        (string_bytes text.new ≡ string_bytes text.old ++ words.row_text row.now) }
 {
     push_keys(text, row.change, row.keys)?;
     push_quoted(alloc, text, &row.old)?;
@@ -93,7 +98,8 @@ pub(crate) fn push_row_text(
 
 /// Appends both places to the text.
 pub(crate) fn push_places(text: &mut String, row: &DiffRow) -> Result<(), AllocError>
-    ensures { OnOk result (string_bytes text.new ≡ string_bytes text.old ++ words.places_text row.now) }
+    ensures { OnOk result
+        (string_bytes text.new ≡ string_bytes text.old ++ words.places_text row.now) }
 {
     push_place(text, &row.old)?;
     push_place(text, &row.new)
@@ -105,7 +111,8 @@ pub(crate) fn push_row_line(
     text: &mut String,
     row: &DiffRow,
 ) -> Result<(), AllocError>
-    ensures { OnOk result (string_bytes text.new ≡ string_bytes text.old ++ words.row_line row.now) }
+    ensures { OnOk result
+        (string_bytes text.new ≡ string_bytes text.old ++ words.row_line row.now) }
 {
     push_row_text(alloc, text, row)?;
     push_places(text, row)?;

@@ -20,9 +20,11 @@ pub folder_none : (path : List ℕ) → ((i : ℕ) → i < length path → slash
 folder_none [] h = refl
 folder_none (b ∷ rest) h = rw (no_slash (b ∷ rest) h) refl
 
-pub folder_some : (path : List ℕ) (at : ℕ) → at < length path → slash (get_or path at 0) ≡ true → ((i : ℕ) → at + 1 ≤ i → i < length path → slash (get_or path i 0) ≡ true → ⊥) → folder_of path ≡ take (at + 1) path
+pub folder_some : (path : List ℕ) (at : ℕ) → at < length path → slash (get_or path at 0) ≡ true → ((i : ℕ) → at + 1 ≤ i → i < length path → slash (get_or path i 0) ≡ true → ⊥)
+    → folder_of path ≡ take (at + 1) path
 folder_some [] at less is h = absurd (omega arith)
 folder_some (b ∷ rest) zero less is h = rw (list_any_at slash (b ∷ rest) 0 0 less is) (ap (λ t. b ∷ t) (folder_none rest (λ i within. h (suc i) (omega arith) (omega arith))))
 folder_some (b ∷ rest) (suc at) less is h =
     let next : suc (at + 1) ≡ suc at + 1 = omega arith in
-    rw (list_any_at slash (b ∷ rest) (suc at) 0 less is) (ap (λ t. b ∷ t) (folder_some rest at (omega arith) is (λ i low within. h (suc i) (omega arith) (omega arith))) ∙ ap (λ n. take n (b ∷ rest)) next)
+    rw (list_any_at slash (b ∷ rest) (suc at) 0 less is)
+    (ap (λ t. b ∷ t) (folder_some rest at (omega arith) is (λ i low within. h (suc i) (omega arith) (omega arith))) ∙ ap (λ n. take n (b ∷ rest)) next)

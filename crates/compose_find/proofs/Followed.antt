@@ -60,17 +60,20 @@ found_passes : {X : Type 0} (p : X → Bool) (xs : List X) (x : X) → find p xs
 found_passes p [] x e = cc
 found_passes p (y ∷ xs) x e = go (found_passes p xs x) (p y) refl e
   where
-    go : (find p xs ≡ Some x → (p x ≡ true) × ((i : ℕ) × (slice_get xs i ≡ Some x))) → (b : Bool) → p y ≡ b → cond b (Some y) (find p xs) ≡ Some x → (p x ≡ true) × ((i : ℕ) × (slice_get (y ∷ xs) i ≡ Some x))
+    go : (find p xs ≡ Some x → (p x ≡ true) × ((i : ℕ) × (slice_get xs i ≡ Some x))) → (b : Bool) → p y ≡ b → cond b (Some y) (find p xs) ≡ Some x
+        → (p x ≡ true) × ((i : ℕ) × (slice_get (y ∷ xs) i ≡ Some x))
     go rest true is e = let same : y ≡ x = cc in (ap p (sym same) ∙ is, (zero, e))
     go rest false is e = let r = rest e in (r.0, (suc r.1.0, r.1.1))
 
 -- names stay distinct with a name that none of them is
-distinct_more : (name : List ℕ) (sources : List FoundSource) (new : FoundSource) → new.name ≡ name → find (λ m. bytes_eq name m.name) sources ≡ None → IsDistinct bytes_eq (map (λ m. m.name) sources) → IsDistinct bytes_eq (map (λ m. m.name) (sources ++ new ∷ []))
+distinct_more : (name : List ℕ) (sources : List FoundSource) (new : FoundSource) → new.name ≡ name → find (λ m. bytes_eq name m.name) sources ≡ None → IsDistinct bytes_eq (map (λ m. m.name) sources)
+    → IsDistinct bytes_eq (map (λ m. m.name) (sources ++ new ∷ []))
 unfolding IsDistinct
 distinct_more name [] new is none d = (tt, tt)
 distinct_more name (m ∷ sources) new is none d = go (λ n. distinct_more name sources new is n d.1) (bytes_eq name m.name) refl none
   where
-    others : (ms : List FoundSource) → bytes_eq m.name new.name ≡ false → AllByRecursion (λ y. bytes_eq m.name y ≡ false) (map (λ m. m.name) ms) → AllByRecursion (λ y. bytes_eq m.name y ≡ false) (map (λ m. m.name) (ms ++ new ∷ []))
+    others : (ms : List FoundSource) → bytes_eq m.name new.name ≡ false → AllByRecursion (λ y. bytes_eq m.name y ≡ false) (map (λ m. m.name) ms)
+        → AllByRecursion (λ y. bytes_eq m.name y ≡ false) (map (λ m. m.name) (ms ++ new ∷ []))
     others [] other a = (other, tt)
     others (x ∷ ms) other a = (a.0, others ms other a.1)
 
@@ -80,7 +83,8 @@ distinct_more name (m ∷ sources) new is none d = go (λ n. distinct_more name 
         let same : m.name ≡ name = (bytes_eq-Decides m.name new.name).0 e ∙ is in
         let clash : true ≡ false = sym ((bytes_eq-Decides name m.name).1 (sym same)) ∙ n in cc)
 
-    go : (find (λ m. bytes_eq name m.name) sources ≡ None → IsDistinct bytes_eq (map (λ m. m.name) (sources ++ new ∷ []))) → (b : Bool) → bytes_eq name m.name ≡ b → cond b (Some m) (find (λ m. bytes_eq name m.name) sources) ≡ None
+    go : (find (λ m. bytes_eq name m.name) sources ≡ None → IsDistinct bytes_eq (map (λ m. m.name) (sources ++ new ∷ []))) → (b : Bool) → bytes_eq name m.name ≡ b
+        → cond b (Some m) (find (λ m. bytes_eq name m.name) sources) ≡ None
         → IsDistinct bytes_eq (map (λ m. m.name) (m ∷ sources ++ new ∷ []))
     go rest true e none = cc
     go rest false e none = (others sources (differs (bytes_eq m.name new.name) refl e) d.0, rest none)
@@ -90,14 +94,17 @@ distinct_more name (m ∷ sources) new is none d = go (λ n. distinct_more name 
 abbrev new_source : FoundSource → Include → List ℕ → FoundSource
 new_source from include path = record { name = include.raw; path = path; depth = 1 + from.depth }
 
-of_new : (from : FoundSource) (include : Include) (path : List ℕ) (sources more : List FoundSource) → with_source from include path None sources ≡ Ok more → (length sources < 64) × (sources ++ new_source from include path ∷ [] ≡ more)
+of_new : (from : FoundSource) (include : Include) (path : List ℕ) (sources more : List FoundSource) → with_source from include path None sources ≡ Ok more
+    → (length sources < 64) × (sources ++ new_source from include path ∷ [] ≡ more)
 of_new from include path sources more e = go (nat_le 64 (length sources)) refl e
   where
-    go : (b : Bool) → nat_le 64 (length sources) ≡ b → cond b (Err (refusal from include TooManySources)) (Ok (sources ++ new_source from include path ∷ [])) ≡ Ok more → (length sources < 64) × (sources ++ new_source from include path ∷ [] ≡ more)
+    go : (b : Bool) → nat_le 64 (length sources) ≡ b → cond b (Err (refusal from include TooManySources)) (Ok (sources ++ new_source from include path ∷ [])) ≡ Ok more
+        → (length sources < 64) × (sources ++ new_source from include path ∷ [] ≡ more)
     go true few e = cc
     go false few e = (leb-false 64 (length sources) few, one_ok (Ok more) (sources ++ new_source from include path ∷ []) more (sym e) refl)
 
-of_known : (from : FoundSource) (include : Include) (path : List ℕ) (known : FoundSource) (sources more : List FoundSource) → with_source from include path (Some known) sources ≡ Ok more → (known.path ≡ path) × (sources ≡ more)
+of_known : (from : FoundSource) (include : Include) (path : List ℕ) (known : FoundSource) (sources more : List FoundSource) → with_source from include path (Some known) sources ≡ Ok more
+    → (known.path ≡ path) × (sources ≡ more)
 of_known from include path known sources more e = go (bytes_eq known.path path) refl e
   where
     go : (b : Bool) → bytes_eq known.path path ≡ b → cond b (Ok sources) (Err (refusal from include TwoFiles)) ≡ Ok more → (known.path ≡ path) × (sources ≡ more)
@@ -113,7 +120,10 @@ module _ (files : List TriedFile) (words : Words) where
 
   located_lies : (from : FoundSource) (include : Include) (path to : List ℕ) → located files from include path ≡ Ok to → (to ≡ path) ⊎ ((looked_at files path ≡ Ok None) × (to ≡ beside from.path path))
   located_lies from include path to e =
-      let here = both (looked_at files path) (λ here. cond (is_some here) (Ok path) (looked_at files (beside from.path path) >>= (λ there. cond (is_some there) (Ok (beside from.path path)) (Err (missing_file from.path include.line path))))) to e in
+      let here =
+      both (looked_at files path)
+      (λ here. cond (is_some here) (Ok path)
+      (looked_at files (beside from.path path) >>= (λ there. cond (is_some there) (Ok (beside from.path path)) (Err (missing_file from.path include.line path))))) to e in
       first here.0 here.1 here.2
     where
       second : (there : Option (List Include)) → cond (is_some there) (Ok (beside from.path path)) (Err (missing_file from.path include.line path)) ≡ Ok to → to ≡ beside from.path path
@@ -121,7 +131,8 @@ module _ (files : List TriedFile) (words : Words) where
       second None e = cc
 
       first : (here : Option (List Include)) → looked_at files path ≡ Ok here
-          → cond (is_some here) (Ok path) (looked_at files (beside from.path path) >>= (λ there. cond (is_some there) (Ok (beside from.path path)) (Err (missing_file from.path include.line path)))) ≡ Ok to
+          → cond (is_some here) (Ok path) (looked_at files (beside from.path path) >>= (λ there. cond (is_some there) (Ok (beside from.path path)) (Err (missing_file from.path include.line path))))
+          ≡ Ok to
           → (to ≡ path) ⊎ ((looked_at files path ≡ Ok None) × (to ≡ beside from.path path))
       first (Some includes) is e = inl (one_ok (Ok to) to path refl (sym e))
       first None is e =
@@ -132,7 +143,8 @@ module _ (files : List TriedFile) (words : Words) where
   led : (from : FoundSource) (include : Include) (to : FoundSource) → leads_to files words from include ≡ Ok to.path → to.name ≡ include.raw → LeadsTo files words from include to
   led from include to e named = go (nat_le 8 from.depth) e
     where
-      go : (b : Bool) → cond b (Err (refusal from include IncludeDepth)) (at_include from include (include_path words include.raw) >>= located files from include) ≡ Ok to.path → LeadsTo files words from include to
+      go : (b : Bool) → cond b (Err (refusal from include IncludeDepth)) (at_include from include (include_path words include.raw) >>= located files from include) ≡ Ok to.path
+          → LeadsTo files words from include to
       go true e = cc
       go false e =
           let path = both (at_include from include (include_path words include.raw)) (located files from include) to.path e in
@@ -153,7 +165,8 @@ module _ (files : List TriedFile) (words : Words) where
     distinct : IsDistinct bytes_eq (map (λ m. m.name) sources)
 
   -- a source that is followed among some is so among more
-  followed_more : (sources more : List FoundSource) (from : FoundSource) → ((i : ℕ) (m : FoundSource) → slice_get sources i ≡ Some m → slice_get more i ≡ Some m) → IsFollowed files words sources from → IsFollowed files words more from
+  followed_more : (sources more : List FoundSource) (from : FoundSource) → ((i : ℕ) (m : FoundSource) → slice_get sources i ≡ Some m → slice_get more i ≡ Some m) → IsFollowed files words sources from
+      → IsFollowed files words more from
   followed_more sources more from grows f = record {
     includes = f.includes;
     there = f.there;
@@ -170,7 +183,8 @@ module _ (files : List TriedFile) (words : Words) where
     leads : (to : FoundSource) × Contains more to × LeadsTo files words from include to
 
   module _ (root : List ℕ) (index : ℕ) (from : FoundSource) (all : List Include) (there : looked_at files from.path ≡ Ok (Some all)) where
-    added : (sources : List FoundSource) (include : Include) (new : FoundSource) → IsSoFar root index sources → slice_get sources index ≡ Some from → Contains all include → length sources < 64 → new.name ≡ include.raw
+    added : (sources : List FoundSource) (include : Include) (new : FoundSource) → IsSoFar root index sources → slice_get sources index ≡ Some from → Contains all include → length sources < 64
+        → new.name ≡ include.raw
         → find (λ m. bytes_eq include.raw m.name) sources ≡ None → LeadsTo files words from include new → Brings root index sources from include (sources ++ new ∷ [])
     added sources include new s at listed few named none leads = record {
       so_far = record {
@@ -209,14 +223,16 @@ module _ (files : List TriedFile) (words : Words) where
             let here : IncludesSource files words from new = record { includes = all; there = there; include = include; listed = listed; leads = leads } in
             (index, from, omega (arith, h.0), grows index from at, subst (λ (x : FoundSource). IncludesSource files words from x) h.1 here)
 
-    at_new : (sources : List FoundSource) (include : Include) (path : List ℕ) (more : List FoundSource) → IsSoFar root index sources → slice_get sources index ≡ Some from → Contains all include → leads_to files words from include ≡ Ok path
+    at_new : (sources : List FoundSource) (include : Include) (path : List ℕ) (more : List FoundSource) → IsSoFar root index sources → slice_get sources index ≡ Some from → Contains all include
+        → leads_to files words from include ≡ Ok path
         → find (λ m. bytes_eq include.raw m.name) sources ≡ None → with_source from include path None sources ≡ Ok more → Brings root index sources from include more
     at_new sources include path more s at listed leads none e =
         let n = of_new from include path sources more e in
         let new : FoundSource = new_source from include path in
         subst (Brings root index sources from include) n.1 (added sources include new s at listed n.0 refl none (led from include new leads refl))
 
-    at_known : (sources : List FoundSource) (include : Include) (path : List ℕ) (known : FoundSource) (more : List FoundSource) → IsSoFar root index sources → leads_to files words from include ≡ Ok path
+    at_known : (sources : List FoundSource) (include : Include) (path : List ℕ) (known : FoundSource) (more : List FoundSource) → IsSoFar root index sources
+        → leads_to files words from include ≡ Ok path
         → find (λ m. bytes_eq include.raw m.name) sources ≡ Some known → with_source from include path (Some known) sources ≡ Ok more → Brings root index sources from include more
     at_known sources include path known more s leads is e =
         let k = of_known from include path known sources more e in
@@ -228,12 +244,14 @@ module _ (files : List TriedFile) (words : Words) where
           leads = (known, contained sources passes.1.0 known passes.1.1, led from include known (leads ∙ ap Ok (sym k.0)) (sym named));
         })
 
-    met_one : (sources : List FoundSource) (include : Include) (more : List FoundSource) → IsSoFar root index sources → slice_get sources index ≡ Some from → Contains all include → with_include files words from include sources ≡ Ok more → Brings root index sources from include more
+    met_one : (sources : List FoundSource) (include : Include) (more : List FoundSource) → IsSoFar root index sources → slice_get sources index ≡ Some from → Contains all include
+        → with_include files words from include sources ≡ Ok more → Brings root index sources from include more
     met_one sources include more s at listed e =
         let path = both (leads_to files words from include) (λ path. with_source from include path (find (λ m. bytes_eq include.raw m.name) sources) sources) more e in
         go path.0 path.1 (find (λ m. bytes_eq include.raw m.name) sources) refl path.2
       where
-        go : (path : List ℕ) → leads_to files words from include ≡ Ok path → (known : Option FoundSource) → find (λ m. bytes_eq include.raw m.name) sources ≡ known → with_source from include path known sources ≡ Ok more → Brings root index sources from include more
+        go : (path : List ℕ) → leads_to files words from include ≡ Ok path → (known : Option FoundSource) → find (λ m. bytes_eq include.raw m.name) sources ≡ known
+            → with_source from include path known sources ≡ Ok more → Brings root index sources from include more
         go path leads None none e = at_new sources include path more s at listed leads none e
         go path leads (Some known) is e = at_known sources include path known more s leads is e
 
@@ -243,7 +261,8 @@ module _ (files : List TriedFile) (words : Words) where
       grows : (i : ℕ) (m : FoundSource) → slice_get sources i ≡ Some m → slice_get more i ≡ Some m
       lead : (k : ℕ) (include : Include) → slice_get includes k ≡ Some include → (to : FoundSource) × Contains more to × LeadsTo files words from include to
 
-    met_all : (sources : List FoundSource) (includes : List Include) (more : List FoundSource) → IsSoFar root index sources → slice_get sources index ≡ Some from → ((k : ℕ) (include : Include) → slice_get includes k ≡ Some include → Contains all include)
+    met_all : (sources : List FoundSource) (includes : List Include) (more : List FoundSource) → IsSoFar root index sources → slice_get sources index ≡ Some from
+        → ((k : ℕ) (include : Include) → slice_get includes k ≡ Some include → Contains all include)
         → with_includes files words from includes sources ≡ Ok more → BringAll sources includes more
     met_all sources [] more s at listed e =
         let whole : sources ≡ more = one_ok (Ok more) sources more (sym e) refl in
@@ -258,7 +277,8 @@ module _ (files : List TriedFile) (words : Words) where
           lead = λ k x e. go first.0 one rest k x e;
         }
       where
-        go : (mid : List FoundSource) → Brings root index sources from include mid → BringAll mid includes more → (k : ℕ) (x : Include) → slice_get (include ∷ includes) k ≡ Some x → (to : FoundSource) × Contains more to × LeadsTo files words from x to
+        go : (mid : List FoundSource) → Brings root index sources from include mid → BringAll mid includes more → (k : ℕ) (x : Include) → slice_get (include ∷ includes) k ≡ Some x
+            → (to : FoundSource) × Contains more to × LeadsTo files words from x to
         go mid one rest zero x e =
             let same : include ≡ x = cc in
             let to = one.leads in
@@ -275,7 +295,8 @@ module _ (files : List TriedFile) (words : Words) where
       go None is e = cc
       go (Some others) is e = is ∙ ap (λ x. Ok (Some x)) (one_ok (Ok includes) others includes (sym e) refl)
 
-  next : (root : List ℕ) (index : ℕ) (sources more : List FoundSource) (from : FoundSource) → IsSoFar root index sources → slice_get sources index ≡ Some from → with_includes_of files words from sources ≡ Ok more → IsSoFar root (1 + index) more
+  next : (root : List ℕ) (index : ℕ) (sources more : List FoundSource) (from : FoundSource) → IsSoFar root index sources → slice_get sources index ≡ Some from
+      → with_includes_of files words from sources ≡ Ok more → IsSoFar root (1 + index) more
   next root index sources more from s at e =
       let includes = both (includes_at files from.path) (λ includes. with_includes files words from includes sources) more e in
       let there = was_there from.path includes.0 includes.1 in
@@ -288,7 +309,8 @@ module _ (files : List TriedFile) (words : Words) where
         distinct = all.so_far.distinct;
       }
     where
-      go : (includes : List Include) (there : looked_at files from.path ≡ Ok (Some includes)) → BringAll root index from includes there sources includes more → (i : ℕ) (m : FoundSource) → i < 1 + index → slice_get more i ≡ Some m → IsFollowed files words more m
+      go : (includes : List Include) (there : looked_at files from.path ≡ Ok (Some includes)) → BringAll root index from includes there sources includes more → (i : ℕ) (m : FoundSource)
+          → i < 1 + index → slice_get more i ≡ Some m → IsFollowed files words more m
       go includes there all i m less h = elim (cases_lt i index) [
         | inl l ↦ all.so_far.followed i m l h
         | inr l ↦ (
@@ -311,14 +333,17 @@ module _ (files : List TriedFile) (words : Words) where
     distinct = s.distinct;
   }
 
-  all_found : (root : List ℕ) (left index : ℕ) (sources more : List FoundSource) → left + index ≡ 64 → IsSoFar root index sources → found_on files words left index sources ≡ Ok more → AreSources files words root more
+  all_found : (root : List ℕ) (left index : ℕ) (sources more : List FoundSource) → left + index ≡ 64 → IsSoFar root index sources → found_on files words left index sources ≡ Ok more
+      → AreSources files words root more
   unfolding found_on
   all_found root zero index sources more n s e =
       let same : sources ≡ more = one_ok (Ok more) sources more (sym e) refl in
       subst (AreSources files words root) same (whole root index sources s (omega (arith, s.few)))
   all_found root (suc left) index sources more n s e = go (λ mid so_far goes. all_found root left (1 + index) mid more (omega arith) so_far goes) (slice_get sources index) refl e
     where
-      go : ((mid : List FoundSource) → IsSoFar root (1 + index) mid → found_on files words left (1 + index) mid ≡ Ok more → AreSources files words root more) → (at : Option FoundSource) → slice_get sources index ≡ at → option_map_or (λ from. with_includes_of files words from sources >>= found_on files words left (1 + index)) at (Ok sources) ≡ Ok more → AreSources files words root more
+      go : ((mid : List FoundSource) → IsSoFar root (1 + index) mid → found_on files words left (1 + index) mid ≡ Ok more → AreSources files words root more) → (at : Option FoundSource)
+          → slice_get sources index ≡ at → option_map_or (λ from. with_includes_of files words from sources >>= found_on files words left (1 + index)) at (Ok sources) ≡ Ok more
+          → AreSources files words root more
       go rest None at e =
           let same : sources ≡ more = one_ok (Ok more) sources more (sym e) refl in
           subst (AreSources files words root) same (whole root index sources s (none_past sources index at))

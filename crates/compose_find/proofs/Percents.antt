@@ -15,7 +15,8 @@ stops : (text : List ℕ) → prefix_len is_plain text < length text → get_or 
 stops [] less = absurd (omega arith)
 stops (b ∷ rest) less = go (b == 37) refl less (stops rest)
   where
-    go : (t : Bool) → b == 37 ≡ t → cond (not t) (1 + prefix_len is_plain rest) 0 < length (b ∷ rest) → (prefix_len is_plain rest < length rest → get_or rest (prefix_len is_plain rest) 0 ≡ 37) → get_or (b ∷ rest) (cond (not t) (1 + prefix_len is_plain rest) 0) 0 ≡ 37
+    go : (t : Bool) → b == 37 ≡ t → cond (not t) (1 + prefix_len is_plain rest) 0 < length (b ∷ rest) → (prefix_len is_plain rest < length rest → get_or rest (prefix_len is_plain rest) 0 ≡ 37)
+        → get_or (b ∷ rest) (cond (not t) (1 + prefix_len is_plain rest) 0) 0 ≡ 37
     go true e less more = eqb-true b 37 e
     go false e less more = let one : 1 + prefix_len is_plain rest ≡ suc (prefix_len is_plain rest) = omega arith in ap (λ n. get_or (b ∷ rest) n 0) one ∙ more (omega arith)
 
@@ -45,7 +46,8 @@ plain_first words [] = refl
 plain_first words (b ∷ rest) = go (b == 37) refl (plain_first words rest)
   where
     go : (t : Bool) → b == 37 ≡ t → path_of words rest ≡ onto (leading is_plain rest) (path_of words (behind is_plain rest))
-        → cond t (path_from words true rest) (path_from words false rest >>= (λ more. Ok (b ∷ more))) ≡ onto (cond (not t) (b ∷ leading is_plain rest) []) (path_of words (cond (not t) (behind is_plain rest) (b ∷ rest)))
+        → cond t (path_from words true rest) (path_from words false rest >>= (λ more. Ok (b ∷ more)))
+        ≡ onto (cond (not t) (b ∷ leading is_plain rest) []) (path_of words (cond (not t) (behind is_plain rest) (b ∷ rest)))
     go true e h = rw e (sym (onto-none (path_from words true rest)))
     go false e h = ap (λ r. r >>= (λ more. Ok (b ∷ more))) h ∙ one_more b (leading is_plain rest) (path_of words (behind is_plain rest))
 

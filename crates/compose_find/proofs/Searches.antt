@@ -15,24 +15,28 @@ search_ends files words zero index sources past = refl
 search_ends files words (suc left) index sources past = rw (slice_get_past sources index past) refl
 
 -- one more source
-pub search_goes : (files : List TriedFile) (words : Words) (left index : ℕ) (sources : List FoundSource) (from : FoundSource) (more : List FoundSource) → slice_get sources index ≡ Some from → with_includes_of files words from sources ≡ Ok more
+pub search_goes : (files : List TriedFile) (words : Words) (left index : ℕ) (sources : List FoundSource) (from : FoundSource) (more : List FoundSource) → slice_get sources index ≡ Some from
+    → with_includes_of files words from sources ≡ Ok more
     → found_on files words (suc left) index sources ≡ found_on files words left (1 + index) more
 unfolding found_on
 search_goes files words left index sources from more at is = rw (at, is) refl
 
-pub search_stops : (files : List TriedFile) (words : Words) (left index : ℕ) (sources : List FoundSource) (from : FoundSource) (stop : Stop) → slice_get sources index ≡ Some from → with_includes_of files words from sources ≡ Err stop
+pub search_stops : (files : List TriedFile) (words : Words) (left index : ℕ) (sources : List FoundSource) (from : FoundSource) (stop : Stop) → slice_get sources index ≡ Some from
+    → with_includes_of files words from sources ≡ Err stop
     → found_on files words (suc left) index sources ≡ Err stop
 unfolding found_on
 search_stops files words left index sources from stop at is = rw (at, is) refl
 
 -- a fault of a part is the fault of the whole, also where `?` gives it on
-moved : {X Y Z W : Type 0} (view : X → Z) (other : Y → W) (fault : FindFault) (said : Result Z Stop) (whole : Result W Stop) → ((stop : Stop) → said ≡ Err stop → whole ≡ Err stop) → FindGives view (Err fault) said → FindGives other (Err fault) whole
+moved : {X Y Z W : Type 0} (view : X → Z) (other : Y → W) (fault : FindFault) (said : Result Z Stop) (whole : Result W Stop) → ((stop : Stop) → said ≡ Err stop → whole ≡ Err stop)
+    → FindGives view (Err fault) said → FindGives other (Err fault) whole
 moved view other NoMemory said whole f h = tt
 moved view other (Wanted path) said whole f h = f (wanted (string_bytes path)) h
 moved view other (MissingRoot path) said whole f h = f (missing_root (string_bytes path)) h
 moved view other (MissingFile from line path) said whole f h = f (missing_file (string_bytes from) line (string_bytes path)) h
 moved view other (Include from line fault) said whole f h = f (refused (string_bytes from) line fault) h
 
-pub passed : {X Y Z W : Type 0} (view : X → Z) (other : Y → W) (fault : FindFault) (result : Result Y FindFault) (said : Result Z Stop) (whole : Result W Stop) → result ≡ Err fault → ((stop : Stop) → said ≡ Err stop → whole ≡ Err stop)
+pub passed : {X Y Z W : Type 0} (view : X → Z) (other : Y → W) (fault : FindFault) (result : Result Y FindFault) (said : Result Z Stop) (whole : Result W Stop) → result ≡ Err fault
+    → ((stop : Stop) → said ≡ Err stop → whole ≡ Err stop)
     → FindGives view (Err fault) said → FindGives other result whole
 passed view other fault result said whole is f h = subst (λ r. FindGives other r whole) (sym is) (moved view other fault said whole f h)

@@ -25,7 +25,11 @@ impl Model for TriedFile {
 
     ghost Value = { found.TriedFile };
 
-    ghost view = { λ f. record { path = string_bytes f.path; includes = option_map (λ i. i.items) f.includes } };
+    ghost view = { λ f. record {
+      path = string_bytes f.path;
+      includes =
+          option_map (λ i. i.items) f.includes;
+    } };
 }
 
 /// The files that were looked for, and what each includes.
@@ -61,7 +65,14 @@ impl Files {
         path: &str,
         source: Option<&[u8]>,
     ) -> Result<(), AllocError>
-        ensures ok { OnOk result (self.new ≡ self.old ++ record { path = path.now; includes = option_map includes_of (option_copied source.entry) } ∷ []) }
+        ensures ok { OnOk result
+            (self.new
+            ≡ self.old
+            ++ record {
+              path = path.now;
+              includes =
+                  option_map includes_of (option_copied source.entry);
+            } ∷ []) }
         ensures err { OnErr result (self.new ≡ self.old) }
     {
         let path = String::from_str(alloc, path)?;

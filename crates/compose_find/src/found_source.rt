@@ -28,7 +28,12 @@ impl Model for FoundSource {
 
     ghost Value = { found.FoundSource };
 
-    ghost view = { λ m. record { name = string_bytes m.name; path = string_bytes m.path; depth = m.depth } };
+    ghost view = { λ m. record {
+      name = string_bytes m.name;
+      path = string_bytes m.path;
+      depth =
+          m.depth;
+    } };
 }
 
 impl FoundSource {
@@ -120,7 +125,8 @@ pub(crate) fn missing_file(
     include: &Include,
     path: String,
 ) -> FindFault
-    ensures { IsStop (found.missing_file from.now.path include.now.line (string_bytes path)) result }
+    ensures { IsStop
+        (found.missing_file from.now.path include.now.line (string_bytes path)) result }
 {
     match String::from_str(alloc, &from.path) {
         Ok(from) => FindFault::MissingFile {

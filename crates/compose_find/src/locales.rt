@@ -59,7 +59,9 @@ pub fn locale_file(
     aliases: &[u8],
     locale: &str,
 ) -> Result<Option<String>, AllocError>
-    ensures { IfOk result (λ file. option_map string_bytes file ≡ locales.locale_file folder.now compose_dir.now aliases.now locale.now) }
+    ensures { IfOk result
+        (λ file. option_map string_bytes file
+        ≡ locales.locale_file folder.now compose_dir.now aliases.now locale.now) }
 {
     let name = aliased(aliases, locale.as_bytes());
     let Some(entry) = compose_dir_entry(compose_dir, name) else {
@@ -77,7 +79,8 @@ fn aliased<'a>(aliases: &'a [u8], locale: &'a [u8]) -> &'a [u8]
 
 /// The path of an entry of `compose.dir`, if it is UTF-8.
 fn entry_path(alloc: Global, folder: &str, entry: &[u8]) -> Result<Option<String>, AllocError>
-    ensures { IfOk result (λ path. option_map string_bytes path ≡ locales.entry_path folder.now entry.now) }
+    ensures { IfOk result
+        (λ path. option_map string_bytes path ≡ locales.entry_path folder.now entry.now) }
 {
     match str::from_utf8(entry) {
         Ok(entry) => Ok(Some(in_folder(alloc, folder, entry)?)),
@@ -121,7 +124,8 @@ fn locale_alias<'a>(locale_alias: &'a [u8], alias: &[u8]) -> Option<&'a [u8]>
 
 /// The two words of a line, if it has two and is no comment.
 fn pair_of(line: &[u8]) -> Option<(&[u8], &[u8])>
-    ensures { MatchOption result (locales.pair_of line.now ≡ None) (λ pair. locales.pair_of line.now ≡ Some (pair.0.now, pair.1.now)) }
+    ensures { MatchOption result (locales.pair_of line.now ≡ None)
+        (λ pair. locales.pair_of line.now ≡ Some (pair.0.now, pair.1.now)) }
 {
     let (left, behind) = split_prefix::<LeftByte>(skip_blanks(line));
     let (right, _) = split_prefix::<WordByte>(skip_blanks(past_colon(behind)));

@@ -78,7 +78,8 @@ fn meaning_at<'a>(
     meanings: Meanings<'a>,
     behind: &'a str,
 ) -> Result<(&'a str, &'a str), IncludeFault>
-    ensures { Gives (λ x. (x.0.now, x.1.now)) result (meaning_at (words meanings.entry) behind.now) }
+    ensures { Gives (λ x. (x.0.now, x.1.now)) result
+        (meaning_at (words meanings.entry) behind.now) }
 {
     match behind.as_bytes().first() {
         Some(b'%') => Ok(("%", &behind[1..])),

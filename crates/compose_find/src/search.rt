@@ -25,7 +25,8 @@ pub fn find_sources(
     meanings: Meanings<'_>,
     root: &str,
 ) -> Result<Vec<FoundSource>, FindFault>
-    ensures { FindGives (λ sources. sources.items) result (found.found files.now (words meanings.entry) root.now) }
+    ensures { FindGives (λ sources. sources.items) result
+        (found.found files.now (words meanings.entry) root.now) }
 {
     let mut sources = Vec::new(alloc);
     sources.push(root_source(alloc, root)?)?;
@@ -39,7 +40,8 @@ pub fn find_sources(
 
 /// The root, which its path names.
 fn root_source(alloc: Global, root: &str) -> Result<FoundSource, FindFault>
-    ensures { FindGives (λ m. m) result (Ok (record { name = root.now; path = root.now; depth = 0 })) }
+    ensures { FindGives (λ m. m) result
+        (Ok (record { name = root.now; path = root.now; depth = 0 })) }
 {
     Ok(FoundSource {
         name: String::from_str(alloc, root)?,
@@ -58,7 +60,9 @@ fn add_includes_of(
 ) -> Result<(), FindFault>
     requires within { index < length sources.old.items }
     requires few { length sources.old.items ≤ 64 }
-    ensures adds { (from : found.FoundSource) → slice_get sources.old.items index ≡ Some from → FindGives (λ _. sources.new.items) result (found.with_includes_of files.now (words meanings.entry) from sources.old.items) }
+    ensures adds { (from : found.FoundSource) → slice_get sources.old.items index ≡ Some from
+        → FindGives (λ _. sources.new.items) result
+        (found.with_includes_of files.now (words meanings.entry) from sources.old.items) }
     ensures few { OnOk result (length sources.new.items ≤ 64) }
 {
     let from = sources[index].copy(alloc)?;
@@ -76,7 +80,9 @@ fn add_includes(
     sources: &mut Vec<FoundSource>,
 ) -> Result<(), FindFault>
     requires { length sources.old.items ≤ 64 }
-    ensures adds { FindGives (λ _. sources.new.items) result (found.with_includes files.now (words meanings.entry) from.now includes.now sources.old.items) }
+    ensures adds { FindGives (λ _. sources.new.items) result
+        (found.with_includes files.now
+        (words meanings.entry) from.now includes.now sources.old.items) }
     ensures few { OnOk result (length sources.new.items ≤ 64) }
 {
     for include in includes {
@@ -95,7 +101,9 @@ fn add_include(
     sources: &mut Vec<FoundSource>,
 ) -> Result<(), FindFault>
     requires { length sources.old.items ≤ 64 }
-    ensures adds { FindGives (λ _. sources.new.items) result (found.with_include files.now (words meanings.entry) from.now include.now sources.old.items) }
+    ensures adds { FindGives (λ _. sources.new.items) result
+        (found.with_include files.now
+        (words meanings.entry) from.now include.now sources.old.items) }
     ensures few { OnOk result (length sources.new.items ≤ 64) }
 {
     let path = lead(alloc, files, meanings, from, include)?;
@@ -112,7 +120,9 @@ fn add_source(
 ) -> Result<(), FindFault>
     requires few { length sources.old.items ≤ 64 }
     requires level { from.now.depth < 8 }
-    ensures adds { FindGives (λ _. sources.new.items) result (found.with_source from.now include.now (string_bytes path) (find (λ m. bytes_eq include.now.raw m.name) sources.old.items) sources.old.items) }
+    ensures adds { FindGives (λ _. sources.new.items) result
+        (found.with_source from.now include.now (string_bytes path)
+        (find (λ m. bytes_eq include.now.raw m.name) sources.old.items) sources.old.items) }
     ensures few { OnOk result (length sources.new.items ≤ 64) }
 {
     if let Some(source) = known(sources, &include.raw) {
@@ -140,7 +150,8 @@ fn lead(
     from: &FoundSource,
     include: &Include,
 ) -> Result<String, FindFault>
-    ensures leads { FindGives string_bytes result (found.leads_to files.now (words meanings.entry) from.now include.now) }
+    ensures leads { FindGives string_bytes result
+        (found.leads_to files.now (words meanings.entry) from.now include.now) }
     ensures level { OnOk result (from.now.depth < 8) }
 {
     if from.depth >= MAX_DEPTH {
@@ -161,7 +172,8 @@ fn located(
     include: &Include,
     path: String,
 ) -> Result<String, FindFault>
-    ensures { FindGives string_bytes result (found.located files.now from.now include.now (string_bytes path)) }
+    ensures { FindGives string_bytes result
+        (found.located files.now from.now include.now (string_bytes path)) }
 {
     if files.looked_at(alloc, &path)?.is_some() {
         return Ok(path);

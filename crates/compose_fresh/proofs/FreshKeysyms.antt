@@ -25,7 +25,8 @@ module _ (old : List Definition) (fresh : List ℕ) (used i k : ℕ) (first : us
   stale_later fed before =
       let unused : has_key (keysyms old) k ≡ false = ap (has_key (keysyms old)) at ∙ fails_before_first (has_key (keysyms old)) fresh i k (omega arith) in
       sym (left
-      ∙ first_unmet-met (not (is_ignored k)) (FreshIgnored k) (condition (not (has_key (keysyms old) k)) (FreshUsed k) ∷ flat_map (one_fresh_conditions old) (drop (i + 1) fresh)) (not_from_false (is_ignored k) fed)
+      ∙ first_unmet-met (not (is_ignored k)) (FreshIgnored k) (condition (not (has_key (keysyms old) k)) (FreshUsed k) ∷ flat_map (one_fresh_conditions old) (drop (i + 1) fresh))
+      (not_from_false (is_ignored k) fed)
       ∙ first_unmet-met (not (has_key (keysyms old) k)) (FreshUsed k) (flat_map (one_fresh_conditions old) (drop (i + 1) fresh)) (not_from_false (has_key (keysyms old) k) unused))
 
   -- at it the keysym is used
@@ -34,7 +35,8 @@ module _ (old : List Definition) (fresh : List ℕ) (used i k : ℕ) (first : us
       let index : i ≡ position_or_len (has_key (keysyms old)) fresh = here ∙ first in
       let is_used : has_key (keysyms old) k ≡ true = ap (has_key (keysyms old)) (at ∙ ap (λ n. get_or fresh n k) index) ∙ passes_at_first (has_key (keysyms old)) fresh k (omega arith) in
       sym (left
-      ∙ first_unmet-met (not (is_ignored k)) (FreshIgnored k) (condition (not (has_key (keysyms old) k)) (FreshUsed k) ∷ flat_map (one_fresh_conditions old) (drop (i + 1) fresh)) (not_from_false (is_ignored k) fed)
+      ∙ first_unmet-met (not (is_ignored k)) (FreshIgnored k) (condition (not (has_key (keysyms old) k)) (FreshUsed k) ∷ flat_map (one_fresh_conditions old) (drop (i + 1) fresh))
+      (not_from_false (is_ignored k) fed)
       ∙ first_unmet-fault (not (has_key (keysyms old) k)) (FreshUsed k) (flat_map (one_fresh_conditions old) (drop (i + 1) fresh)) (not_from_true (has_key (keysyms old) k) is_used))
 
 -- ---- together
@@ -49,7 +51,9 @@ tests_are old fresh = ap (λ b. keys_rise fresh && b) (all_met-flat_map (one_fre
 -- where no condition fails, the keysyms are fresh
 pub are_fresh : (old : List Definition) (fresh : List ℕ) → first_unmet (fresh_conditions old fresh) ≡ None → AreFresh fresh old
 are_fresh old fresh h =
-    let parts = and_parts (keys_rise fresh) (list_all (λ k. not (is_ignored k) && (not (has_key (keysyms old) k) && true)) fresh) (sym (tests_are old fresh) ∙ met_from_none (fresh_conditions old fresh) h) in
+    let parts =
+    and_parts (keys_rise fresh) (list_all (λ k. not (is_ignored k) && (not (has_key (keysyms old) k) && true)) fresh)
+    (sym (tests_are old fresh) ∙ met_from_none (fresh_conditions old fresh) h) in
     let each = each_of (λ k. not (is_ignored k)) (λ k. not (has_key (keysyms old) k)) fresh parts.1 in
     record { rise = parts.0; none_ignored = each.0; none_used = each.1 }
 

@@ -112,7 +112,9 @@ key_absent (x ∷ xs) k n = or_from (k == x) (has_key xs k) (ne_eqb k x (λ e. n
 pub among : (xs : List ℕ) (k : ℕ) (r : Result ℕ ℕ) → keys_rise xs ≡ true → IsBinarySearchResult (λ y. nat_cmp y k) xs r → is_ok r ≡ has_key xs k
 among xs k r rise found = go r (searched xs k r found (rises_weakly xs rise))
   where
-    go : (r : Result ℕ ℕ) → MatchResult r (λ i. (i < length xs) × (get_or xs i 0 ≡ k)) (λ i. (i ≤ length xs) × ((j : ℕ) → j < i → get_or xs j 0 < k) × ((j : ℕ) → i ≤ j → j < length xs → k < get_or xs j 0)) → is_ok r ≡ has_key xs k
+    go : (r : Result ℕ ℕ)
+        → MatchResult r (λ i. (i < length xs) × (get_or xs i 0 ≡ k)) (λ i. (i ≤ length xs) × ((j : ℕ) → j < i → get_or xs j 0 < k) × ((j : ℕ) → i ≤ j → j < length xs → k < get_or xs j 0))
+        → is_ok r ≡ has_key xs k
     go (Ok i) h = sym (key_there xs i k h.0 h.1)
     go (Err i) h = sym (key_absent xs k (λ j b e. elim (cases_lt j i) [
       | inl l ↦ absurd (let m = h.1 j l in omega arith)

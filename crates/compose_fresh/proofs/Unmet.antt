@@ -15,7 +15,8 @@ pub first_unmet-append : (xs ys : List Condition) → first_unmet (xs ++ ys) ≡
 first_unmet-append xs ys =
     ap (option_map (λ (d : Condition). d.fault)) (find-append (λ (d : Condition). not d.met) xs ys) ∙ go (find (λ (d : Condition). not d.met) xs)
   where
-    go : (o : Option Condition) → option_map (λ (d : Condition). d.fault) (option_or o (find (λ (d : Condition). not d.met) ys)) ≡ option_or (option_map (λ (d : Condition). d.fault) o) (first_unmet ys)
+    go : (o : Option Condition)
+        → option_map (λ (d : Condition). d.fault) (option_or o (find (λ (d : Condition). not d.met) ys)) ≡ option_or (option_map (λ (d : Condition). d.fault) o) (first_unmet ys)
     go None = refl
     go (Some d) = refl
 
@@ -42,7 +43,8 @@ pub met_from_none : (ds : List Condition) → first_unmet ds ≡ None → all_me
 met_from_none [] h = refl
 met_from_none (d ∷ ds) h = go d.met refl h (met_from_none ds)
   where
-    go : (b : Bool) → d.met ≡ b → option_map (λ (d : Condition). d.fault) (cond (not b) (Some d) (find (λ (d : Condition). not d.met) ds)) ≡ None → (first_unmet ds ≡ None → all_met ds ≡ true) → d.met && all_met ds ≡ true
+    go : (b : Bool) → d.met ≡ b → option_map (λ (d : Condition). d.fault) (cond (not b) (Some d) (find (λ (d : Condition). not d.met) ds)) ≡ None → (first_unmet ds ≡ None → all_met ds ≡ true)
+        → d.met && all_met ds ≡ true
     go true e h later = and_from d.met (all_met ds) e (later h)
     go false e h later = cc
 
@@ -50,7 +52,8 @@ pub none_from_met : (ds : List Condition) → all_met ds ≡ true → first_unme
 none_from_met [] h = refl
 none_from_met (d ∷ ds) h = go d.met refl (and_parts d.met (all_met ds) h) (none_from_met ds)
   where
-    go : (b : Bool) → d.met ≡ b → (d.met ≡ true) × (all_met ds ≡ true) → (all_met ds ≡ true → first_unmet ds ≡ None) → option_map (λ (d : Condition). d.fault) (cond (not b) (Some d) (find (λ (d : Condition). not d.met) ds)) ≡ None
+    go : (b : Bool) → d.met ≡ b → (d.met ≡ true) × (all_met ds ≡ true) → (all_met ds ≡ true → first_unmet ds ≡ None)
+        → option_map (λ (d : Condition). d.fault) (cond (not b) (Some d) (find (λ (d : Condition). not d.met) ds)) ≡ None
     go true e h later = later h.1
     go false e h later = absurd (let clash : false ≡ true = sym e ∙ h.0 in cc)
 
@@ -88,10 +91,12 @@ pub met_before : (xs ys : List Condition) → first_unmet xs ≡ None → first_
 met_before xs ys h = first_unmet-append xs ys ∙ ap (λ o. option_or o (first_unmet ys)) h
 
 -- where each element has several
-pub unmet_at : {X : Type 0} (f : X → List Condition) (xs : List X) (i : ℕ) (x : X) (fault : CheckFault) → slice_get xs i ≡ Some x → first_unmet (f x) ≡ Some fault → first_unmet (flat_map f (drop i xs)) ≡ Some fault
+pub unmet_at : {X : Type 0} (f : X → List Condition) (xs : List X) (i : ℕ) (x : X) (fault : CheckFault) → slice_get xs i ≡ Some x → first_unmet (f x) ≡ Some fault
+    → first_unmet (flat_map f (drop i xs)) ≡ Some fault
 unmet_at f xs i x fault e h = ap (λ ys. first_unmet (flat_map f ys)) (drop_at xs i x e) ∙ unmet_before (f x) (flat_map f (drop (i + 1) xs)) fault h
 
-pub met_at : {X : Type 0} (f : X → List Condition) (xs : List X) (i : ℕ) (x : X) → slice_get xs i ≡ Some x → first_unmet (f x) ≡ None → first_unmet (flat_map f (drop (i + 1) xs)) ≡ first_unmet (flat_map f (drop i xs))
+pub met_at : {X : Type 0} (f : X → List Condition) (xs : List X) (i : ℕ) (x : X) → slice_get xs i ≡ Some x → first_unmet (f x) ≡ None
+    → first_unmet (flat_map f (drop (i + 1) xs)) ≡ first_unmet (flat_map f (drop i xs))
 met_at f xs i x e h = sym (ap (λ ys. first_unmet (flat_map f ys)) (drop_at xs i x e) ∙ met_before (f x) (flat_map f (drop (i + 1) xs)) h)
 
 -- where each has one

@@ -53,12 +53,17 @@ edge_of (d ∷ table) k h = elim (or_cases (list_any (λ j. k == j) d.sequence) 
   | inl e ↦ (let b = before_key k d.sequence e in record {
     node = b.prefix;
     extended = or_left (is_proper_prefix b.prefix d.sequence) (is_extended table b.prefix) b.is_prefix;
-    goes_on = either (b.prefix ++ k ∷ []) (or_left (is_proper_prefix (b.prefix ++ k ∷ []) d.sequence || same (b.prefix ++ k ∷ []) d.sequence) (is_extended table (b.prefix ++ k ∷ []) || is_sequence table (b.prefix ++ k ∷ [])) b.goes_on);
+    goes_on =
+        either (b.prefix ++ k ∷ [])
+        (or_left (is_proper_prefix (b.prefix ++ k ∷ []) d.sequence || same (b.prefix ++ k ∷ []) d.sequence)
+        (is_extended table (b.prefix ++ k ∷ []) || is_sequence table (b.prefix ++ k ∷ [])) b.goes_on);
   })
   | inr e ↦ (let r = edge_of table k e in record {
     node = r.node;
     extended = or_right (is_proper_prefix r.node d.sequence) (is_extended table r.node) r.extended;
-    goes_on = either (r.node ++ k ∷ []) (or_right (is_proper_prefix (r.node ++ k ∷ []) d.sequence || same (r.node ++ k ∷ []) d.sequence) (is_extended table (r.node ++ k ∷ []) || is_sequence table (r.node ++ k ∷ [])) r.goes_on);
+    goes_on =
+        either (r.node ++ k ∷ [])
+        (or_right (is_proper_prefix (r.node ++ k ∷ []) d.sequence || same (r.node ++ k ∷ []) d.sequence) (is_extended table (r.node ++ k ∷ []) || is_sequence table (r.node ++ k ∷ [])) r.goes_on);
   })
 ]
   where

@@ -54,7 +54,8 @@ fn are_rising(keysyms: &[Keysym]) -> bool
 
 /// The first fresh keysym that is ignored or used, where the first one that is used has the index `used`, if there is one.
 fn first_stale(fresh: &[Keysym], used: usize) -> Option<CheckFault>
-    ensures { (old : List Definition) → used ≡ position_or_len (has_key (keysyms old)) fresh.now → result ≡ first_unmet (flat_map (one_fresh_conditions old) fresh.now) }
+    ensures { (old : List Definition) → used ≡ position_or_len (has_key (keysyms old)) fresh.now
+        → result ≡ first_unmet (flat_map (one_fresh_conditions old) fresh.now) }
 {
     for index in 0..fresh.len() {
         let keysym = fresh[index];
@@ -87,7 +88,11 @@ fn first_used<T: ComposeTable>(old: &T, fresh: &[Keysym]) -> usize
 fn first_used_at<T: ComposeTable>(old: &T, node: NodeId, fresh: &[Keysym]) -> usize
     requires rise { IsTrue (keys_rise fresh.now) }
     requires in_range { node.0 < length (nodes (T.definitions old.now)) }
-    ensures { result ≡ position_or_len (has_key (edges (T.definitions old.now) (node_at (T.definitions old.now) node.0))) fresh.now }
+    ensures { result
+        ≡ position_or_len
+        (has_key
+        (edges (T.definitions old.now)
+        (node_at (T.definitions old.now) node.0))) fresh.now }
 {
     let mut least = fresh.len();
     for index in 0..old.edge_count(node) {

@@ -60,8 +60,10 @@ differ : (m n : ℕ) (b : Bool) → m == n ≡ b → (m ≡ n → ⊥) → m == 
 differ m n true e f = absurd (f (eqb-true m n e))
 differ m n false e f = e
 
-module _ (unsent : ℕ) (reading : Reading) (first old new : ServiceState) (accepted : ℕ) (slots : List (Option Client)) (key : ℕ) (x : Option Client) (lt : key < length slots) (s : ServedSoFar unsent reading first old accepted slots) where
-  module _ (c : Client) (here : IsIn slots key c) (events : List Event) (state : ConnectionState) (happen : AllHappen (max unsent 1) c.connection events state) (run : IsHistory reading old (exchanges events) new) (stands : StandsAs c.number state x) where
+module _ (unsent : ℕ) (reading : Reading) (first old new : ServiceState) (accepted : ℕ) (slots : List (Option Client)) (key : ℕ) (x : Option Client) (lt : key < length slots)
+    (s : ServedSoFar unsent reading first old accepted slots) where
+  module _ (c : Client) (here : IsIn slots key c) (events : List Event) (state : ConnectionState) (happen : AllHappen (max unsent 1) c.connection events state)
+      (run : IsHistory reading old (exchanges events) new) (stands : StandsAs c.number state x) where
     abbrev after : ℕ → ConnectionState
     after n = cond (c.number == n) state (s.after n)
 
@@ -92,7 +94,9 @@ module _ (unsent : ℕ) (reading : Reading) (first old new : ServiceState) (acce
       after = after;
       served =
           served_one_after_another (max unsent 1) reading first old new (λ n. new_connection) s.after after s.all (numbered c.number events) s.served
-          (turns_are_served (max unsent 1) reading old new s.after after events c.number (subst (λ (t : ConnectionState). AllHappen (max unsent 1) t events (after c.number)) (s.each key c here) (subst (λ (t : ConnectionState). AllHappen (max unsent 1) c.connection events t) (sym after_own) happen)) run after_other);
+          (turns_are_served (max unsent 1) reading old new s.after after events c.number
+          (subst (λ (t : ConnectionState). AllHappen (max unsent 1) t events (after c.number)) (s.each key c here)
+          (subst (λ (t : ConnectionState). AllHappen (max unsent 1) c.connection events t) (sym after_own) happen)) run after_other);
       few = λ j d h. few_at j d (at_slot slots key x lt j d h);
       each = λ j d h. each_at j d (at_slot slots key x lt j d h);
       apart = λ j k b d hb hd e. apart_at j k b d (at_slot slots key x lt j b hb) (at_slot slots key x lt k d hd) e;
@@ -110,7 +114,8 @@ module _ (unsent : ℕ) (reading : Reading) (first old new : ServiceState) (acce
 
 -- ---- a further connection
 
-module _ (unsent : ℕ) (reading : Reading) (first now : ServiceState) (accepted : ℕ) (slots : List (Option Client)) (key : ℕ) (x : Option Client) (lt : key < length slots) (s : ServedSoFar unsent reading first now accepted slots) (stands : StandsAs (accepted + 1) new_connection x) where
+module _ (unsent : ℕ) (reading : Reading) (first now : ServiceState) (accepted : ℕ) (slots : List (Option Client)) (key : ℕ) (x : Option Client) (lt : key < length slots)
+    (s : ServedSoFar unsent reading first now accepted slots) (stands : StandsAs (accepted + 1) new_connection x) where
   more_few : (j : ℕ) (d : Client) → IsAt slots key x j d → d.number ≤ accepted + 1
   more_few j d (inl p) = let e = (stands d p.1).0 in omega arith
   more_few j d (inr p) = let e = s.few j d p.1 in omega arith
@@ -136,7 +141,8 @@ module _ (unsent : ℕ) (reading : Reading) (first now : ServiceState) (accepted
     later = λ n past. s.later n (omega arith);
   }
 
-module _ (unsent : ℕ) (reading : Reading) (first now : ServiceState) (accepted accepted' : ℕ) (slots : List (Option Client)) (key : ℕ) (x : Option Client) (lt : key < length slots) (s : ServedSoFar unsent reading first now accepted slots) (slot : Option Client) (e : slot ≡ get_or slots key slot) where
+module _ (unsent : ℕ) (reading : Reading) (first now : ServiceState) (accepted accepted' : ℕ) (slots : List (Option Client)) (key : ℕ) (x : Option Client) (lt : key < length slots)
+    (s : ServedSoFar unsent reading first now accepted slots) (slot : Option Client) (e : slot ≡ get_or slots key slot) where
   pub slot_accepted : AcceptsSo accepted accepted' slot x → ServedSoFar unsent reading first now accepted' (set slots key x)
   slot_accepted (inl p) =
       let still = subst (λ (o : Option Client). SlotIsStill o x) (e ∙ get_or_default slots key slot None lt) p.1 in

@@ -26,7 +26,8 @@ module _ (unsent : ℕ) (reading : Reading) (old mid new : ServiceState) (before
     t.4,
   )
 
-  pub went_on : (events : List Event) (after : ConnectionState) → AllHappen (max unsent 1) between events after → IsHistory reading mid (exchanges events) new → now ≡ after → WentOn unsent reading old new before now
+  pub went_on : (events : List Event) (after : ConnectionState) → AllHappen (max unsent 1) between events after → IsHistory reading mid (exchanges events) new → now ≡ after
+      → WentOn unsent reading old new before now
   went_on events after h r e = record {
     events = so_far.events ++ events;
     happen = happen-both (max unsent 1) before between now so_far.events events so_far.happen (subst (λ (s : ConnectionState). AllHappen (max unsent 1) between events s) (sym e) h);

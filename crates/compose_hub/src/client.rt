@@ -93,7 +93,8 @@ impl Client {
         alloc: Global,
         unsent: usize,
     ) -> Turn
-        ensures { ClientTurnsSo unsent S.reading result (S.state service.old) (S.state service.new) self.old self.new }
+        ensures { ClientTurnsSo unsent S.reading result (S.state service.old)
+            (S.state service.new) self.old self.new }
     {
         'turns: for _ in 0..TURNS {
             match self.turn(service, alloc, unsent) {
@@ -106,7 +107,8 @@ impl Client {
 
     /// One turn, with its own stream.
     fn turn<S: Answer>(&mut self, service: &mut S, alloc: Global, unsent: usize) -> Turn
-        ensures { ClientTurnsSo unsent S.reading result (S.state service.old) (S.state service.new) self.old self.new }
+        ensures { ClientTurnsSo unsent S.reading result (S.state service.old)
+            (S.state service.new) self.old self.new }
     {
         let held = if self.has_room { usize::MAX } else { HELD };
         let limits = TurnLimits { unsent, held };

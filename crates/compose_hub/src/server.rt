@@ -89,7 +89,8 @@ pub fn serve_at_once<S: Answer, E: Report>(
 impl Server {
     /// A server without connections.
     fn new(alloc: Global, limits: Limits) -> io::Result<Server>
-        ensures { IfOk result (λ server. (vec_len server.slots ≡ max limits.at_once 1) × HasNone server.slots.items) }
+        ensures { IfOk result
+            (λ server. (vec_len server.slots ≡ max limits.at_once 1) × HasNone server.slots.items) }
     {
         let mut slots = Vec::new(alloc);
         'slots: for _ in 0..limits.at_once.max(1) {
@@ -134,7 +135,8 @@ impl Server {
 
     /// Accepts the connections that wait in the listener's queue, while there is a slot for them.
     fn accept_all(&mut self, alloc: Global, registry: &Registry, listener: &UnixListener)
-        ensures { (unsent : ℕ) (reading : Reading) (state : ServiceState) → GoesOnServing unsent reading state state self.old.accepted self.new.accepted self.old.slots.items self.new.slots.items }
+        ensures { (unsent : ℕ) (reading : Reading) (state : ServiceState)
+            → GoesOnServing unsent reading state state self.old.accepted self.new.accepted self.old.slots.items self.new.slots.items }
     {
         if self.queue == Queue::Failed {
             self.queue = Queue::Waits;
@@ -153,7 +155,8 @@ impl Server {
 
     /// Gives what is reported as ready its next turn.
     fn mark_ready(&mut self, events: &Events)
-        ensures { (self.new.accepted ≡ self.old.accepted) × AllAreStill self.old.slots.items self.new.slots.items }
+        ensures { (self.new.accepted ≡ self.old.accepted)
+            × AllAreStill self.old.slots.items self.new.slots.items }
     {
         'events: for event in events {
             let Token(key) = event.token();
@@ -173,7 +176,8 @@ impl Server {
         unsent: usize,
         report: &mut E,
     ) -> io::Result<()>
-        ensures { GoesOnServing unsent S.reading (S.state service.old) (S.state service.new) self.old.accepted self.new.accepted self.old.slots.items self.new.slots.items }
+        ensures { GoesOnServing unsent S.reading (S.state service.old)
+            (S.state service.new) self.old.accepted self.new.accepted self.old.slots.items self.new.slots.items }
     {
         'slots: for slot in self.slots.iter_mut() {
             if let Some((number, how)) = serve_slot(slot, service, alloc, unsent) {
@@ -185,7 +189,8 @@ impl Server {
 
     /// Gives room to connections that wait for it, as far as there is some.
     fn share_room(&mut self)
-        ensures { (self.new.accepted ≡ self.old.accepted) × AllAreStill self.old.slots.items self.new.slots.items }
+        ensures { (self.new.accepted ≡ self.old.accepted)
+            × AllAreStill self.old.slots.items self.new.slots.items }
     {
         let used = self.slots.iter().filter(|slot| uses_room(slot)).count();
         let mut rooms_left = ROOMS.saturating_sub(used);
@@ -274,7 +279,8 @@ fn serve_slot<S: Answer>(
     alloc: Global,
     unsent: usize,
 ) -> Option<(u32, Result<Ended, ServeFault>)>
-    ensures { SlotTurnsSo unsent S.reading (S.state service.old) (S.state service.new) slot.old slot.new }
+    ensures { SlotTurnsSo unsent S.reading (S.state service.old)
+        (S.state service.new) slot.old slot.new }
 {
     let Some(client) = slot else {
         return None;

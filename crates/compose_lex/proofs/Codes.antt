@@ -23,11 +23,13 @@ short_code radix digits low few all =
     let long : 16 ^ length digits ≤ 16 ^ 3 = pow-le-pow_right sixteen few in
     omega (arith, below, base, long)
 
-pub code_more : (radix value digit : ℕ) (bytes : List ℕ) (len : ℕ) → radix ≤ 16 → len < length bytes → digit_value (get_or bytes len 0) < radix → digit ≡ digit_value (get_or bytes len 0) → Code radix value bytes len
+pub code_more : (radix value digit : ℕ) (bytes : List ℕ) (len : ℕ) → radix ≤ 16 → len < length bytes → digit_value (get_or bytes len 0) < radix → digit ≡ digit_value (get_or bytes len 0)
+    → Code radix value bytes len
     → (value * radix + digit < 4096) × Code radix (value * radix + digit) bytes (len + 1)
 code_more radix value digit bytes len low l small is s =
     let digits = digits_more radix bytes len l s.digits small in
-    let same : value * radix + digit ≡ digits_value radix (take (len + 1) bytes) = ap (λ x. x * radix + digit) s.written ∙ ap (λ x. digits_value radix (take len bytes) * radix + x) is ∙ sym (digits_value_more radix bytes len l) in
+    let same : value * radix + digit ≡ digits_value radix (take (len + 1) bytes) =
+    ap (λ x. x * radix + digit) s.written ∙ ap (λ x. digits_value radix (take len bytes) * radix + x) is ∙ sym (digits_value_more radix bytes len l) in
     let few : length (take (len + 1) bytes) ≤ 3 = simp length-take (let f = s.few in omega arith) in
     let here : drop len bytes ≡ get_or bytes len 0 ∷ drop (len + 1) bytes = drop_more bytes len 0 l in
     let passes : nat_lt (digit_value (get_or bytes len 0)) radix ≡ true = lt-ltb (digit_value (get_or bytes len 0)) radix small in (

@@ -24,7 +24,8 @@ skipped_to at (suc left) (b ∷ rest) = let e : 1 + at + left ≡ at + suc left 
 
 -- one byte, and its piece has `len` bytes behind the first
 read_one : (at b byte len : ℕ) (rest : List ℕ) → (first_len : ℕ) → first_len ≡ len → piece (b ∷ take len rest) (drop len rest) ≡ Some byte
-    → with_byte (piece (b ∷ take first_len rest) (drop first_len rest)) (escape_fault at rest) (bytes_from (1 + at) first_len rest) ≡ with_bytes (byte ∷ []) (bytes_from (at + (1 + len)) 0 (drop len rest))
+    → with_byte (piece (b ∷ take first_len rest) (drop first_len rest)) (escape_fault at rest) (bytes_from (1 + at) first_len rest)
+    ≡ with_bytes (byte ∷ []) (bytes_from (at + (1 + len)) 0 (drop len rest))
 read_one at b byte len rest first_len is h =
     ap (λ l. with_byte (piece (b ∷ take l rest) (drop l rest)) (escape_fault at rest) (bytes_from (1 + at) l rest)) is
     ∙ ap (λ o. with_byte o (escape_fault at rest) (bytes_from (1 + at) len rest)) h ∙ byte_before (bytes_from (1 + at) len rest)
@@ -52,7 +53,8 @@ piece_fits b rest = go (b == 92)
     go true = escape_fits rest
     go false = omega arith
 
-pub decodes_more : (raw : List ℕ) (at len b byte taken : ℕ) (kept more behind : List ℕ) → drop at raw ≡ b ∷ behind → piece_byte b behind ≡ Some byte → taken ≡ first_len (b ∷ behind) → more ≡ take 255 (kept ++ byte ∷ [])
+pub decodes_more : (raw : List ℕ) (at len b byte taken : ℕ) (kept more behind : List ℕ) → drop at raw ≡ b ∷ behind → piece_byte b behind ≡ Some byte → taken ≡ first_len (b ∷ behind)
+    → more ≡ take 255 (kept ++ byte ∷ [])
     → Decodes raw at kept len → Decodes raw (at + (1 + taken)) more (len + 1)
 decodes_more raw at len b byte taken kept more behind here stands takes keeps s =
     let fits : taken ≤ length behind = let f = piece_fits b behind in omega arith in

@@ -50,7 +50,8 @@ run_is_some p most rest h =
     (run_ends p most rest)
 
 -- so the code of a run is that of the digits taken; no digit writes 0, which stands for no byte
-run_code : (p : ℕ → Bool) (most radix : ℕ) (rest : List ℕ) → let ds = leading p (take most rest) in let after = drop (length ds) rest in cond (is_run p most ds after) (byte_of (digits_value radix ds)) None ≡ byte_of (digits_value radix ds)
+run_code : (p : ℕ → Bool) (most radix : ℕ) (rest : List ℕ)
+    → let ds = leading p (take most rest) in let after = drop (length ds) rest in cond (is_run p most ds after) (byte_of (digits_value radix ds)) None ≡ byte_of (digits_value radix ds)
 run_code p most radix rest = go (leading p (take most rest)) (drop (length (leading p (take most rest))) rest) (run_is_some p most rest)
   where
     go : (ds after : List ℕ) → (0 < length ds → is_run p most ds after ≡ true) → cond (is_run p most ds after) (byte_of (digits_value radix ds)) None ≡ byte_of (digits_value radix ds)
@@ -63,7 +64,8 @@ prefix_taken p zero rest = refl
 prefix_taken p (suc m) [] = refl
 prefix_taken p (suc m) (r ∷ rest) = go (p r) (prefix_taken p m rest)
   where
-    go : (b : Bool) → take (length (leading p (take m rest))) rest ≡ leading p (take m rest) → take (length (cond b (r ∷ leading p (take m rest)) [])) (r ∷ rest) ≡ cond b (r ∷ leading p (take m rest)) []
+    go : (b : Bool) → take (length (leading p (take m rest))) rest ≡ leading p (take m rest)
+        → take (length (cond b (r ∷ leading p (take m rest)) [])) (r ∷ rest) ≡ cond b (r ∷ leading p (take m rest)) []
     go true h = ap (λ t. r ∷ t) h
     go false h = refl
 
@@ -74,25 +76,31 @@ pub record EscapeIs (at : ℕ) (rest : List ℕ) (byte : Option ℕ) (len : ℕ)
   pub takes : escape_len rest ≡ len
   pub fails : escape_fault at rest ≡ fault
 
-pub hexadecimal_is : (at e : ℕ) (rest : List ℕ) → (e == 120 || e == 88) ≡ true → let ds = leading is_hexadecimal_digit (take 2 rest) in EscapeIs at (e ∷ rest) (byte_of (digits_value 16 ds)) (1 + length ds) (BadCode at)
+pub hexadecimal_is : (at e : ℕ) (rest : List ℕ) → (e == 120 || e == 88) ≡ true
+    → let ds = leading is_hexadecimal_digit (take 2 rest) in EscapeIs at (e ∷ rest) (byte_of (digits_value 16 ds)) (1 + length ds) (BadCode at)
 hexadecimal_is at e rest h =
     let ds = leading is_hexadecimal_digit (take 2 rest) in
     let n = length ds in
     let takes : escape_len (e ∷ rest) ≡ 1 + n = rw h refl in
     let one : escape_len (e ∷ rest) ≡ suc n = takes ∙ one-add n in
     record {
-      stands = ap (λ l. escape (take l (e ∷ rest)) (drop l (e ∷ rest))) one ∙ ap (λ x. escape (e ∷ x) (drop n rest)) (prefix_taken is_hexadecimal_digit 2 rest) ∙ rw h (run_code is_hexadecimal_digit 2 16 rest);
+      stands =
+          ap (λ l. escape (take l (e ∷ rest)) (drop l (e ∷ rest))) one ∙ ap (λ x. escape (e ∷ x) (drop n rest)) (prefix_taken is_hexadecimal_digit 2 rest)
+          ∙ rw h (run_code is_hexadecimal_digit 2 16 rest);
       takes = takes;
       fails = rw h refl;
     }
 
-octal_read : (e : ℕ) (digits after : List ℕ) → (e == 120 || e == 88) ≡ false → is_octal e ≡ true → escape (e ∷ digits) after ≡ cond (is_run is_octal 3 (e ∷ digits) after) (byte_of (digits_value 8 (e ∷ digits))) None
+octal_read : (e : ℕ) (digits after : List ℕ) → (e == 120 || e == 88) ≡ false → is_octal e ≡ true
+    → escape (e ∷ digits) after ≡ cond (is_run is_octal 3 (e ∷ digits) after) (byte_of (digits_value 8 (e ∷ digits))) None
 octal_read e digits after h o = rw (h, o) refl
 
-pub octal_is : (at e : ℕ) (rest : List ℕ) → (e == 120 || e == 88) ≡ false → 0 < length (leading is_octal (take 3 (e ∷ rest))) → let ds = leading is_octal (take 3 (e ∷ rest)) in EscapeIs at (e ∷ rest) (byte_of (digits_value 8 ds)) (length ds) (BadCode at)
+pub octal_is : (at e : ℕ) (rest : List ℕ) → (e == 120 || e == 88) ≡ false → 0 < length (leading is_octal (take 3 (e ∷ rest)))
+    → let ds = leading is_octal (take 3 (e ∷ rest)) in EscapeIs at (e ∷ rest) (byte_of (digits_value 8 ds)) (length ds) (BadCode at)
 octal_is at e rest h some = go (is_octal e) refl some
   where
-    go : (b : Bool) → is_octal e ≡ b → 0 < length (cond b (e ∷ leading is_octal (take 2 rest)) []) → let ds = leading is_octal (take 3 (e ∷ rest)) in EscapeIs at (e ∷ rest) (byte_of (digits_value 8 ds)) (length ds) (BadCode at)
+    go : (b : Bool) → is_octal e ≡ b → 0 < length (cond b (e ∷ leading is_octal (take 2 rest)) [])
+        → let ds = leading is_octal (take 3 (e ∷ rest)) in EscapeIs at (e ∷ rest) (byte_of (digits_value 8 ds)) (length ds) (BadCode at)
     go false o some = absurd (omega arith)
     go true o some =
         let ds = leading is_octal (take 3 (e ∷ rest)) in
@@ -100,14 +108,17 @@ octal_is at e rest h some = go (is_octal e) refl some
         let is : ds ≡ e ∷ leading is_octal (take 2 rest) = rw o refl in
         let takes : escape_len (e ∷ rest) ≡ length ds = rw (h, o) refl in
         record {
-          stands = ap (λ l. escape (take l (e ∷ rest)) (drop l (e ∷ rest))) takes ∙ ap (λ x. escape x after) (prefix_taken is_octal 3 (e ∷ rest) ∙ is) ∙ octal_read e (leading is_octal (take 2 rest)) after h o
+          stands =
+              ap (λ l. escape (take l (e ∷ rest)) (drop l (e ∷ rest))) takes ∙ ap (λ x. escape x after) (prefix_taken is_octal 3 (e ∷ rest) ∙ is)
+              ∙ octal_read e (leading is_octal (take 2 rest)) after h o
               ∙ ap (λ x. cond (is_run is_octal 3 x after) (byte_of (digits_value 8 x)) None) (sym is) ∙ run_code is_octal 3 8 (e ∷ rest);
           takes = takes;
           fails = rw (h, o) refl;
         }
 
 -- a byte found so is the byte of the escape
-pub escape_found : (at : ℕ) (rest : List ℕ) (byte : Option ℕ) (len : ℕ) (fault : LexFault) (r : Result (ℕ × ℕ) LexFault) → EscapeIs at rest byte len fault → IsByte byte len fault r → IsByte (escape_byte rest) (escape_len rest) (escape_fault at rest) r
+pub escape_found : (at : ℕ) (rest : List ℕ) (byte : Option ℕ) (len : ℕ) (fault : LexFault) (r : Result (ℕ × ℕ) LexFault) → EscapeIs at rest byte len fault → IsByte byte len fault r
+    → IsByte (escape_byte rest) (escape_len rest) (escape_fault at rest) r
 escape_found at rest byte len fault (Ok x) is h = (is.stands ∙ h.0, h.1 ∙ sym is.takes)
 escape_found at rest byte len fault (Err e) is h = (is.stands ∙ h.0, h.1 ∙ sym is.fails)
 

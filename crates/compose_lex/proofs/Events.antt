@@ -29,17 +29,20 @@ unfolding events_at
 events_full n rest behind h = h (λ _. Err TooManyKeysyms)
 
 -- a further event that is none
-pub events_broken : (n left : ℕ) (rest behind : List ℕ) (fault : LexFault) → ((event : Reads) → colon_or n (skip_blanks rest) event ≡ event behind) → event_at n behind ≡ Err fault → events_at n (suc left) rest ≡ Err fault
+pub events_broken : (n left : ℕ) (rest behind : List ℕ) (fault : LexFault) → ((event : Reads) → colon_or n (skip_blanks rest) event ≡ event behind) → event_at n behind ≡ Err fault
+    → events_at n (suc left) rest ≡ Err fault
 unfolding events_at
 events_broken n left rest behind fault h e = h (λ rest. event_at n rest >>= λ event. events_at n left event.1 >>= λ more. Ok (event.0 ∷ more.0, more.1))
     ∙ ap (λ r. r >>= λ event. events_at n left event.1 >>= λ more. Ok (event.0 ∷ more.0, more.1)) e
 
-put_event : (prefix : List (List ℕ)) (name : List ℕ) (r : Result (List (List ℕ) × List ℕ) LexFault) → with_prefix prefix (r >>= λ more. Ok (name ∷ more.0, more.1)) ≡ with_prefix (prefix ++ name ∷ []) r
+put_event : (prefix : List (List ℕ)) (name : List ℕ) (r : Result (List (List ℕ) × List ℕ) LexFault)
+    → with_prefix prefix (r >>= λ more. Ok (name ∷ more.0, more.1)) ≡ with_prefix (prefix ++ name ∷ []) r
 put_event prefix name (Ok more) = ap (λ x. let r : Result (List (List ℕ) × List ℕ) LexFault = Ok (x, more.1) in r) (sym (append_assoc prefix (name ∷ []) more.0))
 put_event prefix name (Err e) = refl
 
 -- a further event
-pub events_more : (n left : ℕ) (prefix : List (List ℕ)) (rest behind name after : List ℕ) → ((event : Reads) → colon_or n (skip_blanks rest) event ≡ event behind) → event_at n behind ≡ Ok (name, after)
+pub events_more : (n left : ℕ) (prefix : List (List ℕ)) (rest behind name after : List ℕ) → ((event : Reads) → colon_or n (skip_blanks rest) event ≡ event behind)
+    → event_at n behind ≡ Ok (name, after)
     → with_prefix prefix (events_at n (suc left) rest) ≡ with_prefix (prefix ++ name ∷ []) (events_at n left after)
 unfolding events_at
 events_more n left prefix rest behind name after h e =
@@ -47,13 +50,15 @@ events_more n left prefix rest behind name after h e =
     ∙ ap (λ r. r >>= λ event. events_at n left event.1 >>= λ more. Ok (event.0 ∷ more.0, more.1)) e) ∙ put_event prefix name (events_at n left after)
 
 -- the same, with the number of events that may still come
-pub one_more : (n count : ℕ) (prefix : List (List ℕ)) (rest behind name after : List ℕ) → count < 32 → ((event : Reads) → colon_or n (skip_blanks rest) event ≡ event behind) → event_at n behind ≡ Ok (name, after)
+pub one_more : (n count : ℕ) (prefix : List (List ℕ)) (rest behind name after : List ℕ) → count < 32 → ((event : Reads) → colon_or n (skip_blanks rest) event ≡ event behind)
+    → event_at n behind ≡ Ok (name, after)
     → with_prefix prefix (events_at n (32 - count) rest) ≡ with_prefix (prefix ++ name ∷ []) (events_at n (32 - (count + 1)) after)
 one_more n count prefix rest behind name after few h e =
     let left : 32 - count ≡ suc (32 - (count + 1)) = omega arith in
     ap (λ x. with_prefix prefix (events_at n x rest)) left ∙ events_more n (32 - (count + 1)) prefix rest behind name after h e
 
-pub one_broken : (n count : ℕ) (rest behind : List ℕ) (fault : LexFault) → count < 32 → ((event : Reads) → colon_or n (skip_blanks rest) event ≡ event behind) → event_at n behind ≡ Err fault → events_at n (32 - count) rest ≡ Err fault
+pub one_broken : (n count : ℕ) (rest behind : List ℕ) (fault : LexFault) → count < 32 → ((event : Reads) → colon_or n (skip_blanks rest) event ≡ event behind) → event_at n behind ≡ Err fault
+    → events_at n (32 - count) rest ≡ Err fault
 one_broken n count rest behind fault few h e =
     let left : 32 - count ≡ suc (32 - (count + 1)) = omega arith in
     ap (λ x. events_at n x rest) left ∙ events_broken n (32 - (count + 1)) rest behind fault h e

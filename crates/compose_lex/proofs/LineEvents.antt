@@ -25,10 +25,11 @@ bind_fails (Ok x) f y e first then = then x refl e
 bind_fails {A} (Err e) f y h first then = let q : e ≡ y = cc in first (ap (λ x. let r : Result A LexFault = Err x in r) q)
 
 pub name_fails : (n : ℕ) (bytes : List ℕ) (f : LexFault) → name_at n bytes ≡ Err f → (begins is_name_byte bytes ≡ false) × (BadToken (n - length bytes) ≡ f)
-name_fails n bytes f e = elim (chosen {A = Result (List ℕ × List ℕ) LexFault} (begins is_name_byte bytes) (Ok (leading is_name_byte bytes, behind is_name_byte bytes)) (Err (BadToken (n - length bytes))) (Err f) e) [
-  | inl x ↦ (let w = x.1 in cc)
-  | inr x ↦ (x.0, (let w = x.1 in cc))
-]
+name_fails n bytes f e =
+    elim (chosen {A = Result (List ℕ × List ℕ) LexFault} (begins is_name_byte bytes) (Ok (leading is_name_byte bytes, behind is_name_byte bytes)) (Err (BadToken (n - length bytes))) (Err f) e) [
+      | inl x ↦ (let w = x.1 in cc)
+      | inr x ↦ (x.0, (let w = x.1 in cc))
+    ]
 
 pub byte_fails : (n wanted : ℕ) (bytes : List ℕ) (f : LexFault) → byte_at n wanted bytes ≡ Err f → (begins (λ b. b == wanted) bytes ≡ false) × (BadToken (n - length bytes) ≡ f)
 byte_fails n wanted [] f e = let whole : n - 0 ≡ n = omega arith in (refl, ap BadToken whole ∙ cc)
@@ -61,10 +62,13 @@ colon_fails n (b ∷ bytes) event f e = go (b == 58) refl (b == 60) refl e
 
 -- no byte of a name follows a name that is read
 pub name_whole : (n : ℕ) (bytes name rest : List ℕ) → name_at n bytes ≡ Ok (name, rest) → begins is_name_byte rest ≡ false
-name_whole n bytes name rest e = elim (chosen {A = Result (List ℕ × List ℕ) LexFault} (begins is_name_byte bytes) (Ok (leading is_name_byte bytes, behind is_name_byte bytes)) (Err (BadToken (n - length bytes))) (Ok (name, rest)) e) [
-  | inl x ↦ ap (begins is_name_byte) (sym (ok_pair (leading is_name_byte bytes) name (behind is_name_byte bytes) rest x.1).1) ∙ behind_stops is_name_byte bytes
-  | inr x ↦ (let w = x.1 in cc)
-]
+name_whole n bytes name rest e =
+    elim
+    (chosen {A = Result (List ℕ × List ℕ) LexFault} (begins is_name_byte bytes) (Ok (leading is_name_byte bytes, behind is_name_byte bytes)) (Err (BadToken (n - length bytes)))
+    (Ok (name, rest)) e) [
+      | inl x ↦ ap (begins is_name_byte) (sym (ok_pair (leading is_name_byte bytes) name (behind is_name_byte bytes) rest x.1).1) ∙ behind_stops is_name_byte bytes
+      | inr x ↦ (let w = x.1 in cc)
+    ]
 
 pub may_not : (p q : ℕ → Bool) (rest : List ℕ) → ((b : ℕ) → p b ≡ false → q b ≡ false) → begins p rest ≡ false → begins q rest ≡ false
 may_not p q [] f h = refl
@@ -82,18 +86,24 @@ pub record Events (line : List ℕ) (events : List (List ℕ)) (left : ℕ) (res
   pub names : list_all is_name events ≡ true
   pub reached : Reached line (flat_map event_tokens events) (skip_blanks rest) (between (length events))
 
-not_named : (line : List ℕ) (done : List (List ℕ)) (rest : List ℕ) (k : ℕ) → Reached line done rest (opened k) → begins is_name_byte rest ≡ false → IsLineFault line (BadToken (length line - length rest))
+not_named : (line : List ℕ) (done : List (List ℕ)) (rest : List ℕ) (k : ℕ) → Reached line done rest (opened k) → begins is_name_byte rest ≡ false
+    → IsLineFault line (BadToken (length line - length rest))
 not_named line done rest k r none = unlike line done rest (opened k) r (may_not is_name_byte (λ b. is_some (goes (opened k) b)) rest (λ b h. rw h refl) none) (λ e. cc) refl
 
-not_closed : (line : List ℕ) (done : List (List ℕ)) (rest : List ℕ) (k : ℕ) → Reached line done rest (named k) → begins (λ b. b == 62) rest ≡ false → IsLineFault line (BadToken (length line - length rest))
+not_closed : (line : List ℕ) (done : List (List ℕ)) (rest : List ℕ) (k : ℕ) → Reached line done rest (named k) → begins (λ b. b == 62) rest ≡ false
+    → IsLineFault line (BadToken (length line - length rest))
 not_closed line done rest k r none = unlike line done rest (named k) r (may_not (λ b. b == 62) (λ b. is_some (goes (named k) b)) rest (λ b h. rw h refl) none) (λ e. cc) refl
 
-name_reached : (line : List ℕ) (events : List (List ℕ)) (bytes : List ℕ) (x : List ℕ × List ℕ) → length events < 32 → list_all is_name events ≡ true → Reached line (opened_tokens events) bytes (opened (length events))
+name_reached : (line : List ℕ) (events : List (List ℕ)) (bytes : List ℕ) (x : List ℕ × List ℕ) → length events < 32 → list_all is_name events ≡ true
+    → Reached line (opened_tokens events) bytes (opened (length events))
     → name_at (length line) bytes ≡ Ok x → Reached line (opened_tokens events ++ x.0 ∷ []) (skip_blanks x.1) (named (length events)) × (is_name x.0 ≡ true)
 name_reached line events bytes x few names r e =
     let k = length events in
-    let s = name_said (length line) bytes x.0 x.1 e in
-    (reached_more line (opened_tokens events) bytes (opened k) (named k) x.0 x.1 r s.0 (whole_before x.0 x.1 (name_whole (length line) bytes x.0 x.1 e)) (name_steps x.0 k s.1) (named_right events x.0 few names s.1), s.1)
+    let s = name_said (length line) bytes x.0 x.1 e in (
+      reached_more line (opened_tokens events) bytes (opened k) (named k) x.0 x.1 r s.0 (whole_before x.0 x.1 (name_whole (length line) bytes x.0 x.1 e)) (name_steps x.0 k s.1)
+          (named_right events x.0 few names s.1),
+      s.1,
+    )
 
 close_reached : (line : List ℕ) (events : List (List ℕ)) (name bytes rest : List ℕ) (left : ℕ) → length events + suc left ≡ 32 → list_all is_name events ≡ true → is_name name ≡ true
     → Reached line (opened_tokens events ++ name ∷ []) bytes (named (length events)) → bytes ≡ 62 ∷ rest → Events line (events ++ name ∷ []) left rest
@@ -108,7 +118,8 @@ close_reached line events name bytes rest left count names is r here =
       names = list_all-append is_name events (name ∷ []) ∙ and_from (list_all is_name events) (list_all is_name (name ∷ [])) names (and_from (is_name name) true is refl);
       reached = subst (λ n. Reached line (flat_map event_tokens (events ++ name ∷ [])) (skip_blanks rest) (between n)) next
           (subst (λ ts. Reached line ts (skip_blanks rest) (between (suc k))) (whole_event events name)
-          (reached_more line (opened_tokens events ++ name ∷ []) bytes (named k) (between (suc k)) (62 ∷ []) rest r here refl refl (subst AreFirst (sym (whole_event events name)) (events_right events name few names is))));
+          (reached_more line (opened_tokens events ++ name ∷ []) bytes (named k) (between (suc k)) (62 ∷ []) rest r here refl refl
+          (subst AreFirst (sym (whole_event events name)) (events_right events name few names is))));
     }
 
 pub event_reached : (line : List ℕ) (events : List (List ℕ)) (rest : List ℕ) (x : List ℕ × List ℕ) (left : ℕ) → length events + suc left ≡ 32 → list_all is_name events ≡ true
@@ -119,9 +130,11 @@ event_reached line events rest x left count names r e =
     bind_with (byte_at n 62 (skip_blanks y.1)) (λ r. Ok (y.0, r)) x e (λ more closed e.
     let q : ◌≡◌ {A = List ℕ × List ℕ} (y.0, more) x = cc in
     let s = name_reached line events (skip_blanks rest) y (omega (arith, count)) names r named in
-    subst (λ (z : List ℕ × List ℕ). Events line (events ++ z.0 ∷ []) left z.1) q (close_reached line events y.0 (skip_blanks y.1) more left count names s.1 s.0 (byte_said n 62 (skip_blanks y.1) more closed))))
+    subst (λ (z : List ℕ × List ℕ). Events line (events ++ z.0 ∷ []) left z.1) q
+    (close_reached line events y.0 (skip_blanks y.1) more left count names s.1 s.0 (byte_said n 62 (skip_blanks y.1) more closed))))
 
-pub event_broken : (line : List ℕ) (events : List (List ℕ)) (rest : List ℕ) (f : LexFault) → length events < 32 → list_all is_name events ≡ true → Reached line (opened_tokens events) (skip_blanks rest) (opened (length events))
+pub event_broken : (line : List ℕ) (events : List (List ℕ)) (rest : List ℕ) (f : LexFault) → length events < 32 → list_all is_name events ≡ true
+    → Reached line (opened_tokens events) (skip_blanks rest) (opened (length events))
     → event_at (length line) rest ≡ Err f → IsLineFault line f
 event_broken line events rest f few names r e =
     let n = length line in
@@ -135,7 +148,8 @@ event_broken line events rest f few names r e =
     subst (IsLineFault line) b.1 (not_closed line (opened_tokens events ++ y.0 ∷ []) (skip_blanks y.1) (length events) s.0 b.0))
     (λ more closed e. cc))
 
-open_reached : (line : List ℕ) (events : List (List ℕ)) (left : ℕ) (rest behind : List ℕ) → Events line events (suc left) rest → skip_blanks rest ≡ 60 ∷ behind → Reached line (opened_tokens events) (skip_blanks behind) (opened (length events))
+open_reached : (line : List ℕ) (events : List (List ℕ)) (left : ℕ) (rest behind : List ℕ) → Events line events (suc left) rest → skip_blanks rest ≡ 60 ∷ behind
+    → Reached line (opened_tokens events) (skip_blanks behind) (opened (length events))
 open_reached line events left rest behind s here =
     let k = length events in
     let few : k < 32 = let c = s.count in omega (arith, c) in
@@ -143,11 +157,13 @@ open_reached line events left rest behind s here =
     reached_more line (flat_map event_tokens events) (skip_blanks rest) (between k) (opened k) (60 ∷ []) behind s.reached here refl (rw room refl) (opened_right events few s.names)
 
 -- neither the colon nor a further event
-no_colon : (line : List ℕ) (events : List (List ℕ)) (left : ℕ) (rest : List ℕ) → Events line events left rest → begins (λ b. b == 58) (skip_blanks rest) ≡ false → begins (λ b. b == 60) (skip_blanks rest) ≡ false
+no_colon : (line : List ℕ) (events : List (List ℕ)) (left : ℕ) (rest : List ℕ) → Events line events left rest → begins (λ b. b == 58) (skip_blanks rest) ≡ false
+    → begins (λ b. b == 60) (skip_blanks rest) ≡ false
     → IsLineFault line (event_fault (length line) (skip_blanks rest))
 no_colon line events left rest s other less =
     let k = length events in
-    no_event line events (skip_blanks rest) (between k) s.reached (no_token_at (flat_map event_tokens events) (skip_blanks rest) (between k) s.reached.walked (neither k (skip_blanks rest) other less)) (λ e. cc) less refl
+    no_event line events (skip_blanks rest) (between k) s.reached (no_token_at (flat_map event_tokens events) (skip_blanks rest) (between k) s.reached.walked (neither k (skip_blanks rest) other less))
+    (λ e. cc) less refl
   where
     neither : (k : ℕ) (rest : List ℕ) → begins (λ b. b == 58) rest ≡ false → begins (λ b. b == 60) rest ≡ false → begins (λ b. is_some (goes (between k) b)) rest ≡ false
     neither k [] c l = refl
@@ -207,11 +223,13 @@ colon_reached line events left rest behind s here =
           (production events None (Some (codes "a")), codes "a" ∷ [], right_from events None (Some (codes "a")) right, sym (append_assoc done ((58 ∷ []) ∷ []) (codes "a" ∷ [])));
     }
 
-last_event : (line : List ℕ) (events : List (List ℕ)) (left : ℕ) (rest : List ℕ) (x : List (List ℕ) × List ℕ) → Events line events left rest → (behind : List ℕ) × (skip_blanks rest ≡ 58 ∷ behind) × (x ≡ ([], behind)) → Colon line (events ++ x.0) x.1
+last_event : (line : List ℕ) (events : List (List ℕ)) (left : ℕ) (rest : List ℕ) (x : List (List ℕ) × List ℕ) → Events line events left rest
+    → (behind : List ℕ) × (skip_blanks rest ≡ 58 ∷ behind) × (x ≡ ([], behind)) → Colon line (events ++ x.0) x.1
 last_event line events left rest x s c =
     subst (λ (y : List (List ℕ) × List ℕ). Colon line (events ++ y.0) y.1) (sym c.2) (subst (λ es. Colon line es c.0) (sym (append-nil events)) (colon_reached line events left rest c.0 s c.1))
 
-pub events_reached : (line : List ℕ) (left : ℕ) (events : List (List ℕ)) (rest : List ℕ) (x : List (List ℕ) × List ℕ) → Events line events left rest → events_at (length line) left rest ≡ Ok x → Colon line (events ++ x.0) x.1
+pub events_reached : (line : List ℕ) (left : ℕ) (events : List (List ℕ)) (rest : List ℕ) (x : List (List ℕ) × List ℕ) → Events line events left rest → events_at (length line) left rest ≡ Ok x
+    → Colon line (events ++ x.0) x.1
 unfolding events_at
 events_reached line zero events rest x s e = elim (colon_said (length line) (skip_blanks rest) (λ _. Err TooManyKeysyms) x e) [
   | inl c ↦ last_event line events zero rest x s c

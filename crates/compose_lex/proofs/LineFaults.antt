@@ -25,7 +25,8 @@ production_broken : (line rest : List ℕ) (f : LexFault) → skip_blanks line �
 production_broken line rest f first e =
     let n = length line in
     let less = reached_more line [] (skip_blanks line) start (opened 0) (60 ∷ []) rest (at_start line) first refl refl (opened_right [] (omega arith) refl) in
-    bind_fails (event_at n rest) (λ event. events_at n 31 event.1 >>= λ more. result_at n (skip_blanks more.1) >>= λ result. end_at n (skip_blanks result.2) >>= λ end. Ok (production (event.0 ∷ more.0) result.0 result.1)) f e
+    bind_fails (event_at n rest)
+    (λ event. events_at n 31 event.1 >>= λ more. result_at n (skip_blanks more.1) >>= λ result. end_at n (skip_blanks result.2) >>= λ end. Ok (production (event.0 ∷ more.0) result.0 result.1)) f e
     (λ e. event_broken line [] rest f (omega arith) refl less e)
     (λ event is e.
     let s : Events line (event.0 ∷ []) 31 event.1 = event_reached line [] rest event 31 (omega arith) refl less is in
@@ -86,7 +87,8 @@ pub line_fault_said : (line : List ℕ) (f : LexFault) → reading_of line ≡ E
 line_fault_said line f e = go (skip_blanks line) refl e
   where
     by : (b : ℕ) (rest : List ℕ) → skip_blanks line ≡ b ∷ rest → (x : Bool) → (b == 35) ≡ x → (y : Bool) → is_include (b ∷ rest) ≡ y → (z : Bool) → (b == 60) ≡ z
-        → cond x (Ok blank) (cond y (include_at (length line) (drop 7 (b ∷ rest))) (cond z (production_at (length line) rest) (Err (event_fault (length line) (b ∷ rest))))) ≡ Err f → IsLineFault line f
+        → cond x (Ok blank) (cond y (include_at (length line) (drop 7 (b ∷ rest))) (cond z (production_at (length line) rest) (Err (event_fault (length line) (b ∷ rest))))) ≡ Err f
+        → IsLineFault line f
     by b rest first true h y i z j e = cc
     by b rest first false h true i z j e =
         let parts = and_parts (starts_with nat_eq (b ∷ rest) (codes "include")) (not (begins is_name_byte (drop 7 (b ∷ rest)))) i in

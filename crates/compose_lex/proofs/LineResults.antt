@@ -51,7 +51,8 @@ name_right events name some few names is = (
   sym (append_assoc (flat_map event_tokens events) ((58 ∷ []) ∷ []) (name ∷ [])) ∙ sym (append-nil (colon_tokens events ++ name ∷ [])),
 )
 
-string_right : (events : List (List ℕ)) (raw : List ℕ) → 0 < length events → length events ≤ 32 → list_all is_name events ≡ true → is_inside raw ≡ true → AreFirst (colon_tokens events ++ quoted raw ∷ [])
+string_right : (events : List (List ℕ)) (raw : List ℕ) → 0 < length events → length events ≤ 32 → list_all is_name events ≡ true → is_inside raw ≡ true
+    → AreFirst (colon_tokens events ++ quoted raw ∷ [])
 string_right events raw some few names is = (
   production events (Some raw) None,
   [],
@@ -110,7 +111,8 @@ result_broken line events rest f s e = go (skip_blanks rest) s.reached e
     go (b ∷ rest) r e = by b rest (b == 35) refl (b == 34) refl r e
 
 -- behind a string, perhaps a name
-behind_string : (line : List ℕ) (events : List (List ℕ)) (rest raw more : List ℕ) → Colon line events rest → Reached line (colon_tokens events ++ quoted raw ∷ []) (skip_blanks more) text → is_inside raw ≡ true → End line (name_if (skip_blanks more)).1
+behind_string : (line : List ℕ) (events : List (List ℕ)) (rest raw more : List ℕ) → Colon line events rest → Reached line (colon_tokens events ++ quoted raw ∷ []) (skip_blanks more) text
+    → is_inside raw ≡ true → End line (name_if (skip_blanks more)).1
 behind_string line events rest raw more s r is = go (begins is_name_byte (skip_blanks more)) refl
   where
     go : (x : Bool) → begins is_name_byte (skip_blanks more) ≡ x
@@ -123,7 +125,9 @@ behind_string line events rest raw more s r is = go (begins is_name_byte (skip_b
         record {
           done = (colon_tokens events ++ quoted raw ∷ []) ++ name ∷ [];
           stage = ended;
-          reached = reached_more line (colon_tokens events ++ quoted raw ∷ []) (skip_blanks more) text ended name after r t.0 (whole_before name after (behind_stops is_name_byte (skip_blanks more))) (name_ends name text behind_text named)
+          reached =
+              reached_more line (colon_tokens events ++ quoted raw ∷ []) (skip_blanks more) text ended name after r t.0 (whole_before name after (behind_stops is_name_byte (skip_blanks more)))
+              (name_ends name text behind_text named)
               (both_right events raw name s.some s.few s.names is named);
           none = never (skip_blanks after);
           behind = refl;
@@ -138,7 +142,8 @@ behind_string line events rest raw more s r is = go (begins is_name_byte (skip_b
           behind = refl;
         }
 
-pub result_reached : (line : List ℕ) (events : List (List ℕ)) (rest : List ℕ) (x : Option (List ℕ) × Option (List ℕ) × List ℕ) → Colon line events rest → result_at (length line) (skip_blanks rest) ≡ Ok x → End line x.2
+pub result_reached : (line : List ℕ) (events : List (List ℕ)) (rest : List ℕ) (x : Option (List ℕ) × Option (List ℕ) × List ℕ) → Colon line events rest
+    → result_at (length line) (skip_blanks rest) ≡ Ok x → End line x.2
 result_reached line events rest x s e = go (skip_blanks rest) s.reached e
   where
     by : (b : ℕ) (bytes : List ℕ) (c : Bool) (d : Bool) → (b == 34) ≡ d → Reached line (colon_tokens events) (b ∷ bytes) colon
@@ -151,15 +156,20 @@ result_reached line events rest x s e = go (skip_blanks rest) s.reached e
         let q : ◌≡◌ {A = Option (List ℕ) × Option (List ℕ) × List ℕ} (Some string.0, (name_if (skip_blanks string.1)).0, (name_if (skip_blanks string.1)).1) x = cc in
         let t = string_said (length line) bytes string.0 string.1 is in
         let here : b ∷ bytes ≡ quoted string.0 ++ string.1 = ap (λ y. y ∷ bytes) (eqb-true b 34 i) ∙ t.0 in
-        let next = reached_more line (colon_tokens events) (b ∷ bytes) colon text (quoted string.0) string.1 r here (string_whole string.0 string.1) refl (string_right events string.0 s.some s.few s.names t.1) in
+        let next =
+        reached_more line (colon_tokens events) (b ∷ bytes) colon text (quoted string.0) string.1 r here (string_whole string.0 string.1) refl
+        (string_right events string.0 s.some s.few s.names t.1) in
         subst (λ (y : Option (List ℕ) × Option (List ℕ) × List ℕ). End line y.2) q (behind_string line events rest string.0 string.1 s next t.1))
     by b bytes false false i r e =
         bind_with (name_at (length line) (b ∷ bytes)) (λ name. Ok (None, Some name.0, name.1)) x e (λ name is e.
         let q : ◌≡◌ {A = Option (List ℕ) × Option (List ℕ) × List ℕ} (None, Some name.0, name.1) x = cc in
         let t = name_said (length line) (b ∷ bytes) name.0 name.1 is in
-        let next = reached_more line (colon_tokens events) (b ∷ bytes) colon ended name.0 name.1 r t.0 (whole_before name.0 name.1 (name_whole (length line) (b ∷ bytes) name.0 name.1 is)) (name_ends name.0 colon behind_colon t.1)
+        let next =
+        reached_more line (colon_tokens events) (b ∷ bytes) colon ended name.0 name.1 r t.0 (whole_before name.0 name.1 (name_whole (length line) (b ∷ bytes) name.0 name.1 is))
+        (name_ends name.0 colon behind_colon t.1)
         (name_right events name.0 s.some s.few s.names t.1) in
-        subst (λ (y : Option (List ℕ) × Option (List ℕ) × List ℕ). End line y.2) q (record { done = colon_tokens events ++ name.0 ∷ []; stage = ended; reached = next; none = never (skip_blanks name.1); behind = refl }))
+        subst (λ (y : Option (List ℕ) × Option (List ℕ) × List ℕ). End line y.2) q
+        (record { done = colon_tokens events ++ name.0 ∷ []; stage = ended; reached = next; none = never (skip_blanks name.1); behind = refl }))
 
     go : (bytes : List ℕ) → Reached line (colon_tokens events) bytes colon → result_at (length line) bytes ≡ Ok x → End line x.2
     go [] r e = cc

@@ -89,7 +89,8 @@ inside_said true (b ∷ bytes) raw rest e = mapped b (inside_from false bytes) r
     (ap (λ t. b ∷ t) r.0 ∙ ap (λ t. t ++ 34 ∷ more) is ∙ ap (λ t. raw ++ 34 ∷ t) on, ap (is_inside_from true) (sym is) ∙ r.1))
 inside_said false (b ∷ bytes) raw rest e = go (b == 34) refl e (inside_said (b == 92) bytes)
   where
-    go : (x : Bool) → (b == 34) ≡ x → cond {A = Option (List ℕ × List ℕ)} x (Some ([], bytes)) (option_map (λ y. let z : List ℕ × List ℕ = (b ∷ y.0, y.1) in z) (inside_from (b == 92) bytes)) ≡ Some (raw, rest)
+    go : (x : Bool) → (b == 34) ≡ x
+        → cond {A = Option (List ℕ × List ℕ)} x (Some ([], bytes)) (option_map (λ y. let z : List ℕ × List ℕ = (b ∷ y.0, y.1) in z) (inside_from (b == 92) bytes)) ≡ Some (raw, rest)
         → ((raw rest : List ℕ) → inside_from (b == 92) bytes ≡ Some (raw, rest) → (bytes ≡ raw ++ 34 ∷ rest) × (is_inside_from (b == 92) raw ≡ true))
         → (b ∷ bytes ≡ raw ++ 34 ∷ rest) × (is_inside_from false raw ≡ true)
     go true h e f =
@@ -167,10 +168,11 @@ events_said n zero bytes events ts rest e u = elim (colon_said n (skip_blanks by
   | inl x ↦ no_events zero bytes events ts rest u x
   | inr x ↦ (let w = x.2 in cc)
 ]
-events_said n (suc left) bytes events ts rest e u = elim (colon_said n (skip_blanks bytes) (λ r. event_at n r >>= λ event. events_at n left event.1 >>= λ more. Ok (event.0 ∷ more.0, more.1)) (events, rest) e) [
-  | inl x ↦ no_events (suc left) bytes events ts rest u x
-  | inr x ↦ more_events n left bytes x.0 events ts rest x.1 x.2 u (λ bytes events rest e u. events_said n left bytes events ts rest e u)
-]
+events_said n (suc left) bytes events ts rest e u =
+    elim (colon_said n (skip_blanks bytes) (λ r. event_at n r >>= λ event. events_at n left event.1 >>= λ more. Ok (event.0 ∷ more.0, more.1)) (events, rest) e) [
+      | inl x ↦ no_events (suc left) bytes events ts rest u x
+      | inr x ↦ more_events n left bytes x.0 events ts rest x.1 x.2 u (λ bytes events rest e u. events_said n left bytes events ts rest e u)
+    ]
 
 -- ---- the result
 
@@ -191,13 +193,17 @@ behind_twice p (x ∷ xs) = go (p x) refl (behind_twice p xs)
 behind_string : (n : ℕ) (bytes raw more : List ℕ) (name : Option (List ℕ)) (rest : List ℕ) (u : Unit {0}) → skip_blanks bytes ≡ quoted raw ++ more → is_inside raw ≡ true
     → ◌≡◌ {A = Option (List ℕ) × List ℕ} (name_if (skip_blanks more)) (name, rest) → end_at n (skip_blanks rest) ≡ Ok u → Result_said bytes (Some raw) name
 behind_string n bytes raw more name rest u first h e ended =
-    elim (chosen {A = Option (List ℕ) × List ℕ} (begins is_name_byte (skip_blanks more)) (Some (leading is_name_byte (skip_blanks more)), behind is_name_byte (skip_blanks more)) (None, skip_blanks more) (name, rest) e) [
+    elim
+    (chosen {A = Option (List ℕ) × List ℕ} (begins is_name_byte (skip_blanks more)) (Some (leading is_name_byte (skip_blanks more)), behind is_name_byte (skip_blanks more))
+    (None, skip_blanks more) (name, rest) e) [
       | inl x ↦ (
           let q = pair_is (Some (leading is_name_byte (skip_blanks more))) name (behind is_name_byte (skip_blanks more)) rest x.1 in
           let t = taken is_name_byte TooManyKeysyms (skip_blanks more) (leading is_name_byte (skip_blanks more)) (behind is_name_byte (skip_blanks more)) (rw x.0 refl) in
           let end : AreTokens [] (behind is_name_byte (skip_blanks more)) = subst (AreTokens []) (sym q.1) (end_said n rest u ended) in
           subst (Result_said bytes (Some raw)) q.0 (record {
-            are = put_token (quoted raw) (leading is_name_byte (skip_blanks more) ∷ []) bytes more first (put_token (leading is_name_byte (skip_blanks more)) [] more (behind is_name_byte (skip_blanks more)) t.0 end);
+            are =
+                put_token (quoted raw) (leading is_name_byte (skip_blanks more) ∷ []) bytes more first
+                (put_token (leading is_name_byte (skip_blanks more)) [] more (behind is_name_byte (skip_blanks more)) t.0 end);
             closed = h;
             named = name_is (leading is_name_byte (skip_blanks more)) t.1 t.2;
             some = refl;
@@ -211,7 +217,8 @@ behind_string n bytes raw more name rest u first h e ended =
 triple_is : {A B C : Type 0} (a d : A) (b e : B) (c f : C) → ◌≡◌ {A = Result (A × B × C) LexFault} (Ok (a, b, c)) (Ok (d, e, f)) → (a ≡ d) × (b ≡ e) × (c ≡ f)
 triple_is {A} {B} {C} a d b e c f h = let q : ◌≡◌ {A = A × B × C} (a, b, c) (d, e, f) = cc in (ap (λ (x : A × B × C). x.0) q, ap (λ (x : A × B × C). x.1) q, ap (λ (x : A × B × C). x.2) q)
 
-result_said : (n : ℕ) (bytes rest : List ℕ) (raw name : Option (List ℕ)) (left : List ℕ) (u : Unit {0}) → skip_blanks bytes ≡ rest → result_at n rest ≡ Ok (raw, name, left) → end_at n (skip_blanks left) ≡ Ok u → Result_said bytes raw name
+result_said : (n : ℕ) (bytes rest : List ℕ) (raw name : Option (List ℕ)) (left : List ℕ) (u : Unit {0}) → skip_blanks bytes ≡ rest → result_at n rest ≡ Ok (raw, name, left)
+    → end_at n (skip_blanks left) ≡ Ok u → Result_said bytes raw name
 result_said n bytes [] raw name left u first e ended = cc
 result_said n bytes (b ∷ rest) raw name left u first e ended = go (b == 35) (b == 34) refl e
   where
@@ -235,8 +242,11 @@ result_said n bytes (b ∷ rest) raw name left u first e ended = go (b == 35) (b
 
 production_said : (line rest : List ℕ) (n : ℕ) (r : Reading) → skip_blanks line ≡ 60 ∷ rest → production_at n rest ≡ Ok r → IsLine line r
 production_said line rest n r first e =
-    bind_with (event_at n rest) (λ event. events_at n 31 event.1 >>= λ more. result_at n (skip_blanks more.1) >>= λ result. end_at n (skip_blanks result.2) >>= λ end. Ok (production (event.0 ∷ more.0) result.0 result.1)) r e (λ event is e.
-    bind_with (events_at n 31 event.1) (λ more. result_at n (skip_blanks more.1) >>= λ result. end_at n (skip_blanks result.2) >>= λ end. Ok (production (event.0 ∷ more.0) result.0 result.1)) r e (λ more on e.
+    bind_with (event_at n rest)
+    (λ event. events_at n 31 event.1 >>= λ more. result_at n (skip_blanks more.1) >>= λ result. end_at n (skip_blanks result.2) >>= λ end. Ok (production (event.0 ∷ more.0) result.0 result.1)) r e
+    (λ event is e.
+    bind_with (events_at n 31 event.1) (λ more. result_at n (skip_blanks more.1) >>= λ result. end_at n (skip_blanks result.2) >>= λ end. Ok (production (event.0 ∷ more.0) result.0 result.1)) r e
+    (λ more on e.
     bind_with (result_at n (skip_blanks more.1)) (λ result. end_at n (skip_blanks result.2) >>= λ end. Ok (production (event.0 ∷ more.0) result.0 result.1)) r e (λ result gives e.
     bind_with (end_at n (skip_blanks result.2)) (λ end. Ok (production (event.0 ∷ more.0) result.0 result.1)) r e (λ end ended e.
     let q : production (event.0 ∷ more.0) result.0 result.1 ≡ r = cc in

@@ -36,7 +36,8 @@ begins_fits (t ∷ ts) bytes rest b =
     let f = begins_fits ts b.1 rest b.5 in
     omega (arith, e, f)
 
-pub reached_more : (line : List ℕ) (done : List (List ℕ)) (rest : List ℕ) (s m : Stage) (t more : List ℕ) → Reached line done rest s → rest ≡ t ++ more → is_whole t more ≡ true → step s t ≡ Some m → AreFirst (done ++ t ∷ [])
+pub reached_more : (line : List ℕ) (done : List (List ℕ)) (rest : List ℕ) (s m : Stage) (t more : List ℕ) → Reached line done rest s → rest ≡ t ++ more → is_whole t more ≡ true → step s t ≡ Some m
+    → AreFirst (done ++ t ∷ [])
     → Reached line (done ++ t ∷ []) (skip_blanks more) m
 reached_more line done rest s m t more r here w steps right = record {
   begun = begins_more done t line rest more r.begun here w;
@@ -68,7 +69,8 @@ more_right events name few names h =
       result = refl;
     }
 
-more_tokens : (events : List (List ℕ)) (name : List ℕ) (rest : List (List ℕ)) → flat_map event_tokens (events ++ name ∷ []) ++ rest ≡ flat_map event_tokens events ++ ((60 ∷ []) ∷ name ∷ (62 ∷ []) ∷ rest)
+more_tokens : (events : List (List ℕ)) (name : List ℕ) (rest : List (List ℕ))
+    → flat_map event_tokens (events ++ name ∷ []) ++ rest ≡ flat_map event_tokens events ++ ((60 ∷ []) ∷ name ∷ (62 ∷ []) ∷ rest)
 more_tokens events name rest = ap (λ x. x ++ rest) (flat_map-append event_tokens events (name ∷ [])) ∙ append_assoc (flat_map event_tokens events) ((60 ∷ []) ∷ name ∷ (62 ∷ []) ∷ []) rest
 
 last_tokens : List (List ℕ)
@@ -85,7 +87,8 @@ opened_right events few names =
       more_tokens events name last_tokens ∙ sym (append_assoc es ((60 ∷ []) ∷ []) (name ∷ (62 ∷ []) ∷ last_tokens)),
     )
 
-pub named_right : (events : List (List ℕ)) (name : List ℕ) → length events < 32 → list_all is_name events ≡ true → is_name name ≡ true → AreFirst ((flat_map event_tokens events ++ (60 ∷ []) ∷ []) ++ name ∷ [])
+pub named_right : (events : List (List ℕ)) (name : List ℕ) → length events < 32 → list_all is_name events ≡ true → is_name name ≡ true
+    → AreFirst ((flat_map event_tokens events ++ (60 ∷ []) ∷ []) ++ name ∷ [])
 unfolding last_tokens
 named_right events name few names h =
     let es = flat_map event_tokens events in (
@@ -106,7 +109,8 @@ events_right events name few names h = (production (events ++ name ∷ []) None 
 
 -- ---- lines that go no further
 
-pub stops : (line : List ℕ) (done : List (List ℕ)) (rest : List ℕ) (s : Stage) → Reached line done rest s → (GoesOn done rest → ⊥) → (is_end s ≡ true → is_comment rest ≡ false) → StopsAt line (length line - length rest) done rest
+pub stops : (line : List ℕ) (done : List (List ℕ)) (rest : List ℕ) (s : Stage) → Reached line done rest s → (GoesOn done rest → ⊥) → (is_end s ≡ true → is_comment rest ≡ false)
+    → StopsAt line (length line - length rest) done rest
 stops line done rest s r no_token comment =
     let fits = begins_fits done line rest r.begun in
     record { begun = r.begun; right = r.right; offset = omega (arith, fits); no_token = no_token; no_end = λ all c. (let e = comment (all_ends done s r.walked all) in cc) }
@@ -182,7 +186,8 @@ no_string_at done rest none g =
     empty [] e is = let some = is.first [] in cc
     empty (b ∷ t) e is = cc
 
-pub unclosed : (line : List ℕ) (done : List (List ℕ)) (rest : List ℕ) (s : Stage) → Reached line done (34 ∷ rest) s → inside_from false rest ≡ None → (raw : List ℕ) → AreFirst (done ++ quoted raw ∷ []) → is_end s ≡ false
+pub unclosed : (line : List ℕ) (done : List (List ℕ)) (rest : List ℕ) (s : Stage) → Reached line done (34 ∷ rest) s → inside_from false rest ≡ None → (raw : List ℕ)
+    → AreFirst (done ++ quoted raw ∷ []) → is_end s ≡ false
     → IsLineFault line (UnclosedString (length line - length (34 ∷ rest)))
 unclosed line done rest s r none raw may inside = record {
   at = length line - length (34 ∷ rest);

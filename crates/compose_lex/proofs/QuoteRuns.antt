@@ -30,7 +30,9 @@ pub special_ascii : (b : ℕ) → stands b ≡ false → b < 128
 special_ascii b h = grind (arith, nat_tests)
 
 quote_more : (text : List ℕ) (at b : ℕ) → at < length text → b ≡ get_or text at 0 → quote_inside (take (at + 1) text) ≡ quote_inside (take at text) ++ quote_byte b
-quote_more text at b l is = ap quote_inside (take_more text at 0 l ∙ ap (λ x. take at text ++ x ∷ []) (sym is)) ∙ flat_map-append quote_byte (take at text) (b ∷ []) ∙ ap (λ x. quote_inside (take at text) ++ x) (append-nil (quote_byte b))
+quote_more text at b l is =
+    ap quote_inside (take_more text at 0 l ∙ ap (λ x. take at text ++ x ∷ []) (sym is)) ∙ flat_map-append quote_byte (take at text) (b ∷ [])
+    ∙ ap (λ x. quote_inside (take at text) ++ x) (append-nil (quote_byte b))
 
 -- a byte that stands for itself is left for later
 pub quoted_plain : (text start pushed : List ℕ) (done at b : ℕ) → at < length text → b ≡ get_or text at 0 → stands b ≡ true → Quoted text start pushed done at → Quoted text start pushed done (at + 1)
@@ -40,7 +42,8 @@ quoted_plain text start pushed done at b l is h s =
     let next : at + 1 - done ≡ at - done + 1 = omega arith in
     let place : done + (at - done) ≡ at = omega arith in
     let here : get_or (drop done text) (at - done) 0 ≡ b = get_or-drop done text (at - done) 0 ∙ ap (λ n. get_or text n 0) place ∙ sym is in
-    let run : take (at + 1 - done) (drop done text) ≡ take (at - done) (drop done text) ++ b ∷ [] = ap (λ n. take n (drop done text)) next ∙ take_more (drop done text) (at - done) 0 long ∙ ap (λ x. take (at - done) (drop done text) ++ x ∷ []) here in
+    let run : take (at + 1 - done) (drop done text) ≡ take (at - done) (drop done text) ++ b ∷ [] =
+    ap (λ n. take n (drop done text)) next ∙ take_more (drop done text) (at - done) 0 long ∙ ap (λ x. take (at - done) (drop done text) ++ x ∷ []) here in
     record {
       order = (let o : done ≤ at + 1 = omega arith in o);
       cut = s.cut;
@@ -50,9 +53,11 @@ quoted_plain text start pushed done at b l is h s =
     }
 
 -- any other is pushed as its escape, behind the bytes since then
-pub quoted_special : (text start pushed more : List ℕ) (done at b : ℕ) → IsUtf8 text → at < length text → b ≡ get_or text at 0 → b < 128 → more ≡ pushed ++ take (at - done) (drop done text) ++ quote_byte b → Quoted text start pushed done at → Quoted text start more (at + 1) (at + 1)
+pub quoted_special : (text start pushed more : List ℕ) (done at b : ℕ) → IsUtf8 text → at < length text → b ≡ get_or text at 0 → b < 128
+    → more ≡ pushed ++ take (at - done) (drop done text) ++ quote_byte b → Quoted text start pushed done at → Quoted text start more (at + 1) (at + 1)
 quoted_special text start pushed more done at b u l is ascii now s =
-    let whole : quote_inside (take done text) ++ take (at - done) (drop done text) ++ quote_byte b ≡ quote_inside (take (at + 1) text) = ap (λ x. x ++ quote_byte b) (sym s.since) ∙ sym (quote_more text at b l is) in
+    let whole : quote_inside (take done text) ++ take (at - done) (drop done text) ++ quote_byte b ≡ quote_inside (take (at + 1) text) =
+    ap (λ x. x ++ quote_byte b) (sym s.since) ∙ sym (quote_more text at b l is) in
     let none : at + 1 - (at + 1) ≡ 0 = omega arith in
     record {
       order = omega arith;

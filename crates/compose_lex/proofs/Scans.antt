@@ -31,7 +31,8 @@ cut_behind p text ascii u =
     elim (cases_lt 0 n) [
       | inl some ↦
           let last : n - 1 + 1 ≡ n = omega arith in
-          subst (IsCharBoundary text) last (IsCharBoundary-after_ascii text (n - 1) u (omega (arith, prefix_len-le-length p text)) (ascii (get_or text (n - 1) 0) (prefix_len_passes p text (n - 1) 0 (omega arith))))
+          subst (IsCharBoundary text) last
+          (IsCharBoundary-after_ascii text (n - 1) u (omega (arith, prefix_len-le-length p text)) (ascii (get_or text (n - 1) 0) (prefix_len_passes p text (n - 1) 0 (omega arith))))
       | inr none ↦
           let no : 0 ≡ n = omega arith in
           subst (IsCharBoundary text) no (IsCharBoundary-start text u)

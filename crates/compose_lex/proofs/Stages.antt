@@ -112,7 +112,8 @@ event_opens : (k : ℕ) → k < 32 → goes (behind_events k) 60 ≡ Some (opene
 event_opens zero l = refl
 event_opens (suc k) l = let few = lt-ltb (suc k) 32 l in rw few refl
 
-pub events_walk : (k : ℕ) (events ts : List (List ℕ)) → k + length events ≤ 32 → list_all is_name events ≡ true → walk (behind_events k) (flat_map event_tokens events ++ ts) ≡ walk (behind_events (k + length events)) ts
+pub events_walk : (k : ℕ) (events ts : List (List ℕ)) → k + length events ≤ 32 → list_all is_name events ≡ true
+    → walk (behind_events k) (flat_map event_tokens events ++ ts) ≡ walk (behind_events (k + length events)) ts
 events_walk k [] ts l h = let same : k ≡ k + 0 = omega arith in ap (λ n. walk (behind_events n) ts) same
 events_walk k (e ∷ es) ts l h =
     let parts = and_parts (is_name e) (list_all is_name es) h in
@@ -132,7 +133,8 @@ pub record Walked (ts : List (List ℕ)) : Type 0 where
   pub walked : walk start ts ≡ Some last
   pub ends : is_end last ≡ true
 
-result_walk : (raw name : Option (List ℕ)) → option_map_or is_name name true ≡ true → is_some raw || is_some name ≡ true → (last : Stage) × (walk colon (result_tokens raw name) ≡ Some last) × (is_end last ≡ true)
+result_walk : (raw name : Option (List ℕ)) → option_map_or is_name name true ≡ true → is_some raw || is_some name ≡ true
+    → (last : Stage) × (walk colon (result_tokens raw name) ≡ Some last) × (is_end last ≡ true)
 result_walk None None n s = cc
 result_walk None (Some name) n s = (ended, ap (λ o. on o (λ m. walk m [])) (name_ends name colon behind_colon n), refl)
 result_walk (Some raw) None n s = (text, refl, refl)

@@ -21,7 +21,8 @@ put_nothing (Some x) = refl
 pub inside_none : (text : List ℕ) → Inside text false 0
 inside_none text = record { kept = put_nothing (inside_from false text) }
 
-put_more : (b : ℕ) (read : List ℕ) (o : Option (List ℕ × List ℕ)) → option_map (λ x. let y : List ℕ × List ℕ = (b ∷ x.0, x.1) in y) (option_map (put_before read) o) ≡ option_map (put_before (b ∷ read)) o
+put_more : (b : ℕ) (read : List ℕ) (o : Option (List ℕ × List ℕ))
+    → option_map (λ x. let y : List ℕ × List ℕ = (b ∷ x.0, x.1) in y) (option_map (put_before read) o) ≡ option_map (put_before (b ∷ read)) o
 put_more b read None = refl
 put_more b read (Some x) = refl
 
@@ -40,13 +41,15 @@ inside_plain (b ∷ rest) = go (b == 34) refl (b == 92) refl (inside_plain rest)
           kept = rw (e, f) (ap (option_map (λ x. let y : List ℕ × List ℕ = (b ∷ x.0, x.1) in y)) s.kept ∙ put_more b (take n rest) (inside_from false (drop n rest)));
         })
 
-put_twice : (read : List ℕ) (b : ℕ) (o : Option (List ℕ × List ℕ)) → option_map (put_before read) (option_map (λ x. let y : List ℕ × List ℕ = (b ∷ x.0, x.1) in y) o) ≡ option_map (put_before (read ++ b ∷ [])) o
+put_twice : (read : List ℕ) (b : ℕ) (o : Option (List ℕ × List ℕ))
+    → option_map (put_before read) (option_map (λ x. let y : List ℕ × List ℕ = (b ∷ x.0, x.1) in y) o) ≡ option_map (put_before (read ++ b ∷ [])) o
 put_twice read b None = refl
 put_twice read b (Some x) = ap (λ t. let o : Option (List ℕ × List ℕ) = Some (t, x.1) in o) (sym (append_assoc read (b ∷ []) x.0))
 
 -- a byte that is no closing quote
 inside_step : (text : List ℕ) (taken next : Bool) (i b : ℕ) → i < length text → b ≡ get_or text i 0
-    → inside_from taken (b ∷ drop (i + 1) text) ≡ option_map (λ x. let y : List ℕ × List ℕ = (b ∷ x.0, x.1) in y) (inside_from next (drop (i + 1) text)) → Inside text taken i → Inside text next (i + 1)
+    → inside_from taken (b ∷ drop (i + 1) text) ≡ option_map (λ x. let y : List ℕ × List ℕ = (b ∷ x.0, x.1) in y) (inside_from next (drop (i + 1) text)) → Inside text taken i
+    → Inside text next (i + 1)
 inside_step text taken next i b l is step s =
     let here : drop i text ≡ b ∷ drop (i + 1) text = drop_more text i 0 l ∙ ap (λ x. x ∷ drop (i + 1) text) (sym is) in
     let more : take (i + 1) text ≡ take i text ++ b ∷ [] = take_more text i 0 l ∙ ap (λ x. take i text ++ x ∷ []) (sym is) in
@@ -65,7 +68,8 @@ pub inside_free : (text : List ℕ) (taken next : Bool) (i b : ℕ) → i < leng
 inside_free text taken next i b l is was differs now s = let other : (b == 34) ≡ false = ne_eqb b 34 differs in inside_step text taken next i b l is (rw (was, now, other) refl) s
 
 -- the closing quote
-pub inside_closed : (text : List ℕ) (taken : Bool) (i b : ℕ) → i < length text → b ≡ get_or text i 0 → taken ≡ false → b ≡ 34 → Inside text taken i → inside_from false text ≡ Some (take i text, drop (i + 1) text)
+pub inside_closed : (text : List ℕ) (taken : Bool) (i b : ℕ) → i < length text → b ≡ get_or text i 0 → taken ≡ false → b ≡ 34 → Inside text taken i
+    → inside_from false text ≡ Some (take i text, drop (i + 1) text)
 inside_closed text taken i b l is free quote s =
     let here : drop i text ≡ 34 ∷ drop (i + 1) text = drop_more text i 0 l ∙ ap (λ x. x ∷ drop (i + 1) text) (sym is ∙ quote) in
     s.kept ∙ ap (λ x. option_map (put_before (take i text)) (inside_from taken x)) here

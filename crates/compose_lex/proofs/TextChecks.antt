@@ -25,11 +25,13 @@ text_without_escapes raw none = ap text_or (no_escape 0 raw none)
 
 -- ---- the length is looked at first, and UTF-8 then
 
-by_length : (bytes : List ℕ) (r : Result (Unit {0}) LexFault) → len_check (length bytes) ≡ r → text_or (Ok bytes) ≡ (elim r as (λ _. Result (List ℕ) LexFault) [ Ok x ↦ cond (is_utf8 bytes) (Ok bytes) (Err TextNotUtf8) | Err e ↦ Err e ])
+by_length : (bytes : List ℕ) (r : Result (Unit {0}) LexFault) → len_check (length bytes) ≡ r
+    → text_or (Ok bytes) ≡ (elim r as (λ _. Result (List ℕ) LexFault) [ Ok x ↦ cond (is_utf8 bytes) (Ok bytes) (Err TextNotUtf8) | Err e ↦ Err e ])
 by_length bytes r h = go (length bytes == 0) (nat_lt 255 (length bytes)) r h
   where
     go : (x y : Bool) (r : Result (Unit {0}) LexFault) → cond {A = Result (Unit {0}) LexFault} x (Err EmptyText) (cond {A = Result (Unit {0}) LexFault} y (Err TextTooLong) (Ok tt)) ≡ r
-        → cond {A = Result (List ℕ) LexFault} x (Err EmptyText) (cond {A = Result (List ℕ) LexFault} y (Err TextTooLong) (cond (is_utf8 bytes) (Ok bytes) (Err TextNotUtf8))) ≡ (elim r as (λ _. Result (List ℕ) LexFault) [ Ok x ↦ cond (is_utf8 bytes) (Ok bytes) (Err TextNotUtf8) | Err e ↦ Err e ])
+        → cond {A = Result (List ℕ) LexFault} x (Err EmptyText) (cond {A = Result (List ℕ) LexFault} y (Err TextTooLong) (cond (is_utf8 bytes) (Ok bytes) (Err TextNotUtf8)))
+        ≡ (elim r as (λ _. Result (List ℕ) LexFault) [ Ok x ↦ cond (is_utf8 bytes) (Ok bytes) (Err TextNotUtf8) | Err e ↦ Err e ])
     go true y (Ok u) h = cc
     go true y (Err e) h = let same : EmptyText ≡ e = cc in ap (λ f. let r : Result (List ℕ) LexFault = Err f in r) same
     go false true (Ok u) h = cc
@@ -44,7 +46,8 @@ pub right_text : (bytes : List ℕ) (u : Unit {0}) → len_check (length bytes) 
 right_text bytes u h t = by_length bytes (Ok u) h ∙ ap (λ b. cond {A = Result (List ℕ) LexFault} b (Ok bytes) (Err TextNotUtf8)) (is_utf8-from_IsUtf8 bytes t)
 
 pub not_text : (bytes : List ℕ) (u : Unit {0}) → len_check (length bytes) ≡ Ok u → (IsUtf8 bytes → ⊥) → text_or (Ok bytes) ≡ Err TextNotUtf8
-not_text bytes u h t = by_length bytes (Ok u) h ∙ ap (λ b. cond {A = Result (List ℕ) LexFault} b (Ok bytes) (Err TextNotUtf8)) (false_from_ne_true (is_utf8 bytes) (λ e. t (IsUtf8-from_is_utf8 bytes e)))
+not_text bytes u h t =
+    by_length bytes (Ok u) h ∙ ap (λ b. cond {A = Result (List ℕ) LexFault} b (Ok bytes) (Err TextNotUtf8)) (false_from_ne_true (is_utf8 bytes) (λ e. t (IsUtf8-from_is_utf8 bytes e)))
 
 -- ---- what was decoded
 

@@ -75,7 +75,8 @@ pub record Stopped (raw : List ℕ) (from : ℕ) (fault : LexFault) : Type 0 whe
 later : (from from2 : ℕ) (raw : List ℕ) (fault : LexFault) → from2 ≡ from → Stopped raw from2 fault → Stopped raw from fault
 later from from2 raw fault is s = subst (λ n. Stopped raw n fault) is s
 
-one_more : (from b c len : ℕ) (rest : List ℕ) (fault : LexFault) → len ≤ length rest → piece (b ∷ take len rest) (drop len rest) ≡ Some c → Stopped (drop len rest) (1 + from + len) fault → Stopped (b ∷ rest) from fault
+one_more : (from b c len : ℕ) (rest : List ℕ) (fault : LexFault) → len ≤ length rest → piece (b ∷ take len rest) (drop len rest) ≡ Some c → Stopped (drop len rest) (1 + from + len) fault
+    → Stopped (b ∷ rest) from fault
 one_more from b c len rest fault fits h s =
     let first = b ∷ take len rest in
     let t = s.stops in
@@ -109,14 +110,16 @@ at_once from b rest fault h is =
 stop_found : (at left : ℕ) (raw : List ℕ) (fault : LexFault) → bytes_from at left raw ≡ Err fault → Stopped (drop left raw) (at + left) fault
 stop_found at zero [] fault e = cc
 stop_found at (suc left) [] fault e = cc
-stop_found at (suc left) (b ∷ rest) fault e = let moved : 1 + at + left ≡ at + suc left = omega arith in later (at + suc left) (1 + at + left) (drop left rest) fault moved (stop_found (1 + at) left rest fault e)
+stop_found at (suc left) (b ∷ rest) fault e =
+    let moved : 1 + at + left ≡ at + suc left = omega arith in later (at + suc left) (1 + at + left) (drop left rest) fault moved (stop_found (1 + at) left rest fault e)
 stop_found at zero (b ∷ rest) fault e =
     let here : at ≡ at + 0 = omega arith in
     let len = first_len (b ∷ rest) in
     later (at + 0) at (b ∷ rest) fault here (go (piece_byte b rest) refl (bytes_from (1 + at) len rest) refl e (stop_found (1 + at) len rest))
   where
     go : (o : Option ℕ) → piece_byte b rest ≡ o → (r : Result (List ℕ) LexFault) → bytes_from (1 + at) (first_len (b ∷ rest)) rest ≡ r → with_byte o (escape_fault at rest) r ≡ Err fault
-        → ((fault : LexFault) → bytes_from (1 + at) (first_len (b ∷ rest)) rest ≡ Err fault → Stopped (drop (first_len (b ∷ rest)) rest) (1 + at + first_len (b ∷ rest)) fault) → Stopped (b ∷ rest) at fault
+        → ((fault : LexFault) → bytes_from (1 + at) (first_len (b ∷ rest)) rest ≡ Err fault → Stopped (drop (first_len (b ∷ rest)) rest) (1 + at + first_len (b ∷ rest)) fault)
+        → Stopped (b ∷ rest) at fault
     go None h r i e again = at_once at b rest fault h cc
     go (Some c) h (Ok bytes) i e again = cc
     go (Some c) h (Err f) i e again = one_more at b c (first_len (b ∷ rest)) rest fault (piece_fits b rest) h (again fault (i ∙ e))
@@ -162,7 +165,8 @@ bytes_fault_said : (raw bytes : List ℕ) (fault : LexFault) → Unescapes raw b
 bytes_fault_said raw bytes fault u e = go (length bytes == 0) refl (nat_lt 255 (length bytes)) refl (is_utf8 bytes) refl e
   where
     go : (x : Bool) → (length bytes == 0) ≡ x → (y : Bool) → nat_lt 255 (length bytes) ≡ y → (z : Bool) → is_utf8 bytes ≡ z
-        → cond {A = Result (List ℕ) LexFault} x (Err EmptyText) (cond {A = Result (List ℕ) LexFault} y (Err TextTooLong) (cond {A = Result (List ℕ) LexFault} z (Ok bytes) (Err TextNotUtf8))) ≡ Err fault → IsTextFault raw fault
+        → cond {A = Result (List ℕ) LexFault} x (Err EmptyText) (cond {A = Result (List ℕ) LexFault} y (Err TextTooLong) (cond {A = Result (List ℕ) LexFault} z (Ok bytes) (Err TextNotUtf8)))
+        ≡ Err fault → IsTextFault raw fault
     go true a y b z d e = let is : EmptyText ≡ fault = cc in subst (IsTextFault raw) is (subst (Unescapes raw) (none_left bytes a) u)
     go false a true b z d e = let is : TextTooLong ≡ fault = cc in subst (IsTextFault raw) is (bytes, u, ltb-true 255 (length bytes) b)
     go false a false b true d e = cc

@@ -108,7 +108,8 @@ behind_mark t (u ∷ us) h = λ is rest. cc
 
 events_separated : (events ts : List (List ℕ)) → Separated ts → Separated (flat_map event_tokens events ++ ts)
 events_separated [] ts s = s
-events_separated (e ∷ es) ts s = (behind_mark (60 ∷ []) (e ∷ (62 ∷ []) ∷ (flat_map event_tokens es ++ ts)) refl, (λ is rest. refl, (behind_mark (62 ∷ []) (flat_map event_tokens es ++ ts) refl, events_separated es ts s)))
+events_separated (e ∷ es) ts s =
+    (behind_mark (60 ∷ []) (e ∷ (62 ∷ []) ∷ (flat_map event_tokens es ++ ts)) refl, (λ is rest. refl, (behind_mark (62 ∷ []) (flat_map event_tokens es ++ ts) refl, events_separated es ts s)))
 
 result_separated : (raw name : Option (List ℕ)) → Separated (result_tokens raw name)
 result_separated None None = tt

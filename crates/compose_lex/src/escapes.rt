@@ -17,7 +17,8 @@ fn code_of(radix: u32, bytes: &[u8]) -> (u32, usize)
     requires low { 2 ≤ radix }
     requires high { radix ≤ 16 }
     requires few { length bytes.now ≤ 3 }
-    ensures value { result.0 ≡ digits_value radix (leading (λ d. nat_lt (digit_value d) radix) bytes.now) }
+    ensures value { result.0
+        ≡ digits_value radix (leading (λ d. nat_lt (digit_value d) radix) bytes.now) }
     ensures len { result.1 ≡ length (leading (λ d. nat_lt (digit_value d) radix) bytes.now) }
 {
     let mut value = 0;
@@ -35,8 +36,10 @@ fn code_at(radix: u32, most: usize, rest: &[u8]) -> (u32, usize)
     requires low { 2 ≤ radix }
     requires high { radix ≤ 16 }
     requires few { most ≤ 3 }
-    ensures value { result.0 ≡ digits_value radix (leading (λ d. nat_lt (digit_value d) radix) (take most rest.now)) }
-    ensures len { result.1 ≡ length (leading (λ d. nat_lt (digit_value d) radix) (take most rest.now)) }
+    ensures value { result.0
+        ≡ digits_value radix (leading (λ d. nat_lt (digit_value d) radix) (take most rest.now)) }
+    ensures len { result.1
+        ≡ length (leading (λ d. nat_lt (digit_value d) radix) (take most rest.now)) }
 {
     if rest.len() < most {
         return code_of(radix, rest);
@@ -76,7 +79,8 @@ fn begins_hexadecimal(byte: u8) -> bool
 
 /// What an escape stands for, behind its backslash, and how many bytes it takes there.
 fn escape_at(at: usize, rest: &[u8]) -> Result<(u8, usize), LexFault>
-    ensures { IsByte (escape_byte rest.now) (escapes.escape_len rest.now) (escapes.escape_fault at rest.now) result }
+    ensures { IsByte (escape_byte rest.now) (escapes.escape_len rest.now)
+        (escapes.escape_fault at rest.now) result }
 {
     let Some((first, digits)) = rest.split_first() else {
         return Err(LexFault::UnknownEscape { at });
@@ -94,7 +98,8 @@ fn escape_at(at: usize, rest: &[u8]) -> Result<(u8, usize), LexFault>
 
 /// What the piece of this first byte stands for, and how many bytes it takes behind that byte.
 fn piece_at(at: usize, first: u8, behind: &[u8]) -> Result<(u8, usize), LexFault>
-    ensures { IsByte (piece_byte first behind.now) (escapes.first_len (first ∷ behind.now)) (escapes.escape_fault at behind.now) result }
+    ensures { IsByte (piece_byte first behind.now) (escapes.first_len (first ∷ behind.now))
+        (escapes.escape_fault at behind.now) result }
 {
     if first == b'\\' {
         return escape_at(at, behind);
@@ -113,7 +118,9 @@ fn keep(kept: &mut ArrayVec<u8, 255>, byte: u8)
 
 /// The bytes that a raw text stands for, or the leftmost bad escape. O(bytes).
 pub(crate) fn decode(raw: &[u8]) -> Result<Decoded, LexFault>
-    ensures { MatchResult result (λ x. (bytes : List ℕ) × (escapes.bytes_from 0 0 raw.now ≡ Ok bytes) × IsDecoded x.0.items x.1 bytes) (λ e. escapes.bytes_from 0 0 raw.now ≡ Err e) }
+    ensures { MatchResult result
+        (λ x. (bytes : List ℕ) × (escapes.bytes_from 0 0 raw.now ≡ Ok bytes)
+        × IsDecoded x.0.items x.1 bytes) (λ e. escapes.bytes_from 0 0 raw.now ≡ Err e) }
 {
     let mut kept = ArrayVec::new();
     let mut len = 0;

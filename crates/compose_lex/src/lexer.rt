@@ -81,7 +81,9 @@ fn events_at<'a>(
     behind_event: &'a str,
     events: &mut Events<'a>,
 ) -> Result<&'a str, LexFault>
-    ensures { Is (λ behind. (map (λ e. e.now) events.new.items, behind.now)) result (with_prefix (map (λ e. e.now) events.old.items) (fault.events_at line_len (32 - length events.old.items) behind_event.now)) }
+    ensures { Is (λ behind. (map (λ e. e.now) events.new.items, behind.now)) result
+        (with_prefix (map (λ e. e.now) events.old.items)
+        (fault.events_at line_len (32 - length events.old.items) behind_event.now)) }
 {
     let mut rest = behind_event;
     loop {
@@ -111,7 +113,8 @@ fn name_if(rest: &str) -> (Option<&str>, &str)
 
 /// A string, a name, or a string and a name.
 fn result_at(line_len: usize, rest: &str) -> Result<Outcome<'_>, LexFault>
-    ensures { Is (λ x. (option_copied x.0, option_copied x.1, x.2.now)) result (fault.result_at line_len rest.now) }
+    ensures { Is (λ x. (option_copied x.0, option_copied x.1, x.2.now)) result
+        (fault.result_at line_len rest.now) }
 {
     match rest.as_bytes().first() {
         None | Some(b'#') => Err(LexFault::NoResult),
@@ -134,8 +137,11 @@ fn production_at<'a>(
     events: &mut Events<'a>,
 ) -> Result<Said<'a>, LexFault>
     requires { events.old.items ≡ [] }
-    ensures exact { Is (said_reading (map (λ e. e.now) events.new.items)) result (fault.production_at line_len rest.now) }
-    ensures listed { IfOk result (λ said. event_names (said_reading (map (λ e. e.now) events.new.items) said) ≡ map (λ e. e.now) events.new.items) }
+    ensures exact { Is (said_reading (map (λ e. e.now) events.new.items)) result
+        (fault.production_at line_len rest.now) }
+    ensures listed { IfOk result
+        (λ said. event_names (said_reading (map (λ e. e.now) events.new.items) said)
+        ≡ map (λ e. e.now) events.new.items) }
 {
     let (first, rest) = event_at(line_len, rest)?;
     events.push(first);
@@ -160,7 +166,8 @@ fn include_at(line_len: usize, rest: &str) -> Result<&str, LexFault>
 
 /// What follows the word `include` at the beginning, which no letter, digit or underscore follows.
 fn behind_include(rest: &str) -> Option<&str>
-    ensures { MatchOption result (fault.is_include rest.now ≡ false) (λ behind. (fault.is_include rest.now ≡ true) × (behind.now ≡ drop 7 rest.now)) }
+    ensures { MatchOption result (fault.is_include rest.now ≡ false)
+        (λ behind. (fault.is_include rest.now ≡ true) × (behind.now ≡ drop 7 rest.now)) }
 {
     let (word, behind) = split_name(rest);
     (word == "include").then_some(behind)
@@ -174,8 +181,11 @@ fn reading_at<'a>(
     events: &mut Events<'a>,
 ) -> Result<Said<'a>, LexFault>
     requires { events.old.items ≡ [] }
-    ensures exact { Is (said_reading (map (λ e. e.now) events.new.items)) result (fault.reading_at line_len rest.now) }
-    ensures listed { IfOk result (λ said. event_names (said_reading (map (λ e. e.now) events.new.items) said) ≡ map (λ e. e.now) events.new.items) }
+    ensures exact { Is (said_reading (map (λ e. e.now) events.new.items)) result
+        (fault.reading_at line_len rest.now) }
+    ensures listed { IfOk result
+        (λ said. event_names (said_reading (map (λ e. e.now) events.new.items) said)
+        ≡ map (λ e. e.now) events.new.items) }
 {
     match rest.as_bytes().first() {
         None | Some(b'#') => Ok(Said::Blank),
@@ -194,9 +204,11 @@ pub fn lex_line_into<'a>(
     line: &'a str,
     events: &mut ArrayVec<&'a str, 32>,
 ) -> Result<Said<'a>, LexFault>
-    ensures exact { Is (said_reading (map (λ e. e.now) events.new.items)) result (fault.reading_of line.now) }
+    ensures exact { Is (said_reading (map (λ e. e.now) events.new.items)) result
+        (fault.reading_of line.now) }
     ensures listed { map (λ e. e.now) events.new.items ≡ names_in (fault.reading_of line.now) }
-    ensures found { IfOk result (λ said. IsLine line.now (said_reading (map (λ e. e.now) events.new.items) said)) }
+    ensures found { IfOk result
+        (λ said. IsLine line.now (said_reading (map (λ e. e.now) events.new.items) said)) }
 {
     law_right_reading();
     events.clear();

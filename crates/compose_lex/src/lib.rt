@@ -104,40 +104,51 @@ pub enum Line<'a> {
 
 /// A line says one thing at most: what is read of it.
 pub fn law_one_reading()
-    ensures read { (line : List ℕ) (reading : Reading) → IsLine line reading → reading_of line ≡ Ok reading }
+    ensures read { (line : List ℕ) (reading : Reading) → IsLine line reading
+        → reading_of line ≡ Ok reading }
     ensures one { (line : List ℕ) (a b : Reading) → IsLine line a → IsLine line b → a ≡ b }
-    ensures faultless { (line : List ℕ) (reading : Reading) (fault : LexFault) → IsLine line reading → reading_of line ≡ Err fault → ⊥ }
+    ensures faultless { (line : List ℕ) (reading : Reading) (fault : LexFault)
+        → IsLine line reading → reading_of line ≡ Err fault → ⊥ }
 {}
 
 /// What is read of a line is what the line says: a line without a fault is a line of the grammar.
 pub fn law_right_reading()
-    ensures { (line : List ℕ) (reading : Reading) → reading_of line ≡ Ok reading → IsLine line reading }
+    ensures { (line : List ℕ) (reading : Reading) → reading_of line ≡ Ok reading
+        → IsLine line reading }
 {}
 
 /// What the reader finds wrong in a line is what is wrong by the grammar: the tokens of a right reading go so far and no
 /// further. A line has one fault at most.
 pub fn law_line_fault()
-    ensures said { (line : List ℕ) (fault : LexFault) → reading_of line ≡ Err fault → IsLineFault line fault }
-    ensures read { (line : List ℕ) (fault : LexFault) → IsLineFault line fault → reading_of line ≡ Err fault }
-    ensures one { (line : List ℕ) (a b : LexFault) → IsLineFault line a → IsLineFault line b → a ≡ b }
+    ensures said { (line : List ℕ) (fault : LexFault) → reading_of line ≡ Err fault
+        → IsLineFault line fault }
+    ensures read { (line : List ℕ) (fault : LexFault) → IsLineFault line fault
+        → reading_of line ≡ Err fault }
+    ensures one { (line : List ℕ) (a b : LexFault) → IsLineFault line a → IsLineFault line b
+        → a ≡ b }
 {}
 
 /// A raw text stands for one list of bytes at most; where this is a text, it is what is read.
 pub fn law_one_text()
     ensures one { (raw a b : List ℕ) → Unescapes raw a → Unescapes raw b → a ≡ b }
-    ensures read { (raw bytes : List ℕ) → Unescapes raw bytes → IsText bytes → text_of raw ≡ Ok bytes }
-    ensures said { (raw bytes : List ℕ) → text_of raw ≡ Ok bytes → Unescapes raw bytes × IsText bytes }
+    ensures read { (raw bytes : List ℕ) → Unescapes raw bytes → IsText bytes
+        → text_of raw ≡ Ok bytes }
+    ensures said { (raw bytes : List ℕ) → text_of raw ≡ Ok bytes
+        → Unescapes raw bytes × IsText bytes }
 {}
 
 /// What the reader finds wrong in a raw text is what is wrong by its escapes, or with the bytes that it stands for. A raw
 /// text has one fault at most.
 pub fn law_text_fault()
-    ensures said { (raw : List ℕ) (fault : LexFault) → text_of raw ≡ Err fault → IsTextFault raw fault }
-    ensures read { (raw : List ℕ) (fault : LexFault) → IsTextFault raw fault → text_of raw ≡ Err fault }
+    ensures said { (raw : List ℕ) (fault : LexFault) → text_of raw ≡ Err fault
+        → IsTextFault raw fault }
+    ensures read { (raw : List ℕ) (fault : LexFault) → IsTextFault raw fault
+        → text_of raw ≡ Err fault }
     ensures one { (raw : List ℕ) (a b : LexFault) → IsTextFault raw a → IsTextFault raw b → a ≡ b }
 {}
 
 /// What stands between the quotes of a quoted text stands for the text.
 pub fn law_quote()
-    ensures { (text : List ℕ) → IsText text → IsTrue (list_all (λ b. nat_lt 0 b) text) → Unescapes (quote_inside text) text × (text_of (quote_inside text) ≡ Ok text) }
+    ensures { (text : List ℕ) → IsText text → IsTrue (list_all (λ b. nat_lt 0 b) text)
+        → Unescapes (quote_inside text) text × (text_of (quote_inside text) ≡ Ok text) }
 {}

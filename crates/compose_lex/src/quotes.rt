@@ -16,7 +16,8 @@ fn is_plain(byte: u8) -> bool
 /// Pushes a backslash and the three octal digits of a control byte.
 fn push_octal(quoted: &mut String, byte: u8) -> Result<(), AllocError>
     requires { byte < 128 }
-    ensures { OnOk result (string_bytes quoted.new ≡ string_bytes quoted.old ++ escapes.octal_escape byte) }
+    ensures { OnOk result
+        (string_bytes quoted.new ≡ string_bytes quoted.old ++ escapes.octal_escape byte) }
 {
     quoted.push('\\')?;
     quoted.push(char::from(b'0' + byte / 64))?;
@@ -28,7 +29,8 @@ fn push_octal(quoted: &mut String, byte: u8) -> Result<(), AllocError>
 fn push_escape(quoted: &mut String, byte: u8) -> Result<(), AllocError>
     requires ascii { byte < 128 }
     requires special { not (byte == 92 || byte == 34 || (nat_lt byte 32 || byte == 127)) ≡ false }
-    ensures { OnOk result (string_bytes quoted.new ≡ string_bytes quoted.old ++ escapes.quote_byte byte) }
+    ensures { OnOk result
+        (string_bytes quoted.new ≡ string_bytes quoted.old ++ escapes.quote_byte byte) }
 {
     if byte == b'\\' || byte == b'"' {
         quoted.push('\\')?;
@@ -39,7 +41,8 @@ fn push_escape(quoted: &mut String, byte: u8) -> Result<(), AllocError>
 
 /// Pushes what stands between the quotes, the plain stretches whole.
 fn push_inside(quoted: &mut String, text: &str) -> Result<(), AllocError>
-    ensures { OnOk result (string_bytes quoted.new ≡ string_bytes quoted.old ++ escapes.quote_inside text.now) }
+    ensures { OnOk result
+        (string_bytes quoted.new ≡ string_bytes quoted.old ++ escapes.quote_inside text.now) }
 {
     let mut done = 0;
     for (at, byte) in text.as_bytes().iter().enumerate() {

@@ -31,7 +31,8 @@ fn has_escapes(raw: &str) -> bool
 
 /// The text of the bytes of a raw text, of which there are `len` and the first 255 were kept.
 fn decoded_text(kept: &[u8], len: usize) -> Result<&str, LexFault>
-    ensures exact { (bytes : List ℕ) → IsDecoded kept.now len bytes → Is (λ text. text.now) result (escapes.text_or (Ok bytes)) }
+    ensures exact { (bytes : List ℕ) → IsDecoded kept.now len bytes
+        → Is (λ text. text.now) result (escapes.text_or (Ok bytes)) }
     ensures kept { IfOk result (λ text. text.now ≡ kept.now) }
 {
     check_len(len)?;
@@ -44,7 +45,9 @@ fn decoded_text(kept: &[u8], len: usize) -> Result<&str, LexFault>
 /// The text that a raw text stands for, or its fault. Takes memory once, for the text. O(bytes).
 pub fn unescape(alloc: Global, raw: &str) -> Result<String, LexFault>
     ensures exact { Gives string_bytes result (escapes.text_of raw.now) }
-    ensures found { IfOk result (λ text. escapes.Unescapes raw.now (string_bytes text) × escapes.IsText (string_bytes text)) }
+    ensures found { IfOk result
+        (λ text. escapes.Unescapes raw.now (string_bytes text)
+        × escapes.IsText (string_bytes text)) }
 {
     let mut text = String::new(alloc);
     push_text(&mut text, raw)?;
@@ -53,7 +56,8 @@ pub fn unescape(alloc: Global, raw: &str) -> Result<String, LexFault>
 
 /// Pushes a raw text without a backslash.
 fn push_plain(text: &mut String, raw: &str) -> Result<(), LexFault>
-    ensures { PushGives (string_bytes text.old) (string_bytes text.new) result (escapes.text_or (Ok raw.now)) }
+    ensures { PushGives (string_bytes text.old) (string_bytes text.new) result
+        (escapes.text_or (Ok raw.now)) }
 {
     check_len(raw.len())?;
     text.push_str(raw)?;
@@ -62,7 +66,8 @@ fn push_plain(text: &mut String, raw: &str) -> Result<(), LexFault>
 
 /// Pushes the text of a raw text with escapes.
 fn push_unescaped(text: &mut String, raw: &str) -> Result<(), LexFault>
-    ensures { PushGives (string_bytes text.old) (string_bytes text.new) result (escapes.text_of raw.now) }
+    ensures { PushGives (string_bytes text.old) (string_bytes text.new) result
+        (escapes.text_of raw.now) }
 {
     let (bytes, len) = decode(raw.as_bytes())?;
     text.push_str(decoded_text(bytes.as_slice(), len)?)?;
@@ -72,8 +77,11 @@ fn push_unescaped(text: &mut String, raw: &str) -> Result<(), LexFault>
 /// Puts the text that a raw text stands for after another text; a fault changes nothing. A raw text without a
 /// backslash is put there as it stands. Takes memory only to grow the text. O(bytes).
 pub fn push_text(text: &mut String, raw: &str) -> Result<(), LexFault>
-    ensures exact { PushGives (string_bytes text.old) (string_bytes text.new) result (escapes.text_of raw.now) }
-    ensures found { OnOk result ((bytes : List ℕ) × (string_bytes text.new ≡ string_bytes text.old ++ bytes) × escapes.Unescapes raw.now bytes × escapes.IsText bytes) }
+    ensures exact { PushGives (string_bytes text.old) (string_bytes text.new) result
+        (escapes.text_of raw.now) }
+    ensures found { OnOk result
+        ((bytes : List ℕ) × (string_bytes text.new ≡ string_bytes text.old ++ bytes)
+        × escapes.Unescapes raw.now bytes × escapes.IsText bytes) }
 {
     law_one_text();
     if has_escapes(raw) {

@@ -34,18 +34,34 @@ pub fn law_loads()
 
 /// A service that refeeds a session when it is named, and all of them before a table with fresh keysyms comes, is the machine.
 pub fn law_late_service()
-    ensures step { (reading : Reading) (old new : ServiceState) (n : ℕ) (body : Body) (answer : Answer) → AreKept old.table old.sessions → LateAnswers reading old n body answer new → Stands reading old n body answer new }
-    ensures history { (reading : Reading) (old new : ServiceState) (h : List Exchange) → AreKept old.table old.sessions → IsLateHistory reading old h new → IsHistory reading (seen old) h (seen new) × AreKept new.table new.sessions }
+    ensures step { (reading : Reading) (old new : ServiceState) (n : ℕ) (body : Body)
+        (answer : Answer) → AreKept old.table old.sessions
+        → LateAnswers reading old n body answer new → Stands reading old n body answer new }
+    ensures history { (reading : Reading) (old new : ServiceState) (h : List Exchange)
+        → AreKept old.table old.sessions → IsLateHistory reading old h new
+        → IsHistory reading (seen old) h (seen new) × AreKept new.table new.sessions }
 {}
 
 /// A run over some requests and then over others is a run over all of them, and each run over all of them is two such runs.
 pub fn law_run_append()
-    ensures joined { (reading : Reading) (old mid new : ServiceState) (first second : List Request) (first_replies second_replies : List Reply) → Run reading old first first_replies mid → Run reading mid second second_replies new → Run reading old (first ++ second) (first_replies ++ second_replies) new }
-    ensures parted { (reading : Reading) (old new : ServiceState) (first second : List Request) (replies : List Reply) → Run reading old (first ++ second) replies new → (mid : ServiceState) × (first_replies : List Reply) × (second_replies : List Reply) × (replies ≡ first_replies ++ second_replies) × Run reading old first first_replies mid × Run reading mid second second_replies new }
+    ensures joined { (reading : Reading) (old mid new : ServiceState)
+        (first second : List Request) (first_replies second_replies : List Reply)
+        → Run reading old first first_replies mid → Run reading mid second second_replies new
+        → Run reading old (first ++ second) (first_replies ++ second_replies) new }
+    ensures parted { (reading : Reading) (old new : ServiceState) (first second : List Request)
+        (replies : List Reply) → Run reading old (first ++ second) replies new
+        → (mid : ServiceState) × (first_replies : List Reply) × (second_replies : List Reply)
+        × (replies ≡ first_replies ++ second_replies)
+        × Run reading old first first_replies mid × Run reading mid second second_replies new }
 {}
 
 /// The runs of the machine are its histories: the other laws, which speak of requests with their replies, hold of each run.
 pub fn law_run_history()
-    ensures history { (reading : Reading) (old new : ServiceState) (requests : List Request) (replies : List Reply) → Run reading old requests replies new → (h : List Exchange) × (map (λ x. x.request) h ≡ requests) × (map (λ x. x.reply) h ≡ replies) × IsHistory reading old h new }
-    ensures run { (reading : Reading) (old new : ServiceState) (h : List Exchange) → IsHistory reading old h new → Run reading old (map (λ x. x.request) h) (map (λ x. x.reply) h) new }
+    ensures history { (reading : Reading) (old new : ServiceState) (requests : List Request)
+        (replies : List Reply) → Run reading old requests replies new
+        → (h : List Exchange) × (map (λ x. x.request) h ≡ requests)
+        × (map (λ x. x.reply) h ≡ replies) × IsHistory reading old h new }
+    ensures run { (reading : Reading) (old new : ServiceState) (h : List Exchange)
+        → IsHistory reading old h new
+        → Run reading old (map (λ x. x.request) h) (map (λ x. x.reply) h) new }
 {}

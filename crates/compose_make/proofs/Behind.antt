@@ -65,7 +65,8 @@ module _ (names : KeysymNames) (table : List Definition) (repertoire : Repertoir
       ap (λ b. a || (b && is_whole table repertoire c v)) (list_any-append (λ j. begins (p ++ j ∷ []) v) ks (k ∷ []))
       ∙ either_again a (list_any (λ j. begins (p ++ j ∷ []) v) ks) (begins (p ++ k ∷ []) v) (is_whole table repertoire c v)
 
-  pub next_through : (a : Bool) (c : ℕ) (es : List ℕ) (i : ℕ) (k : ℕ) (v : List ℕ) → slice_get es i ≡ Some k → a || is_through table repertoire c p (take (i + 1) es) v ≡ (a || is_through table repertoire c p (take i es) v) || is_by c k v
+  pub next_through : (a : Bool) (c : ℕ) (es : List ℕ) (i : ℕ) (k : ℕ) (v : List ℕ) → slice_get es i ≡ Some k
+      → a || is_through table repertoire c p (take (i + 1) es) v ≡ (a || is_through table repertoire c p (take i es) v) || is_by c k v
   next_through a c es i k v at = ap (λ ks. a || is_through table repertoire c p ks v) (taken_more es i k at) ∙ through_more a c (take i es) k v
 
   -- a key that is not in the repertoire leads nowhere
@@ -93,7 +94,8 @@ module _ (names : KeysymNames) (table : List Definition) (repertoire : Repertoir
       ]))
 
   -- nothing goes on from a sequence
-  pub by_leaf : (c k : ℕ) (t v : List ℕ) → is_sequence table (p ++ k ∷ []) ≡ true → text_at table (p ++ k ∷ []) ≡ Some t → are_keys repertoire (p ++ k ∷ []) ≡ true → (spells c t && same v (p ++ k ∷ [])) ≡ is_by c k v
+  pub by_leaf : (c k : ℕ) (t v : List ℕ) → is_sequence table (p ++ k ∷ []) ≡ true → text_at table (p ++ k ∷ []) ≡ Some t → are_keys repertoire (p ++ k ∷ []) ≡ true
+      → (spells c t && same v (p ++ k ∷ [])) ≡ is_by c k v
   by_leaf c k t v x at keys = same_test (spells c t && same v (p ++ k ∷ [])) (is_by c k v)
       (λ h. (let parts = and_parts (spells c t) (same v (p ++ k ∷ [])) h in
       let is : p ++ k ∷ [] ≡ v = sym (same_is v (p ++ k ∷ []) parts.1) in
@@ -124,7 +126,8 @@ module _ (names : KeysymNames) (table : List Definition) (repertoire : Repertoir
       let k = first_key p v parts.0 in
       let whole = whole_parts names table repertoire c v parts.1 in
       and_from (list_any (λ k. begins (p ++ k ∷ []) v) (edges table p)) (is_whole table repertoire c v)
-      (list_any-weaker (λ j. k.0 == j) (λ j. begins (p ++ j ∷ []) v) (λ j e. ap (λ i. begins (p ++ i ∷ []) v) (sym (eqb-true k.0 j e)) ∙ k.1) (edges table p) (edge_listed table p k.0 (edge_by k.0 whole.sequence k.1))) parts.1))
+      (list_any-weaker (λ j. k.0 == j) (λ j. begins (p ++ j ∷ []) v) (λ j e. ap (λ i. begins (p ++ i ∷ []) v) (sym (eqb-true k.0 j e)) ∙ k.1) (edges table p)
+      (edge_listed table p k.0 (edge_by k.0 whole.sequence k.1))) parts.1))
     where
       some_by : (ks : List ℕ) → list_any (λ k. begins (p ++ k ∷ []) v) ks ≡ true → is_proper_prefix p v ≡ true
       some_by [] h = cc
@@ -147,23 +150,28 @@ module _ (names : KeysymNames) (table : List Definition) (repertoire : Repertoir
   or_none true = refl
   or_none false = refl
 
-  pub seen_skip : (es : List ℕ) (i k : ℕ) (before rows : List WantedCharacter) → slice_get es i ≡ Some k → is_key repertoire k ≡ false → HasSeen (take i es) before rows → HasSeen (take (i + 1) es) before rows
+  pub seen_skip : (es : List ℕ) (i k : ℕ) (before rows : List WantedCharacter) → slice_get es i ≡ Some k → is_key repertoire k ≡ false → HasSeen (take i es) before rows
+      → HasSeen (take (i + 1) es) before rows
   seen_skip es i k before rows at n h passes a =
       are_same (λ c v. passes c v || is_through table repertoire c p (take i es) v) (λ c v. passes c v || is_through table repertoire c p (take (i + 1) es) v)
-      (λ c v. or_none (passes c v || is_through table repertoire c p (take i es) v) ∙ ap (λ b. (passes c v || is_through table repertoire c p (take i es) v) || b) (sym (not_by c k v n)) ∙ sym (next_through (passes c v) c es i k v at)) rows (h passes a)
+      (λ c v. or_none (passes c v || is_through table repertoire c p (take i es) v) ∙ ap (λ b. (passes c v || is_through table repertoire c p (take i es) v) || b) (sym (not_by c k v n))
+      ∙ sym (next_through (passes c v) c es i k v at)) rows (h passes a)
 
   pub seen_node : (es : List ℕ) (i k : ℕ) (before rows next : List WantedCharacter) → slice_get es i ≡ Some k → is_extended table (p ++ k ∷ []) ≡ true → HasSeen (take i es) before rows
       → ((passes : ℕ → List ℕ → Bool) → AreLeast passes rows → AreLeast (λ c v. passes c v || is_behind table repertoire c (p ++ k ∷ []) v) next) → HasSeen (take (i + 1) es) before next
   seen_node es i k before rows next at x h more passes a =
-      are_same (λ c v. (passes c v || is_through table repertoire c p (take i es) v) || is_behind table repertoire c (p ++ k ∷ []) v) (λ c v. passes c v || is_through table repertoire c p (take (i + 1) es) v)
+      are_same (λ c v. (passes c v || is_through table repertoire c p (take i es) v) || is_behind table repertoire c (p ++ k ∷ []) v)
+      (λ c v. passes c v || is_through table repertoire c p (take (i + 1) es) v)
       (λ c v. ap (λ b. (passes c v || is_through table repertoire c p (take i es) v) || b) (by_node c k v x) ∙ sym (next_through (passes c v) c es i k v at)) next
       (more (λ c v. passes c v || is_through table repertoire c p (take i es) v) (h passes a))
 
-  pub seen_leaf : (es : List ℕ) (i k : ℕ) (t : List ℕ) (before rows : List WantedCharacter) → slice_get es i ≡ Some k → is_sequence table (p ++ k ∷ []) ≡ true → text_at table (p ++ k ∷ []) ≡ Some t → are_keys repertoire (p ++ k ∷ []) ≡ true
+  pub seen_leaf : (es : List ℕ) (i k : ℕ) (t : List ℕ) (before rows : List WantedCharacter) → slice_get es i ≡ Some k → is_sequence table (p ++ k ∷ []) ≡ true → text_at table (p ++ k ∷ []) ≡ Some t
+      → are_keys repertoire (p ++ k ∷ []) ≡ true
       → HasSeen (take i es) before rows → HasSeen (take (i + 1) es) before (map (offered t (p ++ k ∷ [])) rows)
   seen_leaf es i k t before rows at x text keys h passes a =
       are_same (λ c v. (passes c v || is_through table repertoire c p (take i es) v) || (spells c t && same v (p ++ k ∷ []))) (λ c v. passes c v || is_through table repertoire c p (take (i + 1) es) v)
-      (λ c v. ap (λ b. (passes c v || is_through table repertoire c p (take i es) v) || b) (by_leaf c k t v x text keys) ∙ sym (next_through (passes c v) c es i k v at)) (map (offered t (p ++ k ∷ [])) rows)
+      (λ c v. ap (λ b. (passes c v || is_through table repertoire c p (take i es) v) || b) (by_leaf c k t v x text keys) ∙ sym (next_through (passes c v) c es i k v at))
+      (map (offered t (p ++ k ∷ [])) rows)
       (are_offered (λ c v. passes c v || is_through table repertoire c p (take i es) v) t (p ++ k ∷ []) rows (h passes a))
 
   pub seen_all : (i : ℕ) (before rows : List WantedCharacter) → length (edges table p) ≤ i → HasSeen (take i (edges table p)) before rows

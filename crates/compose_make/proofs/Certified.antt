@@ -72,7 +72,8 @@ module _ (names : KeysymNames) (table : List Definition) (repertoire : Repertoir
   typed : (ts : List Typing) → AllByRecursion (λ t. IsLeastTyping names table repertoire t.character t.keys) ts → list_all is_typed ts ≡ true
   typed [] a = refl
   typed (t ∷ ts) a = and_from (is_typed t) (list_all is_typed ts)
-      (and_from (nat_lt 0 (length t.keys)) (nat_le (length t.keys) max_count) (lt-ltb 0 (length t.keys) (some_key t.character t.keys a.0.types)) (le-leb (length t.keys) max_count (let l = least_few t.character t.keys a.0 in omega arith))) (typed ts a.1)
+      (and_from (nat_lt 0 (length t.keys)) (nat_le (length t.keys) max_count) (lt-ltb 0 (length t.keys) (some_key t.character t.keys a.0.types))
+      (le-leb (length t.keys) max_count (let l = least_few t.character t.keys a.0 in omega arith))) (typed ts a.1)
 
   -- the typings keep to the limits
   pub counted : (pairs : List (ℕ × ℕ)) (ts : List Typing) → length pairs ≤ 1048576 → IsRepertoire repertoire → AreLeastTypings names table repertoire ts → are_counted pairs ts ≡ true
@@ -91,7 +92,8 @@ module _ (names : KeysymNames) (table : List Definition) (repertoire : Repertoir
   right_all (t ∷ ts) a = (a.0.types, right_all ts a.1)
 
   -- what is made is valid
-  pub made : (fresh : List ℕ) (old : List Definition) (pairs : List (ℕ × ℕ)) (ts : List Typing) (depth : ℕ) → AreFresh fresh old → IsFollower names fresh old table pairs → AreLeastTypings names table repertoire ts → IsGreatestDepth table depth
+  pub made : (fresh : List ℕ) (old : List Definition) (pairs : List (ℕ × ℕ)) (ts : List Typing) (depth : ℕ) → AreFresh fresh old → IsFollower names fresh old table pairs
+      → AreLeastTypings names table repertoire ts → IsGreatestDepth table depth
       → IsMadeFor names fresh old table repertoire (record { bound = depth; pairs = pairs; typings = ts; fresh = fresh })
   made fresh old pairs ts depth f w a d = record {
     follows = w.follows;
@@ -108,7 +110,8 @@ module _ (names : KeysymNames) (table : List Definition) (repertoire : Repertoir
   }
 
 -- what was walked was accepted
-pub accepted : {X : Type 0} (old : List Definition) (fresh : List ℕ) (r : Result X MakeFault) (x : X) → r ≡ Ok x → ((fault : CheckFault) → first_unmet (fresh_conditions old fresh) ≡ Some fault → r ≡ Err (BadFresh fault))
+pub accepted : {X : Type 0} (old : List Definition) (fresh : List ℕ) (r : Result X MakeFault) (x : X) → r ≡ Ok x
+    → ((fault : CheckFault) → first_unmet (fresh_conditions old fresh) ≡ Some fault → r ≡ Err (BadFresh fault))
     → (first_unmet (fresh_conditions old fresh) ≡ None → 1048576 < length fresh → r ≡ Err TooManyFresh) → (first_unmet (fresh_conditions old fresh) ≡ None) × (length fresh ≤ 1048576)
 accepted old fresh r x ok bad many = go (first_unmet (fresh_conditions old fresh)) refl
   where
@@ -118,7 +121,8 @@ accepted old fresh r x ok bad many = go (first_unmet (fresh_conditions old fresh
 
 -- a table has no more pairs than nodes
 pub pairs_few : (names : KeysymNames) (fresh : List ℕ) (old new : List Definition) (pairs : List (ℕ × ℕ)) → IsFollower names fresh old new pairs → length (nodes old) ≤ 1048576 → length pairs ≤ 1048576
-pairs_few names fresh old new pairs f l = let n : length pairs ≡ length (nodes old) = ap length f.pairs_are ∙ length-map (nodes old) (λ p. (number_of old p, number_of new (pending new p))) in omega arith
+pairs_few names fresh old new pairs f l =
+    let n : length pairs ≡ length (nodes old) = ap length f.pairs_are ∙ length-map (nodes old) (λ p. (number_of old p, number_of new (pending new p))) in omega arith
 
 -- what stands in an option is one thing
 pub opened : {X : Type 0} (o : Option X) (x y : X) → o ≡ Some x → o ≡ Some y → x ≡ y

@@ -47,7 +47,8 @@ only a k h =
 
 of_keys : (P : ℕ → Type 0) (keys : List ℕ) (k : ℕ) → list_any (λ (r : ℕ × ℕ). is_between r.0 r.1 k) (map (λ k. (k, k)) keys) ≡ true → AllByRecursion P keys → P k
 of_keys P [] k h a = cc
-of_keys P (j ∷ keys) k h a = elim (or_cases (is_between j j k) (list_any (λ (r : ℕ × ℕ). is_between r.0 r.1 k) (map (λ k. (k, k)) keys)) h) [ inl e ↦ subst P (only j k e) a.0 | inr e ↦ of_keys P keys k e a.1 ]
+of_keys P (j ∷ keys) k h a =
+    elim (or_cases (is_between j j k) (list_any (λ (r : ℕ × ℕ). is_between r.0 r.1 k) (map (λ k. (k, k)) keys)) h) [ inl e ↦ subst P (only j k e) a.0 | inr e ↦ of_keys P keys k e a.1 ]
 
 -- and what holds of each sequence, of a sequence
 of_sequences : (P : List ℕ → Type 0) (table : List Definition) (v : List ℕ) → is_sequence table v ≡ true → AllByRecursion (λ d. P d.sequence) table → P v
@@ -83,7 +84,8 @@ least = (
   acute_c,
   λ v h. elim (or_cases (is_plain core ways (with_keys five_keys) 0xe9 v) (is_whole ways (with_keys five_keys) 0xe9 v) h) [
     | inl e ↦ absurd (none_plain v e)
-    | inr e ↦ of_sequences (λ w. ((0xfe51 ∷ 0x63 ∷ []) ≡ w) ⊎ (comes_first (0xfe51 ∷ 0x63 ∷ []) w ≡ true)) ways v (whole_parts core ways (with_keys five_keys) 0xe9 v e).sequence (inr refl, (inl refl, (inr refl, tt)))
+    | inr e ↦ of_sequences (λ w. ((0xfe51 ∷ 0x63 ∷ []) ≡ w) ⊎ (comes_first (0xfe51 ∷ 0x63 ∷ []) w ≡ true)) ways v (whole_parts core ways (with_keys five_keys) 0xe9 v e).sequence
+        (inr refl, (inl refl, (inr refl, tt)))
   ],
 )
 

@@ -19,7 +19,8 @@ use Rattle.compose_make.proofs.Rows.{are_same}
 
 -- ---- rows one after another
 
-pub are_joined : (passes : ℕ → List ℕ → Bool) (rows : List WantedCharacter) (row : WantedCharacter) → AreLeast passes rows → IsLeastOf (passes row.character) row.keys → AreLeast passes (rows ++ row ∷ [])
+pub are_joined : (passes : ℕ → List ℕ → Bool) (rows : List WantedCharacter) (row : WantedCharacter) → AreLeast passes rows → IsLeastOf (passes row.character) row.keys
+    → AreLeast passes (rows ++ row ∷ [])
 are_joined passes [] row a l = (l, tt)
 are_joined passes (r ∷ rows) row a l = (a.0, are_joined passes rows row a.1 l)
 
@@ -38,8 +39,11 @@ above x d (y ∷ xs) r h =
 
 module _ (names : KeysymNames) (table : List Definition) (repertoire : Repertoire) (s : IsSettled table) where
   -- the rows after the pass
-  pub all_looked_at : (rows : List WantedCharacter) → AreLeast (λ c v. is_plain names table repertoire c v || is_behind table repertoire c [] v) rows → AreLeast (is_candidate names table repertoire) rows
-  all_looked_at rows a = are_same (λ c v. is_plain names table repertoire c v || is_behind table repertoire c [] v) (is_candidate names table repertoire) (λ c v. ap (λ b. is_plain names table repertoire c v || b) (from_root c v)) rows a
+  pub all_looked_at : (rows : List WantedCharacter) → AreLeast (λ c v. is_plain names table repertoire c v || is_behind table repertoire c [] v) rows
+      → AreLeast (is_candidate names table repertoire) rows
+  all_looked_at rows a =
+      are_same (λ c v. is_plain names table repertoire c v || is_behind table repertoire c [] v) (is_candidate names table repertoire)
+      (λ c v. ap (λ b. is_plain names table repertoire c v || b) (from_root c v)) rows a
     where
       from_root : (c : ℕ) (v : List ℕ) → is_behind table repertoire c [] v ≡ is_whole table repertoire c v
       from_root c (k ∷ v) = refl
@@ -49,7 +53,8 @@ module _ (names : KeysymNames) (table : List Definition) (repertoire : Repertoir
           go false e = refl
           go true e = absurd (nonempty names table repertoire s.definitions s.prefix_free (whole_parts names table repertoire c [] e).sequence)
 
-  least_typings : (rows : List WantedCharacter) → AreLeast (is_candidate names table repertoire) rows → first_missing rows ≡ None → AllByRecursion (λ t. IsLeastTyping names table repertoire t.character t.keys) (map typing_of rows)
+  least_typings : (rows : List WantedCharacter) → AreLeast (is_candidate names table repertoire) rows → first_missing rows ≡ None
+      → AllByRecursion (λ t. IsLeastTyping names table repertoire t.character t.keys) (map typing_of rows)
   least_typings [] a n = tt
   least_typings (row ∷ rows) a n = go (least_typings rows a.1) row.keys refl
     where
@@ -66,7 +71,8 @@ module _ (names : KeysymNames) (table : List Definition) (repertoire : Repertoir
   characters_kept [] = refl
   characters_kept (row ∷ rows) = ap (λ cs. row.character ∷ cs) (characters_kept rows)
 
-  pub all_found : (rows : List WantedCharacter) → characters_of rows ≡ repertoire.characters → AreLeast (is_candidate names table repertoire) rows → first_missing rows ≡ None → AreLeastTypings names table repertoire (map typing_of rows)
+  pub all_found : (rows : List WantedCharacter) → characters_of rows ≡ repertoire.characters → AreLeast (is_candidate names table repertoire) rows → first_missing rows ≡ None
+      → AreLeastTypings names table repertoire (map typing_of rows)
   all_found rows e a n = record { characters = characters_kept rows ∙ e; least = least_typings rows a n }
 
   missing_wanted : (rows : List WantedCharacter) (c : ℕ) → first_missing rows ≡ Some c → has_key (characters_of rows) c ≡ true
@@ -74,7 +80,9 @@ module _ (names : KeysymNames) (table : List Definition) (repertoire : Repertoir
   missing_wanted (row ∷ rows) c m = go (missing_wanted rows c) row.keys refl
     where
       go : (first_missing rows ≡ Some c → has_key (characters_of rows) c ≡ true) → (o : Option (List ℕ)) → row.keys ≡ o → has_key (characters_of (row ∷ rows)) c ≡ true
-      go rest None e = or_left (c == row.character) (has_key (characters_of rows) c) (eq-eqb c row.character (let f : Some row.character ≡ Some c = ap (λ o. cond (is_some o) (first_missing rows) (Some row.character)) (sym e) ∙ m in cc))
+      go rest None e =
+          or_left (c == row.character) (has_key (characters_of rows) c)
+          (eq-eqb c row.character (let f : Some row.character ≡ Some c = ap (λ o. cond (is_some o) (first_missing rows) (Some row.character)) (sym e) ∙ m in cc))
       go rest (Some w) e = or_right (c == row.character) (has_key (characters_of rows) c) (rest (ap (λ o. cond (is_some o) (first_missing rows) (Some row.character)) (sym e) ∙ m))
 
   missing_least : (rows : List WantedCharacter) (c : ℕ) → AreLeast (is_candidate names table repertoire) rows → first_missing rows ≡ Some c → IsLeastOf (is_candidate names table repertoire c) None
@@ -88,12 +96,14 @@ module _ (names : KeysymNames) (table : List Definition) (repertoire : Repertoir
           subst (λ (d : ℕ). IsLeastOf (is_candidate names table repertoire d) None) is (subst (IsLeastOf (is_candidate names table repertoire row.character)) e a.0)
       go rest (Some w) e = rest (ap (λ o. cond (is_some o) (first_missing rows) (Some row.character)) (sym e) ∙ m)
 
-  earlier : (rows : List WantedCharacter) (c d : ℕ) → keys_rise (characters_of rows) ≡ true → AreLeast (is_candidate names table repertoire) rows → first_missing rows ≡ Some c → has_key (characters_of rows) d ≡ true → d < c
+  earlier : (rows : List WantedCharacter) (c d : ℕ) → keys_rise (characters_of rows) ≡ true → AreLeast (is_candidate names table repertoire) rows → first_missing rows ≡ Some c
+      → has_key (characters_of rows) d ≡ true → d < c
       → (w : List ℕ) × IsLeastTyping names table repertoire d w
   earlier [] c d r a m h l = cc
   earlier (row ∷ rows) c d r a m h l = go (λ n x. earlier rows c d (rises_tail row.character (characters_of rows) r) a.1 n x l) row.keys refl
     where
-      go : (first_missing rows ≡ Some c → has_key (characters_of rows) d ≡ true → (w : List ℕ) × IsLeastTyping names table repertoire d w) → (o : Option (List ℕ)) → row.keys ≡ o → (w : List ℕ) × IsLeastTyping names table repertoire d w
+      go : (first_missing rows ≡ Some c → has_key (characters_of rows) d ≡ true → (w : List ℕ) × IsLeastTyping names table repertoire d w) → (o : Option (List ℕ)) → row.keys ≡ o
+          → (w : List ℕ) × IsLeastTyping names table repertoire d w
       go rest None e =
           let f : Some row.character ≡ Some c = ap (λ o. cond (is_some o) (first_missing rows) (Some row.character)) (sym e) ∙ m in
           let is : row.character ≡ c = cc in
@@ -110,7 +120,8 @@ module _ (names : KeysymNames) (table : List Definition) (repertoire : Repertoir
         | inr x ↦ rest (ap (λ o. cond (is_some o) (first_missing rows) (Some row.character)) (sym e) ∙ m) x
       ]
 
-  pub one_unreachable : (rows : List WantedCharacter) (c : ℕ) → keys_rise repertoire.characters ≡ true → characters_of rows ≡ repertoire.characters → AreLeast (is_candidate names table repertoire) rows → first_missing rows ≡ Some c → IsUnreachable names table repertoire c
+  pub one_unreachable : (rows : List WantedCharacter) (c : ℕ) → keys_rise repertoire.characters ≡ true → characters_of rows ≡ repertoire.characters
+      → AreLeast (is_candidate names table repertoire) rows → first_missing rows ≡ Some c → IsUnreachable names table repertoire c
   one_unreachable rows c r e a m = record {
     wanted = ap (λ cs. has_key cs c) (sym e) ∙ missing_wanted rows c m;
     untyped = untyped names table repertoire c (missing_least rows c a m);
@@ -118,7 +129,8 @@ module _ (names : KeysymNames) (table : List Definition) (repertoire : Repertoir
   }
 
   -- the answer of the rows is the answer
-  pub answered : {E : Type 0} (rows : List WantedCharacter) (r : Result Typings E) → keys_rise repertoire.characters ≡ true → characters_of rows ≡ repertoire.characters → AreLeast (is_candidate names table repertoire) rows → IfOk r (IsOfRows rows) → IfOk r (IsTypings names table repertoire)
+  pub answered : {E : Type 0} (rows : List WantedCharacter) (r : Result Typings E) → keys_rise repertoire.characters ≡ true → characters_of rows ≡ repertoire.characters
+      → AreLeast (is_candidate names table repertoire) rows → IfOk r (IsOfRows rows) → IfOk r (IsTypings names table repertoire)
   answered rows (Ok (Found typings)) rise e a h = subst (AreLeastTypings names table repertoire) (sym h.1) (all_found rows e a h.0)
   answered rows (Ok (Unreachable c)) rise e a h = one_unreachable rows c rise e a h
   answered rows (Err fault) rise e a h = tt

@@ -49,7 +49,8 @@ missing_wanted : (rows : List WantedCharacter) (c : ℕ) → has_key (all_missin
 missing_wanted [] c h = cc
 missing_wanted (row ∷ rows) c h = go (missing_wanted rows c) row.keys h
   where
-    go : (has_key (all_missing rows) c ≡ true → has_key (characters_of rows) c ≡ true) → (o : Option (List ℕ)) → has_key (cond (is_some o) (all_missing rows) (row.character ∷ all_missing rows)) c ≡ true → has_key (characters_of (row ∷ rows)) c ≡ true
+    go : (has_key (all_missing rows) c ≡ true → has_key (characters_of rows) c ≡ true) → (o : Option (List ℕ))
+        → has_key (cond (is_some o) (all_missing rows) (row.character ∷ all_missing rows)) c ≡ true → has_key (characters_of (row ∷ rows)) c ≡ true
     go rest (Some w) h = or_right (c == row.character) (has_key (characters_of rows) c) (rest h)
     go rest None h = elim (or_cases (c == row.character) (has_key (all_missing rows) c) h) [
       | inl e ↦ or_left (c == row.character) (has_key (characters_of rows) c) e
@@ -62,7 +63,8 @@ module _ (passes : ℕ → List ℕ → Bool) where
   missing_none [] c a h = cc
   missing_none (row ∷ rows) c a h = go (missing_none rows c a.1) row.keys a.0 h
     where
-      go : (has_key (all_missing rows) c ≡ true → IsLeastOf (passes c) None) → (o : Option (List ℕ)) → IsLeastOf (passes row.character) o → has_key (cond (is_some o) (all_missing rows) (row.character ∷ all_missing rows)) c ≡ true → IsLeastOf (passes c) None
+      go : (has_key (all_missing rows) c ≡ true → IsLeastOf (passes c) None) → (o : Option (List ℕ)) → IsLeastOf (passes row.character) o
+          → has_key (cond (is_some o) (all_missing rows) (row.character ∷ all_missing rows)) c ≡ true → IsLeastOf (passes c) None
       go rest (Some w) l h = rest h
       go rest None l h = elim (or_cases (c == row.character) (has_key (all_missing rows) c) h) [
         | inl e ↦ subst (λ (d : ℕ). IsLeastOf (passes d) None) (sym (eqb-true c row.character e)) l
@@ -70,11 +72,13 @@ module _ (passes : ℕ → List ℕ → Bool) where
       ]
 
   -- and the first of the lists that pass the test of another one is known
-  other_some : (rows : List WantedCharacter) (c : ℕ) → AreLeast passes rows → has_key (characters_of rows) c ≡ true → has_key (all_missing rows) c ≡ false → (w : List ℕ) × IsLeastOf (passes c) (Some w)
+  other_some : (rows : List WantedCharacter) (c : ℕ) → AreLeast passes rows → has_key (characters_of rows) c ≡ true → has_key (all_missing rows) c ≡ false
+      → (w : List ℕ) × IsLeastOf (passes c) (Some w)
   other_some [] c a h n = cc
   other_some (row ∷ rows) c a h n = go (other_some rows c a.1) row.keys a.0 n
     where
-      go : (has_key (characters_of rows) c ≡ true → has_key (all_missing rows) c ≡ false → (w : List ℕ) × IsLeastOf (passes c) (Some w)) → (o : Option (List ℕ)) → IsLeastOf (passes row.character) o → has_key (cond (is_some o) (all_missing rows) (row.character ∷ all_missing rows)) c ≡ false → (w : List ℕ) × IsLeastOf (passes c) (Some w)
+      go : (has_key (characters_of rows) c ≡ true → has_key (all_missing rows) c ≡ false → (w : List ℕ) × IsLeastOf (passes c) (Some w)) → (o : Option (List ℕ)) → IsLeastOf (passes row.character) o
+          → has_key (cond (is_some o) (all_missing rows) (row.character ∷ all_missing rows)) c ≡ false → (w : List ℕ) × IsLeastOf (passes c) (Some w)
       go rest (Some w) l n = elim (or_cases (c == row.character) (has_key (characters_of rows) c) h) [
         | inl e ↦ (w, subst (λ (d : ℕ). IsLeastOf (passes d) (Some w)) (sym (eqb-true c row.character e)) l)
         | inr e ↦ rest e n
@@ -104,7 +108,9 @@ are_untypable names table repertoire s rows rise e a = record {
     not_true true n = cc
 
 -- what is told of the rows is the answer
-pub missing_told : {A E : Type 0} (characters : A → List ℕ) (names : KeysymNames) (table : List Definition) (repertoire : Repertoire) → IsSettled table → (rows : List WantedCharacter) (r : Result A E) → keys_rise repertoire.characters ≡ true
-    → characters_of rows ≡ repertoire.characters → AreLeast (is_candidate names table repertoire) rows → IfOk r (λ a. characters a ≡ all_missing rows) → IfOk r (λ a. AreUntypable names table repertoire (characters a))
+pub missing_told : {A E : Type 0} (characters : A → List ℕ) (names : KeysymNames) (table : List Definition) (repertoire : Repertoire) → IsSettled table → (rows : List WantedCharacter) (r : Result A E)
+    → keys_rise repertoire.characters ≡ true
+    → characters_of rows ≡ repertoire.characters → AreLeast (is_candidate names table repertoire) rows → IfOk r (λ a. characters a ≡ all_missing rows)
+    → IfOk r (λ a. AreUntypable names table repertoire (characters a))
 missing_told characters names table repertoire s rows (Ok a) rise e least h = subst (AreUntypable names table repertoire) (sym h) (are_untypable names table repertoire s rows rise e least)
 missing_told characters names table repertoire s rows (Err fault) rise e least h = tt

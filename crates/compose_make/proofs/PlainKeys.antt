@@ -60,7 +60,8 @@ module _ (names : KeysymNames) (table : List Definition) (repertoire : Repertoir
   plain_character k h = spelled_by k (and_parts (is_key repertoire k && not (is_ignored k) && not (has_edge table [] k)) (spells c (text names k)) h).1
 
   -- where no keysym of the character is left, none is plain
-  pub none_plain : (after : Option ℕ) → IsNextOf names c after None → ((k : ℕ) → k < from_above after → is_plain_key names table repertoire c k ≡ false) → IsLeastOf (is_plain names table repertoire c) None
+  pub none_plain : (after : Option ℕ) → IsNextOf names c after None → ((k : ℕ) → k < from_above after → is_plain_key names table repertoire c k ≡ false)
+      → IsLeastOf (is_plain names table repertoire c) None
   none_plain after n passed [] h = cc
   none_plain after n passed (k ∷ []) h = elim (cases_lt k (from_above after)) [
     | inl l ↦ (let clash : true ≡ false = sym h ∙ passed k l in absurd (let e : ⊥ = cc in e))
@@ -69,7 +70,8 @@ module _ (names : KeysymNames) (table : List Definition) (repertoire : Repertoir
   none_plain after n passed (k ∷ j ∷ v) h = cc
 
   -- the next one, where it is plain, is the least
-  pub next_plain : (after : Option ℕ) (k : ℕ) → IsNextOf names c after (Some k) → ((j : ℕ) → j < from_above after → is_plain_key names table repertoire c j ≡ false) → (is_key repertoire k && not (is_ignored k) && not (has_edge table [] k)) ≡ true
+  pub next_plain : (after : Option ℕ) (k : ℕ) → IsNextOf names c after (Some k) → ((j : ℕ) → j < from_above after → is_plain_key names table repertoire c j ≡ false)
+      → (is_key repertoire k && not (is_ignored k) && not (has_edge table [] k)) ≡ true
       → IsLeastOf (is_plain names table repertoire c) (Some (k ∷ []))
   next_plain after k n passed h = (plain_now, first)
     where
@@ -85,7 +87,8 @@ module _ (names : KeysymNames) (table : List Definition) (repertoire : Repertoir
       first (j ∷ i ∷ v) e = cc
 
   -- the next one, where it is not plain, is passed
-  pub next_passed : (after : Option ℕ) (k : ℕ) → IsNextOf names c after (Some k) → ((j : ℕ) → j < from_above after → is_plain_key names table repertoire c j ≡ false) → (is_key repertoire k && not (is_ignored k) && not (has_edge table [] k)) ≡ false
+  pub next_passed : (after : Option ℕ) (k : ℕ) → IsNextOf names c after (Some k) → ((j : ℕ) → j < from_above after → is_plain_key names table repertoire c j ≡ false)
+      → (is_key repertoire k && not (is_ignored k) && not (has_edge table [] k)) ≡ false
       → (j : ℕ) → j < from_above (Some k) → is_plain_key names table repertoire c j ≡ false
   next_passed after k n passed h j l = elim (cases_lt j (from_above after)) [
     | inl b ↦ passed j b
@@ -94,7 +97,8 @@ module _ (names : KeysymNames) (table : List Definition) (repertoire : Repertoir
       | inl e ↦ absurd (
           let le : k ≤ j = n.2 j b (plain_character j e) in
           let is : k ≡ j = omega arith in
-          let told : (is_key repertoire j && not (is_ignored j) && not (has_edge table [] j)) ≡ true = (and_parts (is_key repertoire j && not (is_ignored j) && not (has_edge table [] j)) (spells c (text names j)) e).0 in
+          let told : (is_key repertoire j && not (is_ignored j) && not (has_edge table [] j)) ≡ true =
+          (and_parts (is_key repertoire j && not (is_ignored j) && not (has_edge table [] j)) (spells c (text names j)) e).0 in
           let clash : true ≡ false = sym told ∙ ap (λ i. is_key repertoire i && not (is_ignored i) && not (has_edge table [] i)) (sym is) ∙ h in cc)
     ]
   ]

@@ -111,7 +111,8 @@ pending_keys P table u (k ∷ w) a b =
 
 -- ---- runs that end with a key
 
-run_snoc : (names : KeysymNames) (table : List Definition) (w : List ℕ) (k : ℕ) → map (λ s. s.text) (run names table (w ++ k ∷ [])) ≡ map (λ s. s.text) (run names table w) ++ (step names table (pending table w) k).text ∷ []
+run_snoc : (names : KeysymNames) (table : List Definition) (w : List ℕ) (k : ℕ)
+    → map (λ s. s.text) (run names table (w ++ k ∷ [])) ≡ map (λ s. s.text) (run names table w) ++ (step names table (pending table w) k).text ∷ []
 run_snoc names table w k =
     ap (map (λ (s : Step). s.text)) (steps_from-append names table [] w (k ∷ []))
     ∙ map_push (λ (s : Step). s.text) (run names table w) (step names table (pending table w) k)
@@ -188,7 +189,8 @@ module _ (names : KeysymNames) (table : List Definition) (repertoire : Repertoir
     fed_last : (p : List ℕ) (k : ℕ) → is_sequence table (p ++ k ∷ []) ≡ true → is_ignored k ≡ false
     fed_last p k h =
         let d = both_at is_definition (λ (d : Definition). same (p ++ k ∷ []) d.sequence) table sound h in
-        let keys : list_all (λ j. is_keysym j && not (is_ignored j)) (p ++ k ∷ []) ≡ true = ap (list_all (λ j. is_keysym j && not (is_ignored j))) (same_is (p ++ k ∷ []) d.0.sequence d.2) ∙ sequence_fed d.0 d.1 in
+        let keys : list_all (λ j. is_keysym j && not (is_ignored j)) (p ++ k ∷ []) ≡ true =
+        ap (list_all (λ j. is_keysym j && not (is_ignored j))) (same_is (p ++ k ∷ []) d.0.sequence d.2) ∙ sequence_fed d.0 d.1 in
         not-true (is_ignored k) (and_parts (is_keysym k) (not (is_ignored k)) (last_of (λ j. is_keysym j && not (is_ignored j)) p k keys).1).1
 
     sequence_types : (c : ℕ) (p : List ℕ) (k : ℕ) → Whole c (p ++ k ∷ []) → Types names table (p ++ k ∷ []) c
@@ -201,7 +203,11 @@ module _ (names : KeysymNames) (table : List Definition) (repertoire : Repertoir
     pub nonempty : is_sequence table [] ≡ true → ⊥
     nonempty h =
         let d = both_at is_definition (λ (d : Definition). same [] d.sequence) table sound h in
-        go d.0.sequence d.2 (and_parts (nat_lt 0 (length d.0.sequence)) (nat_le (length d.0.sequence) 32) (and_parts (nat_lt 0 (length d.0.sequence) && nat_le (length d.0.sequence) 32) (list_all (λ j. is_keysym j && not (is_ignored j)) d.0.sequence) (and_parts (nat_lt 0 (length d.0.sequence) && nat_le (length d.0.sequence) 32 && list_all (λ j. is_keysym j && not (is_ignored j)) d.0.sequence) (nat_le (length d.0.text) 255) d.1).0).0).0
+        go d.0.sequence d.2
+        (and_parts (nat_lt 0 (length d.0.sequence)) (nat_le (length d.0.sequence) 32)
+        (and_parts (nat_lt 0 (length d.0.sequence) && nat_le (length d.0.sequence) 32) (list_all (λ j. is_keysym j && not (is_ignored j)) d.0.sequence)
+        (and_parts (nat_lt 0 (length d.0.sequence) && nat_le (length d.0.sequence) 32 && list_all (λ j. is_keysym j && not (is_ignored j)) d.0.sequence)
+        (nat_le (length d.0.text) 255) d.1).0).0).0
       where
         go : (s : List ℕ) → same [] s ≡ true → nat_lt 0 (length s) ≡ true → ⊥
         go [] e l = cc
@@ -231,7 +237,8 @@ module _ (names : KeysymNames) (table : List Definition) (repertoire : Repertoir
   Reduces c w = (v : List ℕ) × (is_candidate names table repertoire c v ≡ true) × ((v ≡ w) ⊎ (length v < length w))
 
   -- from the last key of what types the character
-  at_last : (c : ℕ) (p : List ℕ) (k : ℕ) → are_keys repertoire (p ++ k ∷ []) ≡ true → (step names table (pending table p) k).text ≡ encode_utf8 c → pending_after table (pending table p) k ≡ [] → Reduces c (p ++ k ∷ [])
+  at_last : (c : ℕ) (p : List ℕ) (k : ℕ) → are_keys repertoire (p ++ k ∷ []) ≡ true → (step names table (pending table p) k).text ≡ encode_utf8 c → pending_after table (pending table p) k ≡ []
+      → Reduces c (p ++ k ∷ [])
   at_last c p k keys t rests = go (effect table (pending table p) k) refl
     where
       by : (are_keys repertoire p ≡ true) × (is_key repertoire k ≡ true)
@@ -273,10 +280,13 @@ module _ (names : KeysymNames) (table : List Definition) (repertoire : Repertoir
       go passes e =
           let told = effect_tells table (pending table p) k passes e in
           let rest : pending table p ≡ [] = at_rest (pending table p) told.3 in
-          let none : has_edge table [] k ≡ false = ap (λ u. has_edge table u k) (sym rest) ∙ edge_extends table (pending table p) k ∙ or_from (is_extended table (pending table p ++ k ∷ [])) (is_sequence table (pending table p ++ k ∷ [])) told.1 told.2 in
+          let none : has_edge table [] k ≡ false =
+          ap (λ u. has_edge table u k) (sym rest) ∙ edge_extends table (pending table p) k
+          ∙ or_from (is_extended table (pending table p ++ k ∷ [])) (is_sequence table (pending table p ++ k ∷ [])) told.1 told.2 in
           let spelled_so : spells c (text names k) ≡ true = same_from (encode_utf8 c) (text names k) (sym (ap (λ y. text_by y names table (pending table p) k) (sym e) ∙ t)) in
           let plain : is_plain_key names table repertoire c k ≡ true = and_from (is_key repertoire k && not (is_ignored k) && not (has_edge table [] k)) (spells c (text names k))
-          (and_from (is_key repertoire k && not (is_ignored k)) (not (has_edge table [] k)) (and_from (is_key repertoire k) (not (is_ignored k)) by.1 (not_from_false (is_ignored k) told.0)) (not_from_false (has_edge table [] k) none)) spelled_so in
+          (and_from (is_key repertoire k && not (is_ignored k)) (not (has_edge table [] k)) (and_from (is_key repertoire k) (not (is_ignored k)) by.1 (not_from_false (is_ignored k) told.0))
+          (not_from_false (has_edge table [] k) none)) spelled_so in
           (k ∷ [], or_left (is_plain names table repertoire c (k ∷ [])) (is_whole table repertoire c (k ∷ [])) plain, alone (pending table p) rest)
 
   pub reduced : (c : ℕ) (w : List ℕ) → are_keys repertoire w ≡ true → Types names table w c → Reduces c w
@@ -294,7 +304,8 @@ module _ (names : KeysymNames) (table : List Definition) (repertoire : Repertoir
       all = sym (run_snoc names table r.prefix r.last) ∙ ap (λ v. map (λ (s : Step). s.text) (run names table v)) (sym r.is) ∙ t.texts
 
       commits : (step names table (pending table r.prefix) r.last).text ≡ encode_utf8 c
-      commits = (same_from_push (map (λ (s : Step). s.text) (run names table r.prefix)) (replicate (length (j ∷ w) - 1) []) (step names table (pending table r.prefix) r.last).text (encode_utf8 c) all).1
+      commits =
+          (same_from_push (map (λ (s : Step). s.text) (run names table r.prefix)) (replicate (length (j ∷ w) - 1) []) (step names table (pending table r.prefix) r.last).text (encode_utf8 c) all).1
 
       rests : pending_after table (pending table r.prefix) r.last ≡ []
       rests = sym (pending_snoc table r.prefix r.last) ∙ ap (pending table) (sym r.is) ∙ t.rests

@@ -58,18 +58,26 @@ pub not_wanted : (t w : List ℕ) (d : ℕ) (rows : List WantedCharacter) → t 
 not_wanted t w d rows e n = passed_over t w rows (λ k h. spells_other (get_or (characters_of rows) k 0) d t e (n k h))
 
 -- the row of a wanted character takes the keys
-pub taken : (t w : List ℕ) (d i : ℕ) (rows : List WantedCharacter) (row : WantedCharacter) → keys_rise (characters_of rows) ≡ true → t ≡ encode_utf8 d → i < length rows → get_or (characters_of rows) i 0 ≡ d
+pub taken : (t w : List ℕ) (d i : ℕ) (rows : List WantedCharacter) (row : WantedCharacter) → keys_rise (characters_of rows) ≡ true → t ≡ encode_utf8 d → i < length rows
+    → get_or (characters_of rows) i 0 ≡ d
     → row ≡ get_or rows i row → slice_set rows i (record row { keys = better row.keys w }) ≡ map (offered t w) rows
 taken t w d i [] row rise e h at is = absurd (omega arith)
 taken t w d zero (r ∷ rows) row rise e h at is =
     ap₂ (λ r rs. r ∷ rs) (ap (λ (x : WantedCharacter). record x { keys = better x.keys w }) is ∙ here (spells r.character t) (same_from (encode_utf8 r.character) t (ap encode_utf8 at ∙ sym e)))
-    (passed_over t w rows (λ k l. spells_other (get_or (characters_of rows) k 0) d t e (λ same_one. absurd (let a : r.character < get_or (characters_of rows) k 0 = rises_head r.character (characters_of rows) rise k (let n : length (characters_of rows) ≡ length rows = length-map rows (λ x. x.character) in omega arith) in omega arith))))
+    (passed_over t w rows
+    (λ k l. spells_other (get_or (characters_of rows) k 0) d t e
+    (λ same_one. absurd
+    (let a : r.character < get_or (characters_of rows) k 0 = rises_head r.character (characters_of rows) rise k (let n : length (characters_of rows) ≡ length rows = length-map rows (λ x. x.character) in omega arith) in omega arith))))
   where
     here : (b : Bool) → b ≡ true → record r { keys = better r.keys w } ≡ cond b (record r { keys = better r.keys w }) r
     here true f = refl
     here false f = cc
 taken t w d (suc i) (r ∷ rows) row rise e h at is =
-    ap₂ (λ r rs. r ∷ rs) (there (spells r.character t) (spells_other r.character d t e (λ same_one. absurd (let a : r.character < get_or (characters_of rows) i 0 = rises_head r.character (characters_of rows) rise i (let n : length (characters_of rows) ≡ length rows = length-map rows (λ x. x.character) in omega arith) in omega arith))))
+    ap₂ (λ r rs. r ∷ rs)
+    (there (spells r.character t)
+    (spells_other r.character d t e
+    (λ same_one. absurd
+    (let a : r.character < get_or (characters_of rows) i 0 = rises_head r.character (characters_of rows) rise i (let n : length (characters_of rows) ≡ length rows = length-map rows (λ x. x.character) in omega arith) in omega arith))))
     (taken t w d i rows row (rises_tail r.character (characters_of rows) rise) e (omega arith) at is)
   where
     there : (b : Bool) → b ≡ false → r ≡ cond b (record r { keys = better r.keys w }) r
@@ -98,6 +106,12 @@ are_offered p t w (row ∷ rows) a = (go (spells row.character t) refl, are_offe
     or_none true = refl
     or_none false = refl
 
-    go : (b : Bool) → spells row.character t ≡ b → IsLeastOf (λ v. p (cond b (record row { keys = better row.keys w }) row).character v || (spells (cond b (record row { keys = better row.keys w }) row).character t && same v w)) (cond b (record row { keys = better row.keys w }) row).keys
-    go true e = least_same (λ v. p row.character v || same v w) (λ v. p row.character v || (spells row.character t && same v w)) (λ v. ap (λ b. p row.character v || (b && same v w)) (sym e)) (better row.keys w) (least_more (p row.character) w row.keys a.0)
-    go false e = least_same (p row.character) (λ v. p row.character v || (spells row.character t && same v w)) (λ v. or_none (p row.character v) ∙ ap (λ b. p row.character v || (b && same v w)) (sym e)) row.keys a.0
+    go : (b : Bool) → spells row.character t ≡ b
+        → IsLeastOf (λ v. p (cond b (record row { keys = better row.keys w }) row).character v || (spells (cond b (record row { keys = better row.keys w }) row).character t && same v w))
+        (cond b (record row { keys = better row.keys w }) row).keys
+    go true e =
+        least_same (λ v. p row.character v || same v w) (λ v. p row.character v || (spells row.character t && same v w)) (λ v. ap (λ b. p row.character v || (b && same v w)) (sym e))
+        (better row.keys w) (least_more (p row.character) w row.keys a.0)
+    go false e =
+        least_same (p row.character) (λ v. p row.character v || (spells row.character t && same v w))
+        (λ v. or_none (p row.character v) ∙ ap (λ b. p row.character v || (b && same v w)) (sym e)) row.keys a.0

@@ -43,10 +43,16 @@ pub fn make<T: ComposeTable, U: ComposeTable>(
     repertoire: &Repertoire,
     fresh: &[Keysym],
 ) -> Result<Made, MakeFault>
-    ensures bad_fresh { (fault : CheckFault) → first_unmet (fresh_conditions (T.definitions old.now) fresh.now) ≡ Some fault → result ≡ Err (MakeFault.BadFresh fault) }
-    ensures too_many { first_unmet (fresh_conditions (T.definitions old.now) fresh.now) ≡ None → max_fresh < length fresh.now → result ≡ Err MakeFault.TooManyFresh }
-    ensures answer { first_unmet (fresh_conditions (T.definitions old.now) fresh.now) ≡ None → length fresh.now ≤ max_fresh
-        → MatchResult result (IsMade names.now fresh.now (T.definitions old.now) (U.definitions new.now) repertoire.now) (λ e. e ≡ MakeFault.NoMemory) }
+    ensures bad_fresh { (fault : CheckFault)
+        → first_unmet (fresh_conditions (T.definitions old.now) fresh.now) ≡ Some fault
+        → result ≡ Err (MakeFault.BadFresh fault) }
+    ensures too_many { first_unmet (fresh_conditions (T.definitions old.now) fresh.now) ≡ None
+        → max_fresh < length fresh.now → result ≡ Err MakeFault.TooManyFresh }
+    ensures answer { first_unmet (fresh_conditions (T.definitions old.now) fresh.now) ≡ None
+        → length fresh.now ≤ max_fresh
+        → MatchResult result
+        (IsMade names.now fresh.now (T.definitions old.now)
+        (U.definitions new.now) repertoire.now) (λ e. e ≡ MakeFault.NoMemory) }
 {
     // A call's contract says that the table is settled.
     let _ = old.node_count();
@@ -67,8 +73,11 @@ fn certify<U: ComposeTable>(
 ) -> Result<Made, MakeFault>
     requires few_fresh { length fresh.now ≤ max_fresh }
     requires few_pairs { length pairs ≤ max_nodes }
-    ensures { (old : List Definition) → AreFresh fresh.now old → IsFollower names.now fresh.now old (U.definitions new.now) pairs
-        → MatchResult result (IsMade names.now fresh.now old (U.definitions new.now) repertoire.now) (λ e. e ≡ MakeFault.NoMemory) }
+    ensures { (old : List Definition) → AreFresh fresh.now old
+        → IsFollower names.now fresh.now old (U.definitions new.now) pairs
+        → MatchResult result
+        (IsMade names.now fresh.now old (U.definitions new.now) repertoire.now)
+        (λ e. e ≡ MakeFault.NoMemory) }
 {
     // The contracts of these calls say that the table is settled and the repertoire sound.
     let _ = new.node_count();

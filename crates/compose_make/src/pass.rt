@@ -27,7 +27,10 @@ pub fn visit<U: ComposeTable>(
     requires by_keys { IsTrue (are_keys repertoire.now keys.now) }
     requires rise { IsTrue (keys_rise (characters_of rows.old)) }
     ensures characters { characters_of rows.new ≡ characters_of rows.old }
-    ensures least { (passes : ℕ → List ℕ → Bool) → AreLeast passes rows.old → AreLeast (λ c v. passes c v || is_behind (U.definitions new.now) repertoire.now c keys.now v) rows.new }
+    ensures least { (passes : ℕ → List ℕ → Bool) → AreLeast passes rows.old
+        → AreLeast
+        (λ c v. passes c v
+        || is_behind (U.definitions new.now) repertoire.now c keys.now v) rows.new }
 {
     for index in 0..new.edge_count(node) {
         let (keysym, target) = new.edge(node, index);

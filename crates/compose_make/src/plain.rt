@@ -18,7 +18,8 @@ pub fn plain_key<U: ComposeTable>(
     repertoire: &Repertoire,
     character: char,
 ) -> Option<Keysym>
-    ensures { IsLeastOf (is_plain names.now (U.definitions new.now) repertoire.now character) (option_map (λ k. k ∷ []) result) }
+    ensures { IsLeastOf (is_plain names.now (U.definitions new.now) repertoire.now character)
+        (option_map (λ k. k ∷ []) result) }
 {
     let mut after = None;
     loop {
@@ -35,7 +36,9 @@ pub fn plain_key<U: ComposeTable>(
 
 /// Whether the keysym is a key of the repertoire that the table neither ignores nor begins a sequence with.
 fn is_plain_key<U: ComposeTable>(new: &U, repertoire: &Repertoire, keysym: Keysym) -> bool
-    ensures { result ≡ (is_key repertoire.now keysym && not (keysyms.is_ignored keysym) && not (has_edge (U.definitions new.now) [] keysym)) }
+    ensures { result
+        ≡ (is_key repertoire.now keysym && not (keysyms.is_ignored keysym)
+        && not (has_edge (U.definitions new.now) [] keysym)) }
 {
     if !repertoire.is_key(keysym) {
         return false;

@@ -58,7 +58,9 @@ pub fn untypable<U: ComposeTable>(
     names: &Names,
     repertoire: &Repertoire,
 ) -> Result<Vec<char>, MakeFault>
-    ensures found { IfOk result (λ characters. AreUntypable names.now (U.definitions table.now) repertoire.now characters.items) }
+    ensures found { IfOk result
+        (λ characters. AreUntypable names.now
+        (U.definitions table.now) repertoire.now characters.items) }
     ensures err { IfErr result (λ e. e ≡ MakeFault.NoMemory) }
 {
     // The contracts of these calls say that the table is settled and the repertoire sound.
@@ -76,9 +78,11 @@ fn wanted_rows<U: ComposeTable>(
     names: &Names,
     repertoire: &Repertoire,
 ) -> Result<Vec<Wanted>, MakeFault>
-    ensures characters { IfOk result (λ rows. characters_of rows.items ≡ repertoire.now.characters) }
+    ensures characters { IfOk result
+        (λ rows. characters_of rows.items ≡ repertoire.now.characters) }
     ensures err { IfErr result (λ e. e ≡ MakeFault.NoMemory) }
-    ensures least { IfOk result (λ rows. AreLeast (is_plain names.now (U.definitions new.now) repertoire.now) rows.items) }
+    ensures least { IfOk result
+        (λ rows. AreLeast (is_plain names.now (U.definitions new.now) repertoire.now) rows.items) }
 {
     let mut rows = Vec::new(alloc);
     for index in 0..repertoire.count() {

@@ -25,7 +25,11 @@ impl Model for Wanted {
 
     ghost Value = { WantedCharacter };
 
-    ghost view = { λ w. record { character = w.character; keys = option_map (λ k. k.items) w.keys } };
+    ghost view = { λ w. record {
+      character = w.character;
+      keys =
+          option_map (λ k. k.items) w.keys;
+    } };
 }
 
 impl Wanted {
@@ -49,7 +53,8 @@ impl Wanted {
 
     /// The typing by the keys that were found.
     pub fn typing(&self, alloc: Global) -> Result<Option<Typing>, AllocError>
-        ensures { IfOk result (λ typing. typing ≡ option_map (typing_by self.now.character) self.now.keys) }
+        ensures { IfOk result
+            (λ typing. typing ≡ option_map (typing_by self.now.character) self.now.keys) }
     {
         match &self.keys {
             Some(keys) => Ok(Some(Typing::new(self.character, keys.as_slice().to_vec(alloc)?))),
@@ -111,7 +116,9 @@ fn comes_first(keys: &[Keysym], other: &[Keysym]) -> bool
 /// The index of the character, if it is wanted. O(log n).
 fn index_of(rows: &[Wanted], character: char) -> Option<usize>
     requires { IsTrue (keys_rise (characters_of rows.now)) }
-    ensures { MatchOption result ((k : ℕ) → k < length rows.now → get_or (characters_of rows.now) k 0 ≡ character → ⊥) (λ i. (i < length rows.now) × (get_or (characters_of rows.now) i 0 ≡ character)) }
+    ensures { MatchOption result
+        ((k : ℕ) → k < length rows.now → get_or (characters_of rows.now) k 0 ≡ character → ⊥)
+        (λ i. (i < length rows.now) × (get_or (characters_of rows.now) i 0 ≡ character)) }
 {
     let mut low = 0;
     let mut high = rows.len();
@@ -132,7 +139,8 @@ fn index_of(rows: &[Wanted], character: char) -> Option<usize>
 
 /// The character that the text is, if it is one alone.
 fn single_character(text: &str) -> Option<char>
-    ensures { MatchOption result ((c : ℕ) → text.now ≡ encode_utf8 c → ⊥) (λ c. text.now ≡ encode_utf8 c) }
+    ensures { MatchOption result ((c : ℕ) → text.now ≡ encode_utf8 c → ⊥)
+        (λ c. text.now ≡ encode_utf8 c) }
 {
     let mut characters = text.chars();
     let Some(first) = characters.next() else {

@@ -66,7 +66,8 @@ pub fn file_path(
     at: &str,
     entry: &Entry,
 ) -> Result<String, AllocError>
-    ensures { IfOk result (λ path. string_bytes path ≡ text.file_path manifest.now at.now entry.now.path) }
+    ensures { IfOk result
+        (λ path. string_bytes path ≡ text.file_path manifest.now at.now entry.now.path) }
 {
     if manifest.paths_here() {
         return beside(alloc, at, &entry.path);
@@ -87,7 +88,8 @@ fn lines_of(alloc: Global, sources: &[FoundSource]) -> Result<String, AllocError
 
 /// Adds the line of a source.
 fn push_line(lines: &mut String, source: &FoundSource) -> Result<(), AllocError>
-    ensures { OnOk result (string_bytes lines.new ≡ string_bytes lines.old ++ text.line_of source.now) }
+    ensures { OnOk result
+        (string_bytes lines.new ≡ string_bytes lines.old ++ text.line_of source.now) }
 {
     lines.push_str(&source.name)?;
     lines.push('\t')?;

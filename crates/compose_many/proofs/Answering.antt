@@ -13,7 +13,8 @@ use Rattle.compose_many.specs.declared.connection.Stop.TheVariants.{NeedsBytes, 
 use Rattle.compose_many.proofs.Happening.{behind_nothing, flat-more, run-both, happen-more}
 
 -- one request
-pub next_answered : (limit : ℕ) (reading : Reading) (old new : ServiceState) (s : ConnectionState) (held unsent : List ℕ) (q : Request) (r : Reply) → s.refused ≡ false → length s.unsent < limit → s.answered < max_frames
+pub next_answered : (limit : ℕ) (reading : Reading) (old new : ServiceState) (s : ConnectionState) (held unsent : List ℕ) (q : Request) (r : Reply) → s.refused ≡ false → length s.unsent < limit
+    → s.answered < max_frames
     → Fits q → s.held ≡ frame q ++ held → Step reading old q r new → unsent ≡ s.unsent ++ reply_bytes r → length (reply_bytes r) ≤ max_reply
     → NextSo limit reading old new s (record { held = held; unsent = unsent; answered = s.answered + 1; refused = s.refused }) (Ok tt)
 next_answered limit reading old new s held unsent q r g b c f e t u l = (
@@ -30,7 +31,8 @@ module _ (limit : ℕ) (reading : Reading) (old : ServiceState) (before : Connec
   none_yet = record { happen = refl; run = refl; none_came = refl; none_sent = refl }
 
   module _ (mid new : ServiceState) (s now : ConnectionState) (events : List Event) (a : AreAnswers limit reading old mid before s events) where
-    one_more : (e : Event) → piece_of e ≡ [] → sent_of e ≡ [] → AllHappen limit before (events ++ e ∷ []) now → IsHistory reading mid (exchanges (e ∷ [])) new → AreAnswers limit reading old new before now (events ++ e ∷ [])
+    one_more : (e : Event) → piece_of e ≡ [] → sent_of e ≡ [] → AllHappen limit before (events ++ e ∷ []) now → IsHistory reading mid (exchanges (e ∷ [])) new
+        → AreAnswers limit reading old new before now (events ++ e ∷ [])
     one_more e p q h r = record {
       happen = h;
       run = run-both reading old mid new events (e ∷ []) a.run r;

@@ -25,7 +25,8 @@ history-both reading old mid new [] h a b = subst (λ (s : ServiceState). IsHist
 history-both reading old mid new (x ∷ g) h a b = (a.0, a.1, history-both reading a.0 mid new g h a.2 b)
 
 -- the exchanges of both
-pub run-both : (reading : Reading) (old mid new : ServiceState) (es fs : List Event) → IsHistory reading old (exchanges es) mid → IsHistory reading mid (exchanges fs) new → IsHistory reading old (exchanges (es ++ fs)) new
+pub run-both : (reading : Reading) (old mid new : ServiceState) (es fs : List Event) → IsHistory reading old (exchanges es) mid → IsHistory reading mid (exchanges fs) new
+    → IsHistory reading old (exchanges (es ++ fs)) new
 run-both reading old mid new es fs a b =
     subst (λ (h : List Exchange). IsHistory reading old h new) (sym (flat-both exchange_of es fs)) (history-both reading old mid new (exchanges es) (exchanges fs) a b)
 

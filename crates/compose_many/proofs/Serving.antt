@@ -20,16 +20,23 @@ without_numbers c (e ∷ events) = ap (λ es. e ∷ es) (without_numbers c event
 those_of : (c d : ℕ) (events : List Event) → c == d ≡ true → events_of d (numbered c events) ≡ events
 those_of c d [] h = refl
 those_of c d (e ∷ events) h =
-    ap (λ b. map (λ (e : NumberedEvent). e.event) (cond b (record { connection = c; event = e } ∷ filter (λ (e : NumberedEvent). e.connection == d) (numbered c events)) (filter (λ (e : NumberedEvent). e.connection == d) (numbered c events)))) h
+    ap
+    (λ b. map (λ (e : NumberedEvent). e.event)
+    (cond b (record { connection = c; event = e } ∷ filter (λ (e : NumberedEvent). e.connection == d) (numbered c events))
+    (filter (λ (e : NumberedEvent). e.connection == d) (numbered c events)))) h
     ∙ ap (λ es. e ∷ es) (those_of c d events h)
 
 none_of : (c d : ℕ) (events : List Event) → c == d ≡ false → events_of d (numbered c events) ≡ []
 none_of c d [] h = refl
 none_of c d (e ∷ events) h =
-    ap (λ b. map (λ (e : NumberedEvent). e.event) (cond b (record { connection = c; event = e } ∷ filter (λ (e : NumberedEvent). e.connection == d) (numbered c events)) (filter (λ (e : NumberedEvent). e.connection == d) (numbered c events)))) h
+    ap
+    (λ b. map (λ (e : NumberedEvent). e.event)
+    (cond b (record { connection = c; event = e } ∷ filter (λ (e : NumberedEvent). e.connection == d) (numbered c events))
+    (filter (λ (e : NumberedEvent). e.connection == d) (numbered c events)))) h
     ∙ none_of c d events h
 
-module _ (limit : ℕ) (before after : ℕ → ConnectionState) (events : List Event) (c : ℕ) (happen : AllHappen limit (before c) events (after c)) (others : (d : ℕ) → c == d ≡ false → after d ≡ before d) where
+module _ (limit : ℕ) (before after : ℕ → ConnectionState) (events : List Event) (c : ℕ) (happen : AllHappen limit (before c) events (after c))
+    (others : (d : ℕ) → c == d ≡ false → after d ≡ before d) where
   each_by_its_own : (d : ℕ) (b : Bool) → c == d ≡ b → AllHappen limit (before d) (events_of d (numbered c events)) (after d)
   each_by_its_own d true e =
       subst (λ es. AllHappen limit (before d) es (after d)) (sym (those_of c d events e)) (subst (λ (n : ℕ). AllHappen limit (before n) events (after n)) (eqb-true c d e) happen)
@@ -67,5 +74,7 @@ served_one_after_another limit reading old mid new before between after first se
   run =
       subst (λ es. IsHistory reading old (exchanges es) new) (sym (map-both (λ (e : NumberedEvent). e.event) first second))
       (run-both reading old mid new (map (λ (e : NumberedEvent). e.event) first) (map (λ (e : NumberedEvent). e.event) second) x.run y.run);
-  each = λ c. subst (λ es. AllHappen limit (before c) es (after c)) (sym (events_of-both c first second)) (happen-both limit (before c) (between c) (after c) (events_of c first) (events_of c second) (x.each c) (y.each c));
+  each =
+      λ c. subst (λ es. AllHappen limit (before c) es (after c)) (sym (events_of-both c first second))
+      (happen-both limit (before c) (between c) (after c) (events_of c first) (events_of c second) (x.each c) (y.each c));
 }

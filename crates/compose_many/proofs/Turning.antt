@@ -20,7 +20,8 @@ use Rattle.compose_many.specs.declared.turn.Turn.TheVariants.{GoesOn, Waits, Nee
 use Rattle.compose_many.proofs.Happening.{behind_nothing, flat-both, flat-more, run-both, happen-both}
 
 pub turn_then : (limit : ℕ) (reading : Reading) (old mid new : ServiceState) (a b c : ConnectionState) (left left' left'' written written' written'' : Option (List ℕ)) (es fs : List Event)
-    → IsTurn limit reading old mid a b left left' written written' es → IsTurn limit reading mid new b c left' left'' written' written'' fs → IsTurn limit reading old new a c left left'' written written'' (es ++ fs)
+    → IsTurn limit reading old mid a b left left' written written' es → IsTurn limit reading mid new b c left' left'' written' written'' fs
+    → IsTurn limit reading old new a c left left'' written written'' (es ++ fs)
 turn_then limit reading old mid new a b c left left' left'' written written' written'' es fs x y = record {
   happen = happen-both limit a b c es fs x.happen y.happen;
   run = run-both reading old mid new es fs x.run y.run;
@@ -29,13 +30,16 @@ turn_then limit reading old mid new a b c left left' left'' written written' wri
 }
 
 module _ (limit : ℕ) (reading : Reading) (old : ServiceState) (before after : ConnectionState) where
-  pub turn_sent : (left written written' : Option (List ℕ)) (bytes : List ℕ) → Sends before bytes after → Appends written written' bytes → IsTurn limit reading old old before after left left written written' (sends bytes ∷ [])
+  pub turn_sent : (left written written' : Option (List ℕ)) (bytes : List ℕ) → Sends before bytes after → Appends written written' bytes
+      → IsTurn limit reading old old before after left left written written' (sends bytes ∷ [])
   turn_sent left written written' bytes s w = record { happen = (after, s, refl); run = refl; read = Consumes-nil left; wrote = subst (λ l. Appends written written' l) (sym (append-nil bytes)) w }
 
-  pub turn_read : (left left' written : Option (List ℕ)) (piece : List ℕ) → Receives before piece after → Consumes left left' piece → IsTurn limit reading old old before after left left' written written (receives piece ∷ [])
+  pub turn_read : (left left' written : Option (List ℕ)) (piece : List ℕ) → Receives before piece after → Consumes left left' piece
+      → IsTurn limit reading old old before after left left' written written (receives piece ∷ [])
   turn_read left left' written piece s c = record { happen = (after, s, refl); run = refl; read = subst (λ l. Consumes left left' l) (sym (append-nil piece)) c; wrote = Appends-nil written }
 
-  pub turn_answered : (new : ServiceState) (left written : Option (List ℕ)) (events : List Event) → AreAnswers limit reading old new before after events → IsTurn limit reading old new before after left left written written events
+  pub turn_answered : (new : ServiceState) (left written : Option (List ℕ)) (events : List Event) → AreAnswers limit reading old new before after events
+      → IsTurn limit reading old new before after left left written written events
   turn_answered new left written events a = record {
     happen = a.happen;
     run = a.run;
@@ -67,7 +71,8 @@ held_grows limit before after (sends bytes ∷ events) h =
     omega arith
 
 -- nothing came
-pub holds_no_more : (limit most : ℕ) (reading : Reading) (old new : ServiceState) (before mid after : ConnectionState) (bytes : List ℕ) (events : List Event) → Sends before bytes mid → AreAnswers limit reading old new mid after events
+pub holds_no_more : (limit most : ℕ) (reading : Reading) (old new : ServiceState) (before mid after : ConnectionState) (bytes : List ℕ) (events : List Event) → Sends before bytes mid
+    → AreAnswers limit reading old new mid after events
     → length before.held < most → length after.held < most
 holds_no_more limit most reading old new before mid after bytes events s a h =
     let sent : length mid.held ≡ length before.held = ap (λ (t : ConnectionState). length t.held) s.after in
@@ -91,7 +96,8 @@ read_holds_little most held piece (inr r) h =
 
 -- ---- what follows
 
-pub follows_sent : (most : ℕ) (turn : Turn) (before now : ConnectionState) (bytes : List ℕ) (left' : Option (List ℕ)) (read_mark write_mark : Option TryError) → SendsSo (Some turn) bytes now write_mark → FollowsSo most turn before (sends bytes ∷ []) now now left' read_mark write_mark
+pub follows_sent : (most : ℕ) (turn : Turn) (before now : ConnectionState) (bytes : List ℕ) (left' : Option (List ℕ)) (read_mark write_mark : Option TryError)
+    → SendsSo (Some turn) bytes now write_mark → FollowsSo most turn before (sends bytes ∷ []) now now left' read_mark write_mark
 follows_sent most GoesOn before now bytes left' rf wf h = (refl, inl (λ e. h (sym (append-nil bytes) ∙ e)))
 follows_sent most Waits before now bytes left' rf wf h = (refl, inl h)
 follows_sent most (Ends (Err Write)) before now bytes left' rf wf h = (ap is_failed h.0, h.1)
@@ -129,7 +135,8 @@ module _ (most : ℕ) (s now : ConnectionState) (piece : List ℕ) (left' : Opti
   begun_then : piece ≡ [] → IsBegun (s.held ++ piece)
   begun_then e = subst IsBegun (sym (held_is e)) begun
 
-  pub follows_read : (turn : Turn) (before : ConnectionState) (events : List Event) → ReadsSo most turn s piece now left' read_mark → FollowsSo most turn before (events ++ receives piece ∷ []) with_piece now left' read_mark write_mark
+  pub follows_read : (turn : Turn) (before : ConnectionState) (events : List Event) → ReadsSo most turn s piece now left' read_mark
+      → FollowsSo most turn before (events ++ receives piece ∷ []) with_piece now left' read_mark write_mark
   follows_read GoesOn before events h = (h.1, inr (inl (λ e. h.0 (behind_nothing (received events) piece (sym (flat-more piece_of events (receives piece)) ∙ e)))))
   follows_read Waits before events h = (h.2 ∙ nothing_came h.1, inr (h.0, idle h.2))
   follows_read NeedsRoom before events h = (h.1 ∙ nothing_came h.0, subst (λ (t : ConnectionState). most ≤ length t.held) (sym h.1) h.2, idle h.1)
@@ -143,7 +150,8 @@ module _ (most : ℕ) (s now : ConnectionState) (piece : List ℕ) (left' : Opti
   receives_so = record { goes_on = quiet.goes_on; all_sent = quiet.sent; after = refl }
 
 -- what is sent, and then what is answered
-pub turn_on : (limit : ℕ) (reading : Reading) (old new : ServiceState) (before mid after : ConnectionState) (left written written' : Option (List ℕ)) (bytes : List ℕ) (events : List Event) → Sends before bytes mid
+pub turn_on : (limit : ℕ) (reading : Reading) (old new : ServiceState) (before mid after : ConnectionState) (left written written' : Option (List ℕ)) (bytes : List ℕ) (events : List Event)
+    → Sends before bytes mid
     → Appends written written' bytes → AreAnswers limit reading old new mid after events → IsTurn limit reading old new before after left left written written' (sends bytes ∷ events)
 turn_on limit reading old new before mid after left written written' bytes events s w a =
     turn_then limit reading old old new before mid after left left left written written' written' (sends bytes ∷ []) events (turn_sent limit reading old before mid left written written' bytes s w)

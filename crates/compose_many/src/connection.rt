@@ -43,7 +43,13 @@ impl Model for Connection {
 
     ghost Value = { ConnectionState };
 
-    ghost view = { λ c. record { held = c.feeder; unsent = c.unsent.items; answered = c.answered; refused = c.refused } };
+    ghost view = { λ c. record {
+      held = c.feeder;
+      unsent = c.unsent.items;
+      answered =
+          c.answered;
+      refused = c.refused;
+    } };
 }
 
 impl Connection {
@@ -84,7 +90,8 @@ impl Connection {
 
     /// Puts a piece that came behind what is held; where there is no memory for it, nothing changes.
     pub(crate) fn receive(&mut self, piece: &[u8]) -> Result<(), WireFault>
-        ensures ok { OnOk result (self.new ≡ record self.old { held = self.old.held ++ piece.now }) }
+        ensures ok { OnOk result
+            (self.new ≡ record self.old { held = self.old.held ++ piece.now }) }
         ensures err { OnErr result (piece.now ≢ []) }
     {
         self.feeder.feed(piece)
@@ -108,7 +115,8 @@ impl Connection {
         limit: usize,
     ) -> Result<(), Stop>
         requires { self.old.refused ≡ false }
-        ensures { NextSo limit S.reading (S.state service.old) (S.state service.new) self.old self.new result }
+        ensures { NextSo limit S.reading (S.state service.old)
+            (S.state service.new) self.old self.new result }
     {
         if self.unsent.len() >= limit {
             return Err(Stop::Full);
@@ -143,7 +151,8 @@ impl Connection {
         limit: usize,
     ) -> Stop
         requires { self.old.refused ≡ false }
-        ensures { AnswersSo limit S.reading (S.state service.old) (S.state service.new) self.old self.new result }
+        ensures { AnswersSo limit S.reading (S.state service.old)
+            (S.state service.new) self.old self.new result }
     {
         'answers: loop {
             match self.answer_next(service, alloc, limit) {

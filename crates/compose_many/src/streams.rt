@@ -24,7 +24,8 @@ pub trait TryPull {
     ///
     /// WouldBlock where there are none for now, Failed where it cannot: it is marked so, and no byte is gone.
     fn try_pull(&mut self, piece: &mut [u8]) -> Result<usize, TryError>
-        ensures { TryPulls (left self.old) (left self.new) (mark self.old) (mark self.new) result piece.new };
+        ensures { TryPulls (left self.old) (left self.new) (mark self.old)
+            (mark self.new) result piece.new };
 }
 
 /// What bytes are pushed to, without waiting.
@@ -39,5 +40,6 @@ pub trait TryPush {
     ///
     /// WouldBlock where it takes none for now, Failed where it cannot: it is marked so, and has taken none.
     fn try_push(&mut self, piece: &[u8]) -> Result<usize, TryError>
-        ensures { TryPushes (written self.old) (written self.new) (mark self.old) (mark self.new) result piece.now };
+        ensures { TryPushes (written self.old) (written self.new) (mark self.old)
+            (mark self.new) result piece.now };
 }

@@ -54,9 +54,14 @@ pub fn take_turn<S: Answer, R: TryPull, W: TryPush>(
     reader: &mut R,
     writer: &mut W,
 ) -> Turn
-    ensures turn { TurnSo limits S.reading result (S.state service.old) (S.state service.new) connection.old connection.new (R.left reader.old) (R.left reader.new) (W.written writer.old) (W.written writer.new) (R.mark reader.new) (W.mark writer.new) }
-    ensures read_mark { result ≢ Turn.Waits → result ≢ Turn.Ends (Err ServeFault.Read) → R.mark reader.new ≡ R.mark reader.old }
-    ensures write_mark { result ≢ Turn.Waits → result ≢ Turn.Ends (Err ServeFault.Write) → W.mark writer.new ≡ W.mark writer.old }
+    ensures turn { TurnSo limits S.reading result (S.state service.old)
+        (S.state service.new) connection.old connection.new (R.left reader.old)
+        (R.left reader.new) (W.written writer.old) (W.written writer.new) (R.mark reader.new)
+        (W.mark writer.new) }
+    ensures read_mark { result ≢ Turn.Waits → result ≢ Turn.Ends (Err ServeFault.Read)
+        → R.mark reader.new ≡ R.mark reader.old }
+    ensures write_mark { result ≢ Turn.Waits → result ≢ Turn.Ends (Err ServeFault.Write)
+        → W.mark writer.new ≡ W.mark writer.old }
 {
     if let Some(turn) = send(connection, writer) {
         return turn;
@@ -78,8 +83,11 @@ pub fn take_turn<S: Answer, R: TryPull, W: TryPush>(
 
 /// Sends what is unsent, as far as the stream takes it at once; None where all is sent.
 fn send<W: TryPush>(connection: &mut Connection, writer: &mut W) -> Option<Turn>
-    ensures so { (bytes : List ℕ) × Sends connection.old bytes connection.new × Appends (W.written writer.old) (W.written writer.new) bytes × SendsSo result bytes connection.new (W.mark writer.new) }
-    ensures mark { result ≢ Some Turn.Waits → result ≢ Some (Turn.Ends (Err ServeFault.Write)) → W.mark writer.new ≡ W.mark writer.old }
+    ensures so { (bytes : List ℕ) × Sends connection.old bytes connection.new
+        × Appends (W.written writer.old) (W.written writer.new) bytes
+        × SendsSo result bytes connection.new (W.mark writer.new) }
+    ensures mark { result ≢ Some Turn.Waits → result ≢ Some (Turn.Ends (Err ServeFault.Write))
+        → W.mark writer.new ≡ W.mark writer.old }
 {
     if connection.unsent().is_empty() {
         return None;
@@ -97,8 +105,12 @@ fn send<W: TryPush>(connection: &mut Connection, writer: &mut W) -> Option<Turn>
 
 /// Reads a piece, unless as much is held as may be.
 fn read<R: TryPull>(connection: &mut Connection, reader: &mut R, most: usize) -> Turn
-    ensures so { (piece : List ℕ) × Consumes (R.left reader.old) (R.left reader.new) piece × IsRoomFor most connection.old.held piece × ReadsSo most result connection.old piece connection.new (R.left reader.new) (R.mark reader.new) }
-    ensures mark { result ≢ Turn.Waits → result ≢ Turn.Ends (Err ServeFault.Read) → R.mark reader.new ≡ R.mark reader.old }
+    ensures so { (piece : List ℕ) × Consumes (R.left reader.old) (R.left reader.new) piece
+        × IsRoomFor most connection.old.held piece
+        × ReadsSo most result connection.old piece connection.new (R.left reader.new)
+        (R.mark reader.new) }
+    ensures mark { result ≢ Turn.Waits → result ≢ Turn.Ends (Err ServeFault.Read)
+        → R.mark reader.new ≡ R.mark reader.old }
 {
     if connection.held() >= most {
         return Turn::NeedsRoom;

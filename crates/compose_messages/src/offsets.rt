@@ -58,7 +58,8 @@ fn valid_len(line: &[u8]) -> usize
 
 /// The offset of the fault of a line.
 fn lex_offset(line: &[u8], fault: &LexFault) -> usize
-    ensures { min result (length line.now) ≡ min (places.lex_offset line.now fault.now) (length line.now) }
+    ensures { min result (length line.now)
+        ≡ min (places.lex_offset line.now fault.now) (length line.now) }
 {
     match fault {
         LexFault::BadToken { at }
@@ -75,7 +76,8 @@ fn lex_offset(line: &[u8], fault: &LexFault) -> usize
 
 /// The offset of the event with this index, or of the result keysym.
 fn keysym_offset(line: &[u8], index: usize) -> usize
-    ensures { min result (length line.now) ≡ min (places.keysym_offset line.now index) (length line.now) }
+    ensures { min result (length line.now)
+        ≡ min (places.keysym_offset line.now index) (length line.now) }
 {
     let mut events = ArrayVec::new();
     match lex_line_into(text_or_nothing(line), &mut events) {
@@ -87,7 +89,8 @@ fn keysym_offset(line: &[u8], index: usize) -> usize
 
 /// The offset of the name of the result keysym.
 fn result_offset(line: &[u8], raw_text: Option<&str>) -> usize
-    ensures { min result (length line.now) ≡ min (places.result_offset line.now (option_copied raw_text.entry)) (length line.now) }
+    ensures { min result (length line.now)
+        ≡ min (places.result_offset line.now (option_copied raw_text.entry)) (length line.now) }
 {
     let end = text_end(line, raw_text);
     if end >= line.len() {
@@ -98,7 +101,8 @@ fn result_offset(line: &[u8], raw_text: Option<&str>) -> usize
 
 /// The offset of the end of the string, or of the colon.
 fn text_end(line: &[u8], raw_text: Option<&str>) -> usize
-    ensures { min result (length line.now) ≡ min (places.text_end line.now (option_copied raw_text.entry)) (length line.now) }
+    ensures { min result (length line.now)
+        ≡ min (places.text_end line.now (option_copied raw_text.entry)) (length line.now) }
 {
     match raw_text {
         Some(raw) => first_of(b'"', line)

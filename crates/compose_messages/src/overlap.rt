@@ -13,7 +13,8 @@ pub fn overlap_words(
     short: &[Keysym],
     long: &[Keysym],
 ) -> Result<String, AllocError>
-    ensures { IfOk result (λ text. string_bytes text ≡ overlaps.overlap_said names.now short.now long.now) }
+    ensures { IfOk result
+        (λ text. string_bytes text ≡ overlaps.overlap_said names.now short.now long.now) }
 {
     let mut text = String::from_str(alloc, "the sequence")?;
     push_events(alloc, &mut text, names, short)?;
@@ -29,7 +30,8 @@ fn push_events(
     names: &Names,
     sequence: &[Keysym],
 ) -> Result<(), AllocError>
-    ensures { OnOk result (string_bytes text.new ≡ string_bytes text.old ++ overlaps.events names.now sequence.now) }
+    ensures { OnOk result
+        (string_bytes text.new ≡ string_bytes text.old ++ overlaps.events names.now sequence.now) }
 {
     for keysym in sequence {
         push_event(alloc, text, names, *keysym)?;
@@ -44,7 +46,8 @@ fn push_event(
     names: &Names,
     keysym: Keysym,
 ) -> Result<(), AllocError>
-    ensures { OnOk result (string_bytes text.new ≡ string_bytes text.old ++ overlaps.event names.now keysym) }
+    ensures { OnOk result
+        (string_bytes text.new ≡ string_bytes text.old ++ overlaps.event names.now keysym) }
 {
     text.push_str(" <")?;
     push_name(alloc, text, names, keysym)?;
@@ -58,7 +61,8 @@ fn push_name(
     names: &Names,
     keysym: Keysym,
 ) -> Result<(), AllocError>
-    ensures { OnOk result (string_bytes text.new ≡ string_bytes text.old ++ printed names.now keysym) }
+    ensures { OnOk result
+        (string_bytes text.new ≡ string_bytes text.old ++ printed names.now keysym) }
 {
     match names.print(alloc, keysym) {
         Ok(name) => text.push_str(name.as_str()),

@@ -18,7 +18,8 @@ left key_names i d less =
     drop_more (map now_of key_names) i (now_of d) some ∙ ap (λ w. w ∷ drop (i + 1) (map now_of key_names)) (get_or-map now_of key_names i d (now_of d) less)
 
 -- one key name more that has a keysym
-pub keys_more : (names : KeysymNames) (key_names : List (Bor (List ℕ))) (i : ℕ) (d : Bor (List ℕ)) (keys : List ℕ) (k : ℕ) (all : List (Option ℕ)) → i < length key_names → Some k ≡ value names (now_of (get_or key_names i d))
+pub keys_more : (names : KeysymNames) (key_names : List (Bor (List ℕ))) (i : ℕ) (d : Bor (List ℕ)) (keys : List ℕ) (k : ℕ) (all : List (Option ℕ)) → i < length key_names
+    → Some k ≡ value names (now_of (get_or key_names i d))
     → map (λ k. Some k) keys ++ map (value names) (drop i (map now_of key_names)) ≡ all → map (λ k. Some k) (keys ++ k ∷ []) ++ map (value names) (drop (i + 1) (map now_of key_names)) ≡ all
 keys_more names key_names i d keys k all less is e =
     let rest = map (value names) (drop (i + 1) (map now_of key_names)) in
@@ -34,14 +35,17 @@ first_none [] rest = refl
 first_none (k ∷ keys) rest = ap (λ n. 1 + n) (first_none keys rest) ∙ next (length keys)
 
 is_shorter : (keys : List ℕ) (rest : List (Option ℕ)) → nat_lt (length keys) (length (map (λ k. Some k) keys ++ None ∷ rest)) ≡ true
-is_shorter keys rest = lt-ltb (length keys) (length (map (λ k. Some k) keys ++ None ∷ rest)) (omega (arith, length-append (map (λ (k : ℕ). Some k) keys) (None ∷ rest), length-map keys (λ (k : ℕ). Some k)))
+is_shorter keys rest =
+    lt-ltb (length keys) (length (map (λ k. Some k) keys ++ None ∷ rest)) (omega (arith, length-append (map (λ (k : ℕ). Some k) keys) (None ∷ rest), length-map keys (λ (k : ℕ). Some k)))
 
 -- the first key name that has none
-pub keys_stop : (names : KeysymNames) (key_names : List (Bor (List ℕ))) (i : ℕ) (d : Bor (List ℕ)) (keys : List ℕ) (all : List (Option ℕ)) → i < length key_names → None ≡ value names (now_of (get_or key_names i d))
+pub keys_stop : (names : KeysymNames) (key_names : List (Bor (List ℕ))) (i : ℕ) (d : Bor (List ℕ)) (keys : List ℕ) (all : List (Option ℕ)) → i < length key_names
+    → None ≡ value names (now_of (get_or key_names i d))
     → length keys ≡ i → map (λ k. Some k) keys ++ map (value names) (drop i (map now_of key_names)) ≡ all → all_there all ≡ Err i
 keys_stop names key_names i d keys all less is count e =
     let rest = map (value names) (drop (i + 1) (map now_of key_names)) in
-    let here : map (λ k. Some k) keys ++ None ∷ rest ≡ all = ap (λ v. map (λ k. Some k) keys ++ v ∷ rest) is ∙ ap (λ ws. map (λ k. Some k) keys ++ map (value names) ws) (sym (left key_names i d less)) ∙ e in
+    let here : map (λ k. Some k) keys ++ None ∷ rest ≡ all =
+    ap (λ v. map (λ k. Some k) keys ++ v ∷ rest) is ∙ ap (λ ws. map (λ k. Some k) keys ++ map (value names) ws) (sym (left key_names i d less)) ∙ e in
     let found : position is_none all ≡ Some i = ap (position is_none) (sym here)
     ∙ ap (λ n. cond (nat_lt n (length (map (λ k. Some k) keys ++ None ∷ rest))) (Some n) None) (first_none keys rest)
     ∙ ap (λ b. cond b (Some (length keys)) None) (is_shorter keys rest) ∙ ap (λ n. Some n) count in

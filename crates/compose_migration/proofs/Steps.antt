@@ -34,7 +34,8 @@ step_refused (faults.Table side fault) r f h = (h.0, ap (λ r. r >>= f) h.1, h.2
 step_refused faults.NoMemory r f h = tt
 
 -- an answer that is this fault gives what the fault gives
-pub fault_gives : {P A : Type 0} (reads : P → A → Type 0) (r : Result A MigrationFault) (fault : MigrationFault) (said : Result P NoMigration) → IsErrAnd r (λ e. e ≡ fault) → MigrationRefused fault said → MigrationGives reads r said
+pub fault_gives : {P A : Type 0} (reads : P → A → Type 0) (r : Result A MigrationFault) (fault : MigrationFault) (said : Result P NoMigration) → IsErrAnd r (λ e. e ≡ fault)
+    → MigrationRefused fault said → MigrationGives reads r said
 fault_gives reads (Ok x) fault said h g = absurd h
 fault_gives reads (Err e) fault said h g = subst (λ (x : MigrationFault). MigrationRefused x said) (sym h) g
 
@@ -45,7 +46,9 @@ module _ (header : List ℕ) (key_names : List (List ℕ)) (names : KeysymNames)
   with_keys keys = Ok (record { names = names; keys = keys })
 
   after_names : named header key_names ≡ (or_because no_key (keys_of names key_names) >>= with_keys)
-  after_names = ap (λ r. r >>= (λ n. or_because no_key (keys_of n key_names) >>= (λ keys. (let p : NamedParts = record { names = n; keys = keys } in Ok p)))) (is_read (or_because no_names (names_of header)) names names_read)
+  after_names =
+      ap (λ r. r >>= (λ n. or_because no_key (keys_of n key_names) >>= (λ keys. (let p : NamedParts = record { names = n; keys = keys } in Ok p))))
+      (is_read (or_because no_names (names_of header)) names names_read)
 
   pub keys_refused : (fault : MigrationFault) → MigrationRefused fault (or_because no_key (keys_of names key_names)) → MigrationRefused fault (named header key_names)
   keys_refused fault h = subst (λ (s : Result NamedParts NoMigration). MigrationRefused fault s) (sym after_names) (step_refused fault (or_because no_key (keys_of names key_names)) with_keys h)
@@ -60,7 +63,12 @@ module _ (given : GivenMigration) (n : NamedParts) (n_read : IsRead (named given
   with_old old = table_of_side n.names sides.New given.new >>= with_new old
 
   after_named : migration_of given ≡ (table_of_side n.names sides.Old given.old >>= with_old)
-  after_named = ap (λ r. r >>= (λ m. table_of_side m.names sides.Old given.old >>= (λ old. table_of_side m.names sides.New given.new >>= (λ new. (let p : Parts = record { names = m.names; keys = m.keys; old = old; new = new } in Ok p))))) (is_read (named given.header given.key_names) n n_read)
+  after_named =
+      ap
+      (λ r. r >>=
+      (λ m. table_of_side m.names sides.Old given.old >>=
+      (λ old. table_of_side m.names sides.New given.new >>= (λ new. (let p : Parts = record { names = m.names; keys = m.keys; old = old; new = new } in Ok p)))))
+      (is_read (named given.header given.key_names) n n_read)
 
   pub old_refused : (fault : MigrationFault) → MigrationRefused fault (table_of_side n.names sides.Old given.old) → MigrationRefused fault (migration_of given)
   old_refused fault h = subst (λ (s : Result Parts NoMigration). MigrationRefused fault s) (sym after_named) (step_refused fault (table_of_side n.names sides.Old given.old) with_old h)

@@ -40,5 +40,6 @@ why_none fault (Ok table) h = absurd (is_read fault table h)
 why_none fault (Err why) h = (why, refl, h)
 
 -- the same of a side
-pub side_refused : (side : Side) (fault : TableFault) (said : Result (List Definition) NoTable) → TableFails fault said → (why : NoTable) × (or_because (no_table side) said ≡ Err (no_table side why)) × TableFails fault (Err why)
+pub side_refused : (side : Side) (fault : TableFault) (said : Result (List Definition) NoTable) → TableFails fault said
+    → (why : NoTable) × (or_because (no_table side) said ≡ Err (no_table side why)) × TableFails fault (Err why)
 side_refused side fault said h = let none = why_none fault said h in (none.0, ap (or_because (no_table side)) none.1, none.2)

@@ -45,7 +45,8 @@ impl Named {
     /// Reads the names of a header, which is added to the core names, and the keysyms of the key names by them; the first that is refused
     /// decides. O(bytes).
     pub fn read(alloc: Global, header: &[u8], key_names: &[&str]) -> Result<Named, MigrationFault>
-        ensures { MigrationGives (λ said read. said ≡ named_parts read) result (named header.now (map (λ key_name. key_name.now) key_names.now)) }
+        ensures { MigrationGives (λ said read. said ≡ named_parts read) result
+            (named header.now (map (λ key_name. key_name.now) key_names.now)) }
     {
         let names = read_names(alloc, header)?;
         let keys = read_keys(alloc, &names, key_names)?;
@@ -70,7 +71,8 @@ impl<T: ComposeTable> Migration<T> {
         alloc: Global,
         input: &MigrationInput<'_, '_>,
     ) -> Result<Migration<T>, MigrationFault>
-        ensures { MigrationGives (λ said read. said ≡ parts T.definitions read) result (migration_of (given_of input.entry.now)) }
+        ensures { MigrationGives (λ said read. said ≡ parts T.definitions read) result
+            (migration_of (given_of input.entry.now)) }
     {
         let named = Named::read(alloc, input.header, input.key_names)?;
         let old = read_side(alloc, &named.names, Side::Old, &input.old)?;
@@ -86,7 +88,8 @@ impl<T: ComposeTable> Migration<T> {
 
 /// The names of a header.
 fn read_names(alloc: Global, header: &[u8]) -> Result<Names, MigrationFault>
-    ensures { MigrationGives (λ said names. said ≡ names) result (or_because no_names (names_of header.now)) }
+    ensures { MigrationGives (λ said names. said ≡ names) result
+        (or_because no_names (names_of header.now)) }
 {
     match Names::read(alloc, header) {
         Ok(names) => Ok(names),
@@ -101,7 +104,8 @@ fn read_keys(
     names: &Names,
     key_names: &[&str],
 ) -> Result<Vec<Keysym>, MigrationFault>
-    ensures { MigrationGives (λ said keys. said ≡ keys.items) result (or_because no_key (keys_of names.now (map (λ key_name. key_name.now) key_names.now))) }
+    ensures { MigrationGives (λ said keys. said ≡ keys.items) result
+        (or_because no_key (keys_of names.now (map (λ key_name. key_name.now) key_names.now))) }
 {
     match look_up_keys(alloc, names, key_names) {
         Ok(keys) => Ok(keys),
@@ -117,7 +121,9 @@ fn read_side<T: ComposeTable>(
     side: Side,
     input: &TableInput<'_>,
 ) -> Result<T, MigrationFault>
-    ensures { MigrationGives (λ said table. said ≡ T.definitions table) result (or_because (no_table side) (first_table names.now input.entry.now.sources.now input.entry.now.rule)) }
+    ensures { MigrationGives (λ said table. said ≡ T.definitions table) result
+        (or_because (no_table side)
+        (first_table names.now input.entry.now.sources.now input.entry.now.rule)) }
 {
     match read_first_table(alloc, names, input.sources, input.rule) {
         Ok(table) => Ok(table),

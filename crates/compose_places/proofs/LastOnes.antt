@@ -24,9 +24,11 @@ last_from-append : (n : ℕ) (table : List Definition) (d : Definition) (v : Lis
 last_from-append n [] d v = let none : n ≡ n + 0 = omega arith in ap (λ m. cond (same v d.sequence) (Some m) None) none
 last_from-append n (c ∷ table) d v =
     let one : 1 + n + length table ≡ n + length (c ∷ table) = omega arith in
-    ap (λ o. option_or o (cond (same v c.sequence) (Some n) None)) (last_from-append (1 + n) table d v) ∙ outside (same v d.sequence) ∙ ap (λ m. cond (same v d.sequence) (Some m) (last_from n (c ∷ table) v)) one
+    ap (λ o. option_or o (cond (same v c.sequence) (Some n) None)) (last_from-append (1 + n) table d v) ∙ outside (same v d.sequence)
+    ∙ ap (λ m. cond (same v d.sequence) (Some m) (last_from n (c ∷ table) v)) one
   where
-    outside : (b : Bool) → option_or (cond b (Some (1 + n + length table)) (last_from (1 + n) table v)) (cond (same v c.sequence) (Some n) None) ≡ cond b (Some (1 + n + length table)) (last_from n (c ∷ table) v)
+    outside : (b : Bool)
+        → option_or (cond b (Some (1 + n + length table)) (last_from (1 + n) table v)) (cond (same v c.sequence) (Some n) None) ≡ cond b (Some (1 + n + length table)) (last_from n (c ∷ table) v)
     outside true = refl
     outside false = refl
 
@@ -75,7 +77,8 @@ module _ {Y : Type 0} (f g : List ℕ → Y) (p : List ℕ) (others : (x : List 
 
 -- ---- one more is read
 
-module _ (table definitions : List Definition) (i : ℕ) (sequence : List ℕ) (within : i < length definitions) (at : option_map (λ (d : Definition). d.sequence) (slice_get definitions i) ≡ Some sequence) where
+module _ (table definitions : List Definition) (i : ℕ) (sequence : List ℕ) (within : i < length definitions)
+    (at : option_map (λ (d : Definition). d.sequence) (slice_get definitions i) ≡ Some sequence) where
   abbrev before : List ℕ → Option ℕ
   before = last_with (take i definitions)
 

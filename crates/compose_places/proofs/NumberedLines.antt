@@ -23,7 +23,8 @@ module _ (sources : List Source) (place : DefinitionPlace) where
     line_is : line_at sources place ≡ numbered_from_one (source_lines bytes) place.line
     line_is = go (slice_get sources place.source) is
       where
-        go : (o : Option Source) → option_map (λ (s : Source). s.bytes) o ≡ Some bytes → option_and_then (λ (s : Source). numbered_from_one (source_lines s.bytes) place.line) o ≡ numbered_from_one (source_lines bytes) place.line
+        go : (o : Option Source) → option_map (λ (s : Source). s.bytes) o ≡ Some bytes
+            → option_and_then (λ (s : Source). numbered_from_one (source_lines s.bytes) place.line) o ≡ numbered_from_one (source_lines bytes) place.line
         go None e = cc
         go (Some s) e = ap (λ bs. numbered_from_one (source_lines bs) place.line) (same_Some s.bytes bytes e)
 

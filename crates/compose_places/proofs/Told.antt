@@ -30,13 +30,16 @@ module _ (names : KeysymNames) (sources : List Source) where
   told : (v : Visit) → is_ok (line_gives names sources v) ≡ true → IsTold (says_definition v.bytes) (line_gives names sources v)
   told v h = by_text (is_utf8 v.bytes) (reading_of v.bytes) h
     where
-      by_include : (missing room : Bool) → is_ok (let r : Result (Option Definition) ReadFault = cond missing (Err (faults.MissingInclude v.source v.line)) (cond room (Ok None) (Err (faults.IncludeDepth v.source v.line))) in r) ≡ true
+      by_include : (missing room : Bool)
+          → is_ok (let r : Result (Option Definition) ReadFault = cond missing (Err (faults.MissingInclude v.source v.line)) (cond room (Ok None) (Err (faults.IncludeDepth v.source v.line))) in r)
+          ≡ true
           → IsTold false (cond missing (Err (faults.MissingInclude v.source v.line)) (cond room (Ok None) (Err (faults.IncludeDepth v.source v.line))))
       by_include true room h = cc
       by_include false true h = tt
       by_include false false h = cc
 
-      by_definition : (r : Result Definition ReadFault) → is_ok (r >>= (λ d. let x : Result (Option Definition) ReadFault = Ok (Some d) in x)) ≡ true → IsTold true (r >>= (λ d. let x : Result (Option Definition) ReadFault = Ok (Some d) in x))
+      by_definition : (r : Result Definition ReadFault) → is_ok (r >>= (λ d. let x : Result (Option Definition) ReadFault = Ok (Some d) in x)) ≡ true
+          → IsTold true (r >>= (λ d. let x : Result (Option Definition) ReadFault = Ok (Some d) in x))
       by_definition (Ok d) h = tt
       by_definition (Err e) h = cc
 
@@ -82,19 +85,22 @@ module _ (names : KeysymNames) (sources : List Source) where
   few [] lines definitions table h l = omega (arith, l)
   few (v ∷ vs) lines definitions table h l = by_many (λ n m t e k. few vs n m t e k) (nat_le max_lines lines) refl h
     where
-      by_others : AreFew vs → (found : Option Definition) (r : Result (List Definition) ReadFault) → read_on names sources (1 + lines) (length (option_to_list found) + definitions) vs ≡ r → nat_le max_lines lines ≡ false
+      by_others : AreFew vs → (found : Option Definition) (r : Result (List Definition) ReadFault) → read_on names sources (1 + lines) (length (option_to_list found) + definitions) vs ≡ r
+          → nat_le max_lines lines ≡ false
           → (r >>= (λ t. Ok (option_to_list found ++ t))) ≡ Ok table → lines + length (v ∷ vs) ≤ max_lines
       by_others others found (Err f) e less h = cc
       by_others others found (Ok t) e less h =
           let more = others (1 + lines) (length (option_to_list found) + definitions) t e (omega (arith, leb-false max_lines lines less)) in omega (arith, more)
 
       by_found : AreFew vs → (r : Result (Option Definition) ReadFault) → nat_le max_lines lines ≡ false
-          → (r >>= (λ found. read_on names sources (1 + lines) (length (option_to_list found) + definitions) vs >>= (λ t. Ok (option_to_list found ++ t)))) ≡ Ok table → lines + length (v ∷ vs) ≤ max_lines
+          → (r >>= (λ found. read_on names sources (1 + lines) (length (option_to_list found) + definitions) vs >>= (λ t. Ok (option_to_list found ++ t)))) ≡ Ok table
+          → lines + length (v ∷ vs) ≤ max_lines
       by_found others (Err f) less h = cc
       by_found others (Ok found) less h = by_others others found (read_on names sources (1 + lines) (length (option_to_list found) + definitions) vs) refl less h
 
       by_many : AreFew vs → (many : Bool) → nat_le max_lines lines ≡ many
-          → (cond many (Err (faults.TooManyLines v.source v.line)) (line_gives names sources v >>= with_room v definitions) >>= (λ found. read_on names sources (1 + lines) (length (option_to_list found) + definitions) vs >>= (λ t. Ok (option_to_list found ++ t)))) ≡ Ok table
+          → (cond many (Err (faults.TooManyLines v.source v.line)) (line_gives names sources v >>= with_room v definitions) >>=
+          (λ found. read_on names sources (1 + lines) (length (option_to_list found) + definitions) vs >>= (λ t. Ok (option_to_list found ++ t)))) ≡ Ok table
           → lines + length (v ∷ vs) ≤ max_lines
       by_many others true e h = cc
       by_many others false e h = by_found others (line_gives names sources v >>= with_room v definitions) e h
@@ -106,7 +112,8 @@ module _ (names : KeysymNames) (sources : List Source) where
         all : List Visit
         all = visits sources (source_named sources root)
 
-        go : (there : Bool) → cond there (read_on names sources 0 0 all) (Err faults.MissingRoot) ≡ Ok table → map (line_gives names sources) (cond there (said_lines (take max_lines all)) []) ≡ each table
+        go : (there : Bool) → cond there (read_on names sources 0 0 all) (Err faults.MissingRoot) ≡ Ok table
+            → map (line_gives names sources) (cond there (said_lines (take max_lines all)) []) ≡ each table
         go false h = cc
         go true h =
             let read = read_to_end names sources all 0 0 table h in let no_more = few all 0 0 table h (omega arith) in

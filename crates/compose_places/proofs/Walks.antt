@@ -31,7 +31,9 @@ some_keys (k ∷ s) few fed short h = refl
 no_empty : (table : List Definition) → is_table table ≡ true → is_sequence table [] ≡ false
 no_empty [] h = refl
 no_empty (d ∷ table) h =
-    let parts = and_parts (is_definition d) (is_table table) h in ap (λ b. b || is_sequence table []) (some_keys d.sequence (nat_le (length d.sequence) 32) (list_all (λ k. is_keysym k && not (is_ignored k)) d.sequence) (nat_le (length d.text) 255) parts.0) ∙ no_empty table parts.1
+    let parts =
+    and_parts (is_definition d)
+    (is_table table) h in ap (λ b. b || is_sequence table []) (some_keys d.sequence (nat_le (length d.sequence) 32) (list_all (λ k. is_keysym k && not (is_ignored k)) d.sequence) (nat_le (length d.text) 255) parts.0) ∙ no_empty table parts.1
 
 module _ (table : List Definition) (settled : IsSettled table) (s : List ℕ) where
   -- what no sequence goes on from, begins no other one

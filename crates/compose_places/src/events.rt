@@ -17,7 +17,8 @@ type Events<'a> = ArrayVec<&'a str, 32>;
 /// The names of the events of the definition at this place, as its line writes them between `<` and `>`; none where no such line is there, or it
 /// reads as no production. O(bytes of the source up to the end of the line).
 pub fn written_events<'a>(sources: &'a Sources, place: DefinitionPlace) -> Option<Events<'a>>
-    ensures { option_map (λ events. map (λ e. e.now) events.items) result ≡ written_events sources.now place }
+    ensures { option_map (λ events. map (λ e. e.now) events.items) result
+        ≡ written_events sources.now place }
 {
     line_events(line_at(sources, place)?)
 }

@@ -18,7 +18,8 @@ pub fn last_definitions<T: ComposeTable>(
     definitions: &Definitions,
     table: &T,
 ) -> Result<Vec<Option<u32>>, AllocError>
-    ensures { IfOk result (λ last. last.items ≡ map (last_with definitions.now) (leaves (T.definitions table.now))) }
+    ensures { IfOk result
+        (λ last. last.items ≡ map (last_with definitions.now) (leaves (T.definitions table.now))) }
 {
     // The contract of this call says that the table is settled.
     let _ = table.node_count();
@@ -45,7 +46,9 @@ fn no_definitions(alloc: Global, leaves: u32) -> Result<Vec<Option<u32>>, AllocE
 /// The leaf with this sequence, if the table has it. O(keysyms × log edges of a node).
 fn leaf_of<T: ComposeTable>(table: &T, sequence: &[Keysym]) -> Option<LeafId>
     requires { IsSettled (T.definitions table.now) }
-    ensures { MatchOption result (is_sequence (T.definitions table.now) sequence.now ≡ false) (λ leaf. (is_sequence (T.definitions table.now) sequence.now ≡ true) × (leaf_number (T.definitions table.now) sequence.now ≡ leaf.0)) }
+    ensures { MatchOption result (is_sequence (T.definitions table.now) sequence.now ≡ false)
+        (λ leaf. (is_sequence (T.definitions table.now) sequence.now ≡ true)
+        × (leaf_number (T.definitions table.now) sequence.now ≡ leaf.0)) }
 {
     let mut node = NodeId::ROOT;
     for (index, keysym) in sequence.iter().enumerate() {

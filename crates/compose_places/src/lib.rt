@@ -30,6 +30,11 @@ pub use places::{DefinitionPlace, definition_places};
 /// Where a table is read without a fault, there are as many places as definitions, and the line of each place gives the definition of the
 /// same index.
 pub fn law_places()
-    ensures lines { (names : KeysymNames) (sources : List Source) (root : List ℕ) (table : List Definition) → definitions_of names sources root ≡ Ok table → map (line_gives names sources) (definition_lines sources root) ≡ map (λ d. Ok (Some d)) table }
-    ensures as_many { (names : KeysymNames) (sources : List Source) (root : List ℕ) (table : List Definition) → definitions_of names sources root ≡ Ok table → length (definition_places sources root) ≡ length table }
+    ensures lines { (names : KeysymNames) (sources : List Source) (root : List ℕ)
+        (table : List Definition) → definitions_of names sources root ≡ Ok table
+        → map (line_gives names sources) (definition_lines sources root)
+        ≡ map (λ d. Ok (Some d)) table }
+    ensures as_many { (names : KeysymNames) (sources : List Source) (root : List ℕ)
+        (table : List Definition) → definitions_of names sources root ≡ Ok table
+        → length (definition_places sources root) ≡ length table }
 {}

@@ -38,7 +38,9 @@ pub fn definition_places(
 
 /// Where the definitions among these lines stand, of which 1,000,000 are read at most.
 fn places_in(alloc: Global, mut visits: Visits<'_>) -> Result<Vec<DefinitionPlace>, AllocError>
-    ensures { IfOk result (λ places. places.items ≡ map place_of (filter (λ v. says_definition v.bytes) (take max_lines visits.entry))) }
+    ensures { IfOk result
+        (λ places. places.items
+        ≡ map place_of (filter (λ v. says_definition v.bytes) (take max_lines visits.entry))) }
 {
     let mut places = Vec::new(alloc);
     let mut lines = 0;

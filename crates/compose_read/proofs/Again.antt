@@ -56,7 +56,8 @@ module _ (names : KeysymNames) (sources : List Source) (v w : Visit) where
       follows_then (event_keysym v index (value names event)) (event_keysym w index (value names event))
       (λ k. sequence_of names v (1 + index) events >>= (λ sequence. Ok (k ∷ sequence))) (λ k. sequence_of names w (1 + index) events >>= (λ sequence. Ok (k ∷ sequence)))
       (event_again index (value names event))
-      (λ k. follows_then (sequence_of names v (1 + index) events) (sequence_of names w (1 + index) events) (λ sequence. Ok (k ∷ sequence)) (λ sequence. Ok (k ∷ sequence)) (sequence_again (1 + index) events) (λ _. refl))
+      (λ k. follows_then (sequence_of names v (1 + index) events) (sequence_of names w (1 + index) events) (λ sequence. Ok (k ∷ sequence)) (λ sequence. Ok (k ∷ sequence))
+      (sequence_again (1 + index) events) (λ _. refl))
 
   string_again : (raw : Option (List ℕ)) → Follows (string_text v raw) (string_text w raw)
   string_again None = refl
@@ -66,7 +67,9 @@ module _ (names : KeysymNames) (sources : List Source) (v w : Visit) where
   result_again events None = refl
   result_again events (Some name) = go (value names name)
     where
-      go : (o : Option ℕ) → Follows {A = List ℕ} (option_map_or (λ k. Ok (text names k)) o (Err (faults.UnknownKeysym v.source v.line events))) (option_map_or (λ k. Ok (text names k)) o (Err (faults.UnknownKeysym w.source w.line events)))
+      go : (o : Option ℕ)
+          → Follows {A = List ℕ} (option_map_or (λ k. Ok (text names k)) o (Err (faults.UnknownKeysym v.source v.line events)))
+          (option_map_or (λ k. Ok (text names k)) o (Err (faults.UnknownKeysym w.source w.line events)))
       go None = tt
       go (Some k) = refl
 
@@ -77,18 +80,22 @@ module _ (names : KeysymNames) (sources : List Source) (v w : Visit) where
     definition_again : Follows (definition_of names v events raw name) (definition_of names w events raw name)
     definition_again =
         follows_then (sequence_of names v 0 events) (sequence_of names w 0 events)
-        (λ sequence. string_text v raw >>= (λ string. result_text names v (length events) name >>= made sequence string)) (λ sequence. string_text w raw >>= (λ string. result_text names w (length events) name >>= made sequence string))
+        (λ sequence. string_text v raw >>= (λ string. result_text names v (length events) name >>= made sequence string))
+        (λ sequence. string_text w raw >>= (λ string. result_text names w (length events) name >>= made sequence string))
         (sequence_again 0 events)
         (λ sequence. follows_then (string_text v raw) (string_text w raw)
         (λ string. result_text names v (length events) name >>= made sequence string) (λ string. result_text names w (length events) name >>= made sequence string) (string_again raw)
-        (λ string. follows_then (result_text names v (length events) name) (result_text names w (length events) name) (made sequence string) (made sequence string) (result_again (length events) name) (λ _. refl)))
+        (λ string. follows_then (result_text names v (length events) name) (result_text names w (length events) name) (made sequence string) (made sequence string) (result_again (length events) name)
+        (λ _. refl)))
 
   module _ (shallow : w.depth ≤ v.depth) where
     include_again : (name : List ℕ) → Follows (include_fault sources v name) (include_fault sources w name)
-    include_again name = go (nat_lt (source_named sources name) (length sources)) (nat_lt v.depth 8) (nat_lt w.depth 8) (λ h. let l = ltb-true v.depth 8 h in lt-ltb w.depth 8 (omega (arith, l, shallow)))
+    include_again name =
+        go (nat_lt (source_named sources name) (length sources)) (nat_lt v.depth 8) (nat_lt w.depth 8) (λ h. let l = ltb-true v.depth 8 h in lt-ltb w.depth 8 (omega (arith, l, shallow)))
       where
         go : (known a b : Bool) → (a ≡ true → b ≡ true)
-            → Follows {A = Option Definition} (cond (not known) (Err (faults.MissingInclude v.source v.line)) (cond a (Ok None) (Err (faults.IncludeDepth v.source v.line)))) (cond (not known) (Err (faults.MissingInclude w.source w.line)) (cond b (Ok None) (Err (faults.IncludeDepth w.source w.line))))
+            → Follows {A = Option Definition} (cond (not known) (Err (faults.MissingInclude v.source v.line)) (cond a (Ok None) (Err (faults.IncludeDepth v.source v.line))))
+            (cond (not known) (Err (faults.MissingInclude w.source w.line)) (cond b (Ok None) (Err (faults.IncludeDepth w.source w.line))))
         go false a b h = tt
         go true false b h = tt
         go true true b h = ap (λ b. let r : Result (Option Definition) ReadFault = cond b (Ok None) (Err (faults.IncludeDepth w.source w.line)) in r) (h refl)
@@ -100,12 +107,16 @@ module _ (names : KeysymNames) (sources : List Source) (v w : Visit) where
         follows_then (definition_of names v events raw name) (definition_of names w events raw name) (λ d. Ok (Some d)) (λ d. Ok (Some d)) (definition_again events raw name) (λ _. refl)
 
     pub line_again : (bytes : List ℕ) → v.bytes ≡ bytes → w.bytes ≡ bytes → is_ok (line_gives names sources v) ≡ true → line_gives names sources w ≡ line_gives names sources v
-    line_again bytes a b = same_then (line_gives names sources v) (line_gives names sources w) (subst (λ bs. Follows (line_of v bs) (line_gives names sources w)) (sym a) (subst (λ bs. Follows (line_of v bytes) (line_of w bs)) (sym b) (by_utf8 (is_utf8 bytes))))
+    line_again bytes a b =
+        same_then (line_gives names sources v) (line_gives names sources w)
+        (subst (λ bs. Follows (line_of v bs) (line_gives names sources w)) (sym a) (subst (λ bs. Follows (line_of v bytes) (line_of w bs)) (sym b) (by_utf8 (is_utf8 bytes))))
       where
         line_of : Visit → List ℕ → Result (Option Definition) ReadFault
         line_of u bs = cond (is_utf8 bs) (at_line u (reading_of bs) >>= said names sources u) (Err (faults.NotUtf8 u.source u.line))
 
-        by_utf8 : (u : Bool) → Follows {A = Option Definition} (cond u (at_line v (reading_of bytes) >>= said names sources v) (Err (faults.NotUtf8 v.source v.line))) (cond u (at_line w (reading_of bytes) >>= said names sources w) (Err (faults.NotUtf8 w.source w.line)))
+        by_utf8 : (u : Bool)
+            → Follows {A = Option Definition} (cond u (at_line v (reading_of bytes) >>= said names sources v) (Err (faults.NotUtf8 v.source v.line)))
+            (cond u (at_line w (reading_of bytes) >>= said names sources w) (Err (faults.NotUtf8 w.source w.line)))
         by_utf8 false = tt
         by_utf8 true = follows_then (at_line v (reading_of bytes)) (at_line w (reading_of bytes)) (said names sources v) (said names sources w) (part_again (reading_of bytes)) said_again
 
@@ -114,7 +125,8 @@ none_included : (names : KeysymNames) (sources : List Source) (v : Visit) → v.
 none_included names sources v deep h = by_utf8 (is_utf8 v.bytes) h
   where
     by_known : (name : List ℕ) (known inside : Bool) → inside ≡ false
-        → is_ok (cond (not known) (Err (faults.MissingInclude v.source v.line)) (let r : Result (Option Definition) ReadFault = cond inside (Ok None) (Err (faults.IncludeDepth v.source v.line)) in r)) ≡ true
+        → is_ok (cond (not known) (Err (faults.MissingInclude v.source v.line)) (let r : Result (Option Definition) ReadFault = cond inside (Ok None) (Err (faults.IncludeDepth v.source v.line)) in r))
+        ≡ true
         → (let o : Option ℕ = cond known (Some (source_named sources name)) None in o) ≡ None
     by_known name false inside e h = refl
     by_known name true true e h = cc
@@ -126,7 +138,8 @@ none_included names sources v deep h = by_utf8 (is_utf8 v.bytes) h
     by_reading (Ok (production events raw name)) h = refl
     by_reading (Ok (include name)) h = by_known name (nat_lt (source_named sources name) (length sources)) (nat_lt v.depth 8) (ap (λ n. nat_lt n 8) deep) h
 
-    by_utf8 : (u : Bool) → is_ok (cond u (at_line v (reading_of v.bytes) >>= said names sources v) (Err (faults.NotUtf8 v.source v.line))) ≡ true → (let o : Option ℕ = cond u (included_by sources (reading_of v.bytes)) None in o) ≡ None
+    by_utf8 : (u : Bool) → is_ok (cond u (at_line v (reading_of v.bytes) >>= said names sources v) (Err (faults.NotUtf8 v.source v.line))) ≡ true
+        → (let o : Option ℕ = cond u (included_by sources (reading_of v.bytes)) None in o) ≡ None
     by_utf8 false h = refl
     by_utf8 true h = by_reading (reading_of v.bytes) h
 
@@ -165,7 +178,8 @@ module _ (names : KeysymNames) (sources : List Source) where
       }
 
   module _ (source depth other : ℕ) (f g : Visit → List Visit)
-      (one : (number : ℕ) (line : List ℕ) → Again (f (record { source = source; line = number; bytes = line; depth = depth })) (g (record { source = source; line = number; bytes = line; depth = other }))) where
+      (one : (number : ℕ) (line : List ℕ)
+      → Again (f (record { source = source; line = number; bytes = line; depth = depth })) (g (record { source = source; line = number; bytes = line; depth = other }))) where
     lines_again : (number : ℕ) (lines : List (List ℕ)) → Again (flat_map f (numbered source depth number lines)) (flat_map g (numbered source other number lines))
     lines_again number [] h = no_lines
     lines_again number (line ∷ lines) h =
@@ -181,17 +195,23 @@ module _ (names : KeysymNames) (sources : List Source) where
   line_below_again : (left other : ℕ) (v w : Visit) → w.depth ≤ v.depth → w.bytes ≡ v.bytes → ((source : ℕ) → Again (visits_below sources left source) (visits_below sources other source))
       → Again (below sources (suc left) v) (below sources (suc other) w)
   line_below_again left other v w d b deeper =
-      subst (λ o. Again (v ∷ option_map_or (visits_below sources left) (included sources v.bytes) []) (w ∷ option_map_or (visits_below sources other) o [])) (ap (included sources) (sym b)) (by_source (included sources v.bytes))
+      subst (λ o. Again (v ∷ option_map_or (visits_below sources left) (included sources v.bytes) []) (w ∷ option_map_or (visits_below sources other) o [])) (ap (included sources) (sym b))
+      (by_source (included sources v.bytes))
     where
       by_source : (o : Option ℕ) → Again (v ∷ option_map_or (visits_below sources left) o []) (w ∷ option_map_or (visits_below sources other) o [])
       by_source None = alone_again v w d b
       by_source (Some source) = behind (v ∷ []) (w ∷ []) (visits_below sources left source) (visits_below sources other source) (alone_again v w d b) (deeper source)
 
   by_lines : (left other source : ℕ)
-      → Again (flat_map (below sources left) (own_lines sources source (8 - left))) (flat_map (below sources other) (own_lines sources source (8 - other))) → Again (visits_below sources left source) (visits_below sources other source)
+      → Again (flat_map (below sources left) (own_lines sources source (8 - left))) (flat_map (below sources other) (own_lines sources source (8 - other)))
+      → Again (visits_below sources left source) (visits_below sources other source)
   by_lines left other source =
-      subst (λ vs. Again (flat_map (below sources left) (own_lines sources source (8 - left))) (flat_map (below sources other) (own_lines sources source (8 - other))) → Again vs (visits_below sources other source)) (sym (lines_below sources left source))
-      (subst (λ ws. Again (flat_map (below sources left) (own_lines sources source (8 - left))) (flat_map (below sources other) (own_lines sources source (8 - other))) → Again (flat_map (below sources left) (own_lines sources source (8 - left))) ws) (sym (lines_below sources other source)) (λ a. a))
+      subst
+      (λ vs. Again (flat_map (below sources left) (own_lines sources source (8 - left))) (flat_map (below sources other) (own_lines sources source (8 - other)))
+      → Again vs (visits_below sources other source)) (sym (lines_below sources left source))
+      (subst
+      (λ ws. Again (flat_map (below sources left) (own_lines sources source (8 - left))) (flat_map (below sources other) (own_lines sources source (8 - other)))
+      → Again (flat_map (below sources left) (own_lines sources source (8 - left))) ws) (sym (lines_below sources other source)) (λ a. a))
 
   abbrev lines_in : ℕ → List (List ℕ)
   lines_in source = source_lines (get_or sources source (record { name = []; bytes = [] })).bytes

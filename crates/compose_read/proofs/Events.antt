@@ -25,7 +25,8 @@ put_one : (ks : List ℕ) (k : ℕ) (r : Result (List ℕ) ReadFault) → put_pr
 put_one ks k (Ok s) = ap Ok (sym (append_assoc ks (k ∷ []) s))
 put_one ks k (Err e) = refl
 
-at_event : (events : List (Bor (List ℕ))) (index : ℕ) (d : Bor (List ℕ)) → index < length events → drop index (map (λ e. e.now) events) ≡ (get_or events index d).now ∷ drop (index + 1) (map (λ e. e.now) events)
+at_event : (events : List (Bor (List ℕ))) (index : ℕ) (d : Bor (List ℕ)) → index < length events
+    → drop index (map (λ e. e.now) events) ≡ (get_or events index d).now ∷ drop (index + 1) (map (λ e. e.now) events)
 at_event events index d l =
     let next : suc index ≡ index + 1 = omega arith in
     drop-cons (map (λ (e : Bor (List ℕ)). e.now) events) index [] (l_mapped events l)
@@ -35,7 +36,8 @@ at_event events index d l =
     l_mapped xs l = omega (arith, length-map xs (λ (e : Bor (List ℕ)). e.now))
 
 -- an event with a keysym puts it behind the others
-pub event_taken : (names : KeysymNames) (v : Visit) (events : List (Bor (List ℕ))) (ks : List ℕ) (index : ℕ) (d : Bor (List ℕ)) (k : ℕ) → index < length events → event_keysym v index (value names (get_or events index d).now) ≡ Ok k
+pub event_taken : (names : KeysymNames) (v : Visit) (events : List (Bor (List ℕ))) (ks : List ℕ) (index : ℕ) (d : Bor (List ℕ)) (k : ℕ) → index < length events
+    → event_keysym v index (value names (get_or events index d).now) ≡ Ok k
     → sequence_behind names v events ks index ≡ sequence_behind names v events (ks ++ k ∷ []) (index + 1)
 event_taken names v events ks index d k l f =
     ap (λ es. put_prefix ks (sequence_of names v index es)) (at_event events index d l)
@@ -44,7 +46,8 @@ event_taken names v events ks index d k l f =
     ∙ (let n : 1 + index ≡ index + 1 = omega arith in ap (λ m. put_prefix (ks ++ k ∷ []) (sequence_of names v m (drop (index + 1) (map (λ e. e.now) events)))) n)
 
 -- one without is the fault
-pub event_refused : (names : KeysymNames) (v : Visit) (events : List (Bor (List ℕ))) (ks : List ℕ) (index : ℕ) (d : Bor (List ℕ)) (fault : ReadFault) → index < length events → event_keysym v index (value names (get_or events index d).now) ≡ Err fault
+pub event_refused : (names : KeysymNames) (v : Visit) (events : List (Bor (List ℕ))) (ks : List ℕ) (index : ℕ) (d : Bor (List ℕ)) (fault : ReadFault) → index < length events
+    → event_keysym v index (value names (get_or events index d).now) ≡ Err fault
     → sequence_behind names v events ks index ≡ Err fault
 event_refused names v events ks index d fault l f =
     ap (λ es. put_prefix ks (sequence_of names v index es)) (at_event events index d l)

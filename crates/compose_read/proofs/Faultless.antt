@@ -32,7 +32,8 @@ module _ (names : KeysymNames) (sources : List Source) where
     by_others found (Err f) e h = cc
     by_others found (Ok t) e h = let o = others (1 + lines) (length (option_to_list found) + definitions) t e in (o.0, sym (ap in_ok h) ∙ ap (λ t. option_to_list found ++ t) o.1)
 
-    by_room : (d : Definition) (full : Bool) → (cond full (Err (faults.TooManyDefinitions v.source v.line)) (Ok (Some d)) >>= goes_on) ≡ Ok table → (are_faultless names sources vs ≡ true) × (table ≡ d ∷ given names sources vs)
+    by_room : (d : Definition) (full : Bool) → (cond full (Err (faults.TooManyDefinitions v.source v.line)) (Ok (Some d)) >>= goes_on) ≡ Ok table
+        → (are_faultless names sources vs ≡ true) × (table ≡ d ∷ given names sources vs)
     by_room d true h = cc
     by_room d false h = by_others (Some d) (read_on names sources (1 + lines) (1 + definitions) vs) refl h
 
@@ -44,7 +45,8 @@ module _ (names : KeysymNames) (sources : List Source) where
     by_line false (Ok (Some d)) h = by_room d (nat_le max_definitions definitions) h
 
   -- lines that are read to the end have no fault, and what is read is what they give
-  pub read_to_end : (vs : List Visit) (lines definitions : ℕ) (table : List Definition) → read_on names sources lines definitions vs ≡ Ok table → (are_faultless names sources vs ≡ true) × (table ≡ given names sources vs)
+  pub read_to_end : (vs : List Visit) (lines definitions : ℕ) (table : List Definition) → read_on names sources lines definitions vs ≡ Ok table
+      → (are_faultless names sources vs ≡ true) × (table ≡ given names sources vs)
   read_to_end [] lines definitions table h = (refl, sym (ap in_ok h))
   read_to_end (v ∷ vs) lines definitions table h = by_line v vs lines definitions table (λ n m t e. read_to_end vs n m t e) (nat_le max_lines lines) (line_gives names sources v) h
 
@@ -64,7 +66,8 @@ module _ (names : KeysymNames) (sources : List Source) where
   at_table ws lines table = with_prefix table (read_on names sources lines (length table) ws)
 
   -- where they pass no limit, lines without a fault put what they give behind the others
-  pub faultless_read : (vs : List Visit) (p : Progress) (after : Drafted) → are_faultless names sources vs ≡ true → p.lines + length vs ≤ 1000000 → length p.draft.table + length (given names sources vs) ≤ 100000
+  pub faultless_read : (vs : List Visit) (p : Progress) (after : Drafted) → are_faultless names sources vs ≡ true → p.lines + length vs ≤ 1000000
+      → length p.draft.table + length (given names sources vs) ≤ 100000
       → after.table ≡ p.draft.table ++ given names sources vs → (ws : List Visit) → reading_on names sources p (vs ++ ws) ≡ reading_on names sources (read_so_far (p.lines + length vs) after) ws
   faultless_read [] p after f l m t ws =
       let none : p.lines ≡ p.lines + 0 = omega arith in ap₂ (at_table ws) none (sym (append-nil p.draft.table) ∙ sym t)
@@ -72,8 +75,10 @@ module _ (names : KeysymNames) (sources : List Source) where
     where
       by_gift : ((q : Progress) → are_faultless names sources vs ≡ true → q.lines + length vs ≤ 1000000 → length q.draft.table + length (given names sources vs) ≤ 100000
           → after.table ≡ q.draft.table ++ given names sources vs → reading_on names sources q (vs ++ ws) ≡ reading_on names sources (read_so_far (q.lines + length vs) after) ws)
-          → (r : Result (Option Definition) ReadFault) → line_gives names sources v ≡ r → is_ok r && are_faultless names sources vs ≡ true → length p.draft.table + length (definitions_in r ++ given names sources vs) ≤ 100000
-          → after.table ≡ p.draft.table ++ (definitions_in r ++ given names sources vs) → reading_on names sources p (v ∷ (vs ++ ws)) ≡ reading_on names sources (read_so_far (p.lines + length (v ∷ vs)) after) ws
+          → (r : Result (Option Definition) ReadFault) → line_gives names sources v ≡ r → is_ok r && are_faultless names sources vs ≡ true
+          → length p.draft.table + length (definitions_in r ++ given names sources vs) ≤ 100000
+          → after.table ≡ p.draft.table ++ (definitions_in r ++ given names sources vs)
+          → reading_on names sources p (v ∷ (vs ++ ws)) ≡ reading_on names sources (read_so_far (p.lines + length (v ∷ vs)) after) ws
       by_gift others (Err e) h f m t = cc
       by_gift others (Ok None) h f m t =
           let one : p.lines + 1 + length vs ≡ p.lines + length (v ∷ vs) = omega arith in

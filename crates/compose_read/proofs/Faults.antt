@@ -5,7 +5,8 @@ use Rattle.compose_read.specs.ReadGives.{ReadGives}
 use Rattle.compose_read.specs.declared.ReadFault.{ReadFault}
 use Rattle.compose_read.specs.declared.ReadFault.TheVariants.{NoMemory}
 
-pub moved_fault : {X Y Z W : Type 0} (view : X → Z) (other : Y → W) (fault : ReadFault) (said : Result Z ReadFault) (whole : Result W ReadFault) → (said ≡ Err fault → whole ≡ Err fault) → ReadGives view (Err fault) said → ReadGives other (Err fault) whole
+pub moved_fault : {X Y Z W : Type 0} (view : X → Z) (other : Y → W) (fault : ReadFault) (said : Result Z ReadFault) (whole : Result W ReadFault) → (said ≡ Err fault → whole ≡ Err fault)
+    → ReadGives view (Err fault) said → ReadGives other (Err fault) whole
 moved_fault view other NoMemory said whole f h = tt
 moved_fault view other fault said whole f h = f h
 

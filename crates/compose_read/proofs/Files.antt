@@ -57,7 +57,8 @@ all_text : (files : Files) → AllByRecursion (λ (s : Source). IsUtf8 s.name) (
 all_text [] = tt
 all_text (f ∷ files) = (IsUtf8-string_bytes f.0, all_text files)
 
-other_names : (k : String Global) (files : Files) → AllByRecursion (λ y. string_eq k y ≡ false) (keys_of files) → AllByRecursion (λ n. bytes_eq (string_bytes k) n ≡ false) (map (λ (s : Source). s.name) (sources_of files))
+other_names : (k : String Global) (files : Files) → AllByRecursion (λ y. string_eq k y ≡ false) (keys_of files)
+    → AllByRecursion (λ n. bytes_eq (string_bytes k) n ≡ false) (map (λ (s : Source). s.name) (sources_of files))
 other_names k [] h = tt
 other_names k (f ∷ files) h = (h.0, other_names k files h.1)
 

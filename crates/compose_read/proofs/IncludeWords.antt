@@ -30,7 +30,10 @@ module _ (n : ℕ) (rest : List ℕ) where
       by_more first (Err e) = refl
 
       by_first : (r : Result (List ℕ × List ℕ) LexFault)
-          → said_include (r >>= (λ first. events_at n 31 first.1 >>= (λ more. result_at n (skip_blanks more.1) >>= (λ result. end_at n (skip_blanks result.2) >>= (λ _. Ok (production (first.0 ∷ more.0) result.0 result.1)))))) ≡ None
+          → said_include
+          (r >>=
+          (λ first. events_at n 31 first.1 >>=
+          (λ more. result_at n (skip_blanks more.1) >>= (λ result. end_at n (skip_blanks result.2) >>= (λ _. Ok (production (first.0 ∷ more.0) result.0 result.1)))))) ≡ None
       by_first (Ok x) = by_more x.0 (events_at n 31 x.1)
       by_first (Err e) = refl
 

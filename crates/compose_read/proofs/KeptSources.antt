@@ -20,14 +20,18 @@ use Rattle.compose_read.specs.declared.reading.Progress.{Progress}
 module _ (names : KeysymNames) (sources : List Source) where
   -- nothing is kept at first
   pub none_kept : (table : List Definition) (kept : List (Option KeptSource)) → kept ≡ replicate 64 None → AreKept names sources table kept
-  none_kept table kept e = subst (AreKept names sources table) (sym e) (λ source d l. subst (λ o. IfSome o (IsKept names sources table source)) (sym (get_or-replicate 64 source None d (omega (arith, l, length-replicate 64 (let o : Option KeptSource = None in o))))) tt)
+  none_kept table kept e =
+      subst (AreKept names sources table) (sym e)
+      (λ source d l. subst (λ o. IfSome o (IsKept names sources table source))
+      (sym (get_or-replicate 64 source None d (omega (arith, l, length-replicate 64 (let o : Option KeptSource = None in o))))) tt)
 
   by_index : (kept : List (Option KeptSource)) (source : ℕ) (k : KeptSource) → slice_get kept source ≡ Some (Some k) → (source < length kept) × (get_or kept source None ≡ Some k)
   by_index [] source k h = cc
   by_index (o ∷ kept) zero k h = (omega arith, same_Some o (Some k) h)
   by_index (o ∷ kept) (suc source) k h = let behind = by_index kept source k h in (let l = behind.0 in omega arith, behind.1)
 
-  pub found_kept : (table : List Definition) (kept : List (Option KeptSource)) (source : ℕ) (k : KeptSource) → slice_get kept source ≡ Some (Some k) → AreKept names sources table kept → IsKept names sources table source k
+  pub found_kept : (table : List Definition) (kept : List (Option KeptSource)) (source : ℕ) (k : KeptSource) → slice_get kept source ≡ Some (Some k) → AreKept names sources table kept
+      → IsKept names sources table source k
   found_kept table kept source k h are = let found = by_index kept source k h in subst (λ o. IfSome o (IsKept names sources table source)) found.1 (are source None found.0)
 
   -- ---- more is read
@@ -57,7 +61,9 @@ module _ (names : KeysymNames) (sources : List Source) where
         let same = eqb-true other source e in let many = length-set kept source (let o : Option KeptSource = Some k in o) in let within : source < length kept = omega (arith, l, many, same) in
         subst (λ s. IfSome (get_or (set kept source (Some k)) s d) (IsKept names sources table s)) (sym same)
         (subst (λ o. IfSome o (IsKept names sources table source)) (sym (get_or-set_same kept source (Some k) d within)) is))
-    | inr e ↦ subst (λ o. IfSome o (IsKept names sources table other)) (sym (get_or-set_other kept source other (Some k) d (λ same. let clash : true ≡ false = sym (eq-eqb other source same) ∙ e in cc))) (h other d (omega (arith, l, length-set kept source (Some k))))
+    | inr e ↦ subst (λ o. IfSome o (IsKept names sources table other))
+        (sym (get_or-set_other kept source other (Some k) d (λ same. let clash : true ≡ false = sym (eq-eqb other source same) ∙ e in cc)))
+        (h other d (omega (arith, l, length-set kept source (Some k))))
   ]
 
   -- ---- a source that was read
@@ -69,7 +75,8 @@ module _ (names : KeysymNames) (sources : List Source) where
         let grown = ap (λ t. length t) (read_through names sources (visits_below sources left source) p q reads).1 in
         let n = length-append p.draft.table (given names sources (visits_below sources left source)) in omega arith
 
-    pub source_kept : (k : KeptSource) → k.left ≡ left → k.lines + p.lines ≡ q.lines → q.lines ≡ p.lines + length (visits_below sources left source) → k.first ≡ length p.draft.table → k.count ≡ length q.draft.table - length p.draft.table
+    pub source_kept : (k : KeptSource) → k.left ≡ left → k.lines + p.lines ≡ q.lines → q.lines ≡ p.lines + length (visits_below sources left source) → k.first ≡ length p.draft.table
+        → k.count ≡ length q.draft.table - length p.draft.table
         → IsKept names sources q.draft.table source k
     source_kept k at_left lines counted first count =
         let vs = visits_below sources left source in
@@ -81,7 +88,8 @@ module _ (names : KeysymNames) (sources : List Source) where
           lines = subst (λ n. k.lines ≡ length (visits_below sources n source)) (sym at_left) (omega (arith, lines, counted));
           within = omega (arith, first, many, grown, n);
           definitions = subst (λ n. take k.count (drop k.first q.draft.table) ≡ given names sources (visits_below sources n source)) (sym at_left)
-              (ap₂ (λ m t. take k.count (drop m t)) first through.1 ∙ ap (take k.count) (drop-append_seam p.draft.table (given names sources vs)) ∙ ap (λ m. take m (given names sources vs)) many ∙ take-length (given names sources vs));
+              (ap₂ (λ m t. take k.count (drop m t)) first through.1 ∙ ap (take k.count) (drop-append_seam p.draft.table (given names sources vs)) ∙ ap (λ m. take m (given names sources vs)) many
+              ∙ take-length (given names sources vs));
         }
 
   -- ---- a source that is read again
@@ -99,7 +107,8 @@ module _ (names : KeysymNames) (sources : List Source) where
     pub as_many : k.lines ≡ length now
     as_many = is.lines ∙ sym again.many
 
-    pub read_again : (after : Drafted) (lines : ℕ) → lines ≡ p.lines + k.lines → p.lines + k.lines ≤ 1000000 → length p.draft.table + k.count ≤ 100000 → after.table ≡ p.draft.table ++ take k.count (drop k.first p.draft.table)
+    pub read_again : (after : Drafted) (lines : ℕ) → lines ≡ p.lines + k.lines → p.lines + k.lines ≤ 1000000 → length p.draft.table + k.count ≤ 100000
+        → after.table ≡ p.draft.table ++ take k.count (drop k.first p.draft.table)
         → (ws : List Visit) → reading_on names sources p (now ++ ws) ≡ reading_on names sources (read_so_far lines after) ws
     read_again after lines counted l m t ws =
         let gave : take k.count (drop k.first p.draft.table) ≡ given names sources now = is.definitions ∙ sym again.given in

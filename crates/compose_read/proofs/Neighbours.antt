@@ -107,7 +107,11 @@ first_leaf e (f ∷ rows) a = go (slice_cmp nat_cmp e.sequence f.sequence) refl 
   where
     go : (r : Ordering) → slice_cmp nat_cmp e.sequence f.sequence ≡ r → (ss : List (List ℕ)) × (leaves (f ∷ rows) ≡ f.sequence ∷ ss) → (ss : List (List ℕ)) × (leaves (e ∷ f ∷ rows) ≡ e.sequence ∷ ss)
     go Less b l = (f.sequence ∷ l.0, ap (put (slice_cmp nat_cmp) e.sequence) l.1 ∙ ap (λ r. put_by r e.sequence f.sequence l.0 (put (slice_cmp nat_cmp) e.sequence l.0)) b)
-    go Equal b l = (l.0, ap (put (slice_cmp nat_cmp) e.sequence) l.1 ∙ ap (λ r. put_by r e.sequence f.sequence l.0 (put (slice_cmp nat_cmp) e.sequence l.0)) b ∙ ap (λ s. s ∷ l.0) (sym (exact_bytes e.sequence f.sequence b)))
+    go Equal b l = (
+      l.0,
+      ap (put (slice_cmp nat_cmp) e.sequence) l.1 ∙ ap (λ r. put_by r e.sequence f.sequence l.0 (put (slice_cmp nat_cmp) e.sequence l.0)) b
+          ∙ ap (λ s. s ∷ l.0) (sym (exact_bytes e.sequence f.sequence b)),
+    )
     go Greater b l = absurd (
         let less : slice_cmp nat_cmp f.sequence e.sequence ≡ Less = nat_list_cmp_total.antisymm f.sequence e.sequence ∙ ap ordering_reverse b in
         let clash : true ≡ false = sym (ap is_lt less) ∙ a.0 in cc)
@@ -155,7 +159,8 @@ module _ (d : Definition) (rows : List Definition) (above : Above d.sequence row
   found_behind : find (is_extended (d ∷ rows)) (leaves (d ∷ rows)) ≡ cond (is_extended rows d.sequence) (Some d.sequence) (find (is_extended rows) (leaves rows))
   found_behind =
       ap (find (is_extended (d ∷ rows))) prefix_leaves
-      ∙ (λ i. cond (own_extended i) (Some d.sequence) (find_where (λ s. Before d.sequence s) (is_extended (d ∷ rows)) (is_extended rows) (leaves rows) behind_extended (above_leaves d.sequence rows above) i))
+      ∙ (λ i. cond (own_extended i) (Some d.sequence)
+      (find_where (λ s. Before d.sequence s) (is_extended (d ∷ rows)) (is_extended rows) (leaves rows) behind_extended (above_leaves d.sequence rows above) i))
 
 -- ---- what becomes of the first row
 
@@ -192,7 +197,8 @@ module _ (d : Definition) (rows : List Definition) (above : Above d.sequence row
   prefix_overridden h = ap (λ t. let r : Result (List Definition) Overlap = Ok (in_order t) in r) (longest_prefix ∙ ap (λ b. cond (not b) (d ∷ longest rows) (longest rows)) h)
 
   -- where `Refuse` refuses it, beside the least of its extensions
-  prefix_refused : (e : List ℕ) (ss : List (List ℕ)) → leaves rows ≡ e ∷ ss → is_proper_prefix d.sequence e ≡ true → is_extended rows d.sequence ≡ true → settled Refuse (d ∷ rows) ≡ Err (record { short = d.sequence; long = e })
+  prefix_refused : (e : List ℕ) (ss : List (List ℕ)) → leaves rows ≡ e ∷ ss → is_proper_prefix d.sequence e ≡ true → is_extended rows d.sequence ≡ true
+      → settled Refuse (d ∷ rows) ≡ Err (record { short = d.sequence; long = e })
   prefix_refused e ss first is_prefix h =
       ap (λ o. or_overlap (with_extension (d ∷ rows) o) (in_order (d ∷ rows))) (found_behind d rows above ∙ ap (λ b. cond b (Some d.sequence) (find (is_extended rows) (leaves rows))) h)
       ∙ ap (λ l. let o : Overlap = record { short = d.sequence; long = unwrap_or l [] } in or_overlap (Some o) (in_order (d ∷ rows))) (

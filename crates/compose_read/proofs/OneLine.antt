@@ -42,11 +42,13 @@ module _ (names : KeysymNames) (sources : List Source) (place : Place) (bytes : 
     pub faulty_line : (fault : LexFault) (f : ReadFault) → reading_of bytes ≡ Err fault → f ≡ lifted place fault → FindsLine names sources (visit place bytes) row (Err f)
     faulty_line fault f h e = subst (λ f. FindsLine names sources (visit place bytes) row (Err f)) (sym e) (go fault (given (Err fault) h))
       where
-        go : (fault : LexFault) → line_gives names sources (visit place bytes) ≡ Err (faults.Lex place.source place.line fault) → FindsLine names sources (visit place bytes) row (Err (lifted place fault))
+        go : (fault : LexFault) → line_gives names sources (visit place bytes) ≡ Err (faults.Lex place.source place.line fault)
+            → FindsLine names sources (visit place bytes) row (Err (lifted place fault))
         go lex_faults.NoMemory h = tt
         go fault h = h
 
-    pub include_line : (name : List ℕ) (source : ℕ) → reading_of bytes ≡ Ok (include name) → include_fault sources (visit place bytes) name ≡ Ok no_definition → included_by sources (Ok (include name)) ≡ Some source → place.depth < 8 → source < length sources
+    pub include_line : (name : List ℕ) (source : ℕ) → reading_of bytes ≡ Ok (include name) → include_fault sources (visit place bytes) name ≡ Ok no_definition
+        → included_by sources (Ok (include name)) ≡ Some source → place.depth < 8 → source < length sources
         → FindsLine names sources (visit place bytes) row (Ok (found.Include source))
     include_line name source h e i d w = (given (Ok (include name)) h ∙ e, goes_to (Ok (include name)) h ∙ i, d, w)
 
@@ -60,6 +62,7 @@ module _ (names : KeysymNames) (sources : List Source) (place : Place) (bytes : 
       production_line e is =
           (given (Ok (production events raw name)) h ∙ ap (λ r. r >>= (λ d. let x : Result (Option Definition) ReadFault = Ok (Some d) in x)) e, goes_to (Ok (production events raw name)) h, is)
 
-      pub refused_production : (f : ReadFault) → ReadGives (λ (_ : Unit {0}). row) (Err f) (definition_of names (visit place bytes) events raw name) → FindsLine names sources (visit place bytes) row (Err f)
+      pub refused_production : (f : ReadFault) → ReadGives (λ (_ : Unit {0}). row) (Err f) (definition_of names (visit place bytes) events raw name)
+          → FindsLine names sources (visit place bytes) row (Err f)
       refused_production faults.NoMemory e = tt
       refused_production f e = given (Ok (production events raw name)) h ∙ ap (λ r. r >>= (λ d. let x : Result (Option Definition) ReadFault = Ok (Some d) in x)) e

@@ -14,10 +14,13 @@ use Rattle.compose_read.proofs.ReadLines.{visits_are, next_line, plain_line, inc
 use Rattle.compose_read.specs.declared.open_source.OpenSource.{OpenSource}
 
 -- a line includes the source that its raw text names
-pub included_is : (sources : List Source) (bytes : List ℕ) (name : Option (List ℕ)) → name ≡ raw_include bytes → option_and_then (λ n. included_by sources (Ok (include n))) name ≡ included sources bytes
+pub included_is : (sources : List Source) (bytes : List ℕ) (name : Option (List ℕ)) → name ≡ raw_include bytes
+    → option_and_then (λ n. included_by sources (Ok (include n))) name ≡ included sources bytes
 included_is sources bytes name e = ap (option_and_then (λ n. included_by sources (Ok (include n)))) e ∙ go (is_utf8 bytes) (reading_of bytes)
   where
-    go : (text : Bool) (r : Result Reading LexFault) → option_and_then (λ n. included_by sources (Ok (include n))) (let o : Option (List ℕ) = cond text (said_include r) None in o) ≡ (let o : Option ℕ = cond text (included_by sources r) None in o)
+    go : (text : Bool) (r : Result Reading LexFault)
+        → option_and_then (λ n. included_by sources (Ok (include n))) (let o : Option (List ℕ) = cond text (said_include r) None in o)
+        ≡ (let o : Option ℕ = cond text (included_by sources r) None in o)
     go false r = refl
     go true (Err fault) = refl
     go true (Ok blank) = refl
@@ -50,7 +53,8 @@ module _ (sources : List Source) where
     closed none = opened_last ∙ ap (λ ls. flat_map (below sources (8 - length os)) (numbered o.source (length os) (1 + o.line) ls) ++ left_from sources 0 os) none
 
     -- one that has a further line
-    pub read_further : (after : List OpenSource) (p : OpenSource) (bytes : List ℕ) → after ≡ os ++ p ∷ [] → lines_of o.rest.now ≡ bytes ∷ lines_of p.rest.now → p.source ≡ o.source → p.line ≡ o.line + 1
+    pub read_further : (after : List OpenSource) (p : OpenSource) (bytes : List ℕ) → after ≡ os ++ p ∷ [] → lines_of o.rest.now ≡ bytes ∷ lines_of p.rest.now → p.source ≡ o.source
+        → p.line ≡ o.line + 1
         → left_from sources 0 before ≡ below sources (8 - length os) (record { source = p.source; line = p.line; bytes = bytes; depth = length os }) ++ left_from sources 0 after
     read_further after p bytes pushed lines same next =
         let depth = length os in
@@ -77,7 +81,8 @@ module _ (sources : List Source) where
     pub other_line : included sources v.bytes ≡ None → old ≡ v ∷ taken
     other_line h = took ∙ ap (λ vs. vs ++ taken) (plain_line sources (8 - v.depth) v h)
 
-    pub include_line : (source : ℕ) (os after : List OpenSource) (o : OpenSource) → v.depth < 8 → included sources v.bytes ≡ Some source → taken ≡ left_from sources 0 os → length os ≡ v.depth + 1 → after ≡ os ++ o ∷ []
+    pub include_line : (source : ℕ) (os after : List OpenSource) (o : OpenSource) → v.depth < 8 → included sources v.bytes ≡ Some source → taken ≡ left_from sources 0 os → length os ≡ v.depth + 1
+        → after ≡ os ++ o ∷ []
         → ((depth : ℕ) → depth ≤ 8 → left_in sources depth o ≡ visits_below sources (8 - depth) source) → old ≡ v ∷ left_from sources 0 after
     include_line source os after o deep h rest long pushed opened =
         let less : 8 - v.depth - 1 ≡ 8 - length os = omega arith in

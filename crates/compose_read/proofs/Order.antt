@@ -89,7 +89,8 @@ prefix_of_between (x ∷ p) (z ∷ q) (y ∷ s) h b l =
     let is : x ≡ y = eqb-true x y a.0 in
     go (nat_cmp x z) refl (prefix_of_between p q s a.1) b (ap (λ n. is_lt (ordering_then (nat_cmp n z) (slice_cmp nat_cmp s q))) is ∙ l)
   where
-    go : (o : Ordering) → nat_cmp x z ≡ o → (Before p q → is_lt (slice_cmp nat_cmp s q) ≡ false → is_proper_prefix p q ≡ true) → ordering_then o (slice_cmp nat_cmp p q) ≡ Less → is_lt (ordering_then (nat_cmp x z) (slice_cmp nat_cmp s q)) ≡ false
+    go : (o : Ordering) → nat_cmp x z ≡ o → (Before p q → is_lt (slice_cmp nat_cmp s q) ≡ false → is_proper_prefix p q ≡ true) → ordering_then o (slice_cmp nat_cmp p q) ≡ Less
+        → is_lt (ordering_then (nat_cmp x z) (slice_cmp nat_cmp s q)) ≡ false
         → x == z && is_proper_prefix p q ≡ true
     go Less e f c m = let clash : true ≡ false = sym (ap (λ r. is_lt (ordering_then r (slice_cmp nat_cmp s q))) e) ∙ m in cc
     go Equal e f c m = and_from (x == z) (is_proper_prefix p q) (equal_from x z e)

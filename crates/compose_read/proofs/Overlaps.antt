@@ -39,7 +39,8 @@ find_some : (p : List ℕ → Bool) (xs : List (List ℕ)) (x : List ℕ) → li
 find_some p [] x h e = cc
 find_some p (y ∷ xs) x h e = go (p y) refl (or_cases (same x y) (list_any (same x) xs) h) (λ m. find_some p xs x m e)
   where
-    go : (b : Bool) → p y ≡ b → (same x y ≡ true) ⊎ (list_any (same x) xs ≡ true) → (list_any (same x) xs ≡ true → (z : List ℕ) × (find p xs ≡ Some z)) → (z : List ℕ) × (cond b (Some y) (find p xs) ≡ Some z)
+    go : (b : Bool) → p y ≡ b → (same x y ≡ true) ⊎ (list_any (same x) xs ≡ true) → (list_any (same x) xs ≡ true → (z : List ℕ) × (find p xs ≡ Some z))
+        → (z : List ℕ) × (cond b (Some y) (find p xs) ≡ Some z)
     go true c w f = (y, refl)
     go false c w f = elim w [
       | inl m ↦ absurd (let clash : true ≡ false = sym e ∙ ap p (same_is x y m) ∙ c in cc)
@@ -54,7 +55,8 @@ not_later x y h = go (slice_cmp nat_cmp y x) refl
     go Equal e = refl
     go Greater e = refl
 
-found_least : (p : List ℕ → Bool) (xs : List (List ℕ)) (x y : List ℕ) → IsStrictlySortedBy (slice_cmp nat_cmp) xs → find p xs ≡ Some x → list_any (same y) xs ≡ true → p y ≡ true → comes_before y x ≡ false
+found_least : (p : List ℕ → Bool) (xs : List (List ℕ)) (x y : List ℕ) → IsStrictlySortedBy (slice_cmp nat_cmp) xs → find p xs ≡ Some x → list_any (same y) xs ≡ true → p y ≡ true
+    → comes_before y x ≡ false
 unfolding IsStrictlySortedBy
 found_least p [] x y s h i e = cc
 found_least p (z ∷ xs) x y s h i e = elim (or_cases (same y z) (list_any (same y) xs) i) [
@@ -92,7 +94,8 @@ module _ (table : List Definition) (short : List ℕ) (found : find (is_extended
   least_overlap o h =
       let long = longer.0 in
       let is : (let w : Overlap = record { short = short; long = long } in w) ≡ o =
-      ap (λ l. let w : Overlap = record { short = short; long = unwrap_or l [] } in w) (sym longer.1) ∙ same_Some (record { short = short; long = unwrap_or (find (is_proper_prefix short) (leaves table)) [] }) o h in
+      ap (λ l. let w : Overlap = record { short = short; long = unwrap_or l [] } in w) (sym longer.1)
+      ∙ same_Some (record { short = short; long = unwrap_or (find (is_proper_prefix short) (leaves table)) [] }) o h in
       subst (IsLeastOverlap table) is (record {
         short = sym (is_leaf table short) ∙ found_inside (is_extended table) (leaves table) short found;
         long = sym (is_leaf table long) ∙ found_inside (is_proper_prefix short) (leaves table) long longer.1;

@@ -91,7 +91,8 @@ module _ (keysyms texts : List ℕ) (first_keysym first_byte : ℕ) (l : first_k
 -- ---- definitions that are being read
 
 abbrev pub IsDrafted : List ℕ → List ℕ → List RowSpan → ℕ → ℕ → Type 0
-IsDrafted keysyms texts spans first_keysym first_byte = ArePlaced keysyms texts spans × (first_keysym ≤ length keysyms) × IsCharBoundary texts first_byte × IsTrue (is_table (rows_of keysyms texts spans)) × IsBehind spans first_keysym first_byte
+IsDrafted keysyms texts spans first_keysym first_byte =
+    ArePlaced keysyms texts spans × (first_keysym ≤ length keysyms) × IsCharBoundary texts first_byte × IsTrue (is_table (rows_of keysyms texts spans)) × IsBehind spans first_keysym first_byte
 
 module _ (ks ts : List ℕ) (ps : List RowSpan) (fk fb : ℕ) (is : IsDrafted ks ts ps fk fb) where
   module _ (more text : List ℕ) (u : IsUtf8 text) where
@@ -105,7 +106,8 @@ module _ (ks ts : List ℕ) (ps : List RowSpan) (fk fb : ℕ) (is : IsDrafted ks
     )
 
     drafted_grown : drafted (ks ++ more) (ts ++ text) ps fk fb ≡ record { table = rows_of ks ts ps; row = record { sequence = drop fk ks ++ more; text = drop fb ts ++ text } }
-    drafted_grown = (λ i. let d : Drafted = record { table = rows_stay ks ts more text u ps is.0 i; row = record { sequence = drop-append-le fk ks more is.1 i; text = drop-append-le fb ts text is.2.0 i } } in d)
+    drafted_grown =
+        (λ i. let d : Drafted = record { table = rows_stay ks ts more text u ps is.0 i; row = record { sequence = drop-append-le fk ks more is.1 i; text = drop-append-le fb ts text is.2.0 i } } in d)
 
   -- without what is being read
   module _ (prefix text : List ℕ) (k : prefix ≡ take fk ks) (t : text ≡ take fb ts) where
@@ -161,8 +163,10 @@ module _ (ks ts : List ℕ) (ps : List RowSpan) (fk fb : ℕ) (is : IsDrafted ks
         ∙ ap (λ sequence. let d : Drafted = record { table = rows_of ks ts ps; row = record { sequence = sequence; text = drop fb ts ++ text } } in d) (append-nil (drop fk ks))
 
   -- with the text of a raw text, or as it was
-  module _ (raw new : List ℕ) (r : Result (Unit {0}) LexFault) (said : Result (List ℕ) LexFault) (gives : PushGives ts new r said) (found : OnOk r ((bytes : List ℕ) × (new ≡ ts ++ bytes) × Unescapes raw bytes × IsText bytes)) where
-    text_behind : (r : Result (Unit {0}) LexFault) → PushGives ts new r said → OnOk r ((bytes : List ℕ) × (new ≡ ts ++ bytes) × Unescapes raw bytes × IsText bytes) → (text : List ℕ) × (new ≡ ts ++ text) × IsUtf8 text
+  module _ (raw new : List ℕ) (r : Result (Unit {0}) LexFault) (said : Result (List ℕ) LexFault) (gives : PushGives ts new r said)
+      (found : OnOk r ((bytes : List ℕ) × (new ≡ ts ++ bytes) × Unescapes raw bytes × IsText bytes)) where
+    text_behind : (r : Result (Unit {0}) LexFault) → PushGives ts new r said → OnOk r ((bytes : List ℕ) × (new ≡ ts ++ bytes) × Unescapes raw bytes × IsText bytes)
+        → (text : List ℕ) × (new ≡ ts ++ text) × IsUtf8 text
     text_behind (Ok _) g f = (f.0, f.1, f.3.utf8)
     text_behind (Err lex_faults.NoMemory) g f = ([], g ∙ sym (append-nil ts), IsUtf8-nil)
     text_behind (Err e) g f = ([], g.1 ∙ sym (append-nil ts), IsUtf8-nil)
@@ -187,7 +191,8 @@ module _ (ks ts : List ℕ) (ps : List RowSpan) (fk fb : ℕ) (is : IsDrafted ks
     pub text_found : OnOk r ((bytes : List ℕ) × (drop fb new ≡ drop fb ts ++ bytes) × Unescapes raw bytes × IsText bytes)
     text_found = go r found
       where
-        go : (r : Result (Unit {0}) LexFault) → OnOk r ((bytes : List ℕ) × (new ≡ ts ++ bytes) × Unescapes raw bytes × IsText bytes) → OnOk r ((bytes : List ℕ) × (drop fb new ≡ drop fb ts ++ bytes) × Unescapes raw bytes × IsText bytes)
+        go : (r : Result (Unit {0}) LexFault) → OnOk r ((bytes : List ℕ) × (new ≡ ts ++ bytes) × Unescapes raw bytes × IsText bytes)
+            → OnOk r ((bytes : List ℕ) × (drop fb new ≡ drop fb ts ++ bytes) × Unescapes raw bytes × IsText bytes)
         go (Ok _) f = (f.0, ap (drop fb) f.1 ∙ drop-append-le fb ts f.0 is.2.0, f.2, f.3)
         go (Err e) f = tt
 
@@ -202,10 +207,14 @@ module _ (ks ts : List ℕ) (ps : List RowSpan) (fk fb : ℕ) (is : IsDrafted ks
     definitions_again = prefix_of (drop first (rows_of ks ts ps)) (rest_of (rows_of ks ts ps) is.3)
       where
         rest_of : (rows : List Definition) → is_table rows ≡ true → is_table (drop first rows) ≡ true
-        rest_of rows h = (and_parts (is_table (take first rows)) (is_table (drop first rows)) (sym (list_all-append is_definition (take first rows) (drop first rows)) ∙ ap is_table (take-append-drop first rows) ∙ h)).1
+        rest_of rows h =
+            (and_parts (is_table (take first rows)) (is_table (drop first rows))
+            (sym (list_all-append is_definition (take first rows) (drop first rows)) ∙ ap is_table (take-append-drop first rows) ∙ h)).1
 
         prefix_of : (rows : List Definition) → is_table rows ≡ true → is_table (take count rows) ≡ true
-        prefix_of rows h = (and_parts (is_table (take count rows)) (is_table (drop count rows)) (sym (list_all-append is_definition (take count rows) (drop count rows)) ∙ ap is_table (take-append-drop count rows) ∙ h)).0
+        prefix_of rows h =
+            (and_parts (is_table (take count rows)) (is_table (drop count rows))
+            (sym (list_all-append is_definition (take count rows) (drop count rows)) ∙ ap is_table (take-append-drop count rows) ∙ h)).0
 
     behind_again : IsBehind qs fk fb
     behind_again =
@@ -216,7 +225,9 @@ module _ (ks ts : List ℕ) (ps : List RowSpan) (fk fb : ℕ) (is : IsDrafted ks
           few = omega (arith, room, old, many, more);
           keysyms = (let n = all.keysyms in omega (arith, n, many));
           bytes = (let n = all.bytes in omega (arith, n, many));
-          each = subst (All (IsBefore fk fb)) (sym e) (All-append (IsBefore fk fb) ps (take count (drop first ps)) all.each (All-take (IsBefore fk fb) count (drop first ps) (All-drop (IsBefore fk fb) first ps all.each)));
+          each =
+              subst (All (IsBefore fk fb)) (sym e)
+              (All-append (IsBefore fk fb) ps (take count (drop first ps)) all.each (All-take (IsBefore fk fb) count (drop first ps) (All-drop (IsBefore fk fb) first ps all.each)));
         }
 
     pub repeated : IsDrafted ks ts qs fk fb
@@ -225,7 +236,8 @@ module _ (ks ts : List ℕ) (ps : List RowSpan) (fk fb : ℕ) (is : IsDrafted ks
       is.1,
       is.2,
       subst (λ rows. is_table rows ≡ true) (sym rows_repeated)
-          (list_all-append is_definition (rows_of ks ts ps) (take count (drop first (rows_of ks ts ps))) ∙ and_from (is_table (rows_of ks ts ps)) (is_table (take count (drop first (rows_of ks ts ps)))) is.3 definitions_again),
+          (list_all-append is_definition (rows_of ks ts ps) (take count (drop first (rows_of ks ts ps)))
+          ∙ and_from (is_table (rows_of ks ts ps)) (is_table (take count (drop first (rows_of ks ts ps)))) is.3 definitions_again),
       behind_again,
     )
 
@@ -233,7 +245,8 @@ module _ (ks ts : List ℕ) (ps : List RowSpan) (fk fb : ℕ) (is : IsDrafted ks
   module _ (p : RowSpan) (keysym_from : p.first_keysym ≡ fk) (byte_from : p.first_byte ≡ fb) (keysym_count : p.keysym_count ≡ length ks - fk) (byte_count : p.byte_count ≡ length ts - fb)
       (definition : is_definition (record { sequence = drop fk ks; text = drop fb ts }) ≡ true) where
     row_there : definition_at ks ts p ≡ record { sequence = drop fk ks; text = drop fb ts }
-    row_there = (λ i. let d : Definition = record { sequence = rest_taken fk ks p.keysym_count p.first_keysym keysym_from keysym_count i; text = rest_taken fb ts p.byte_count p.first_byte byte_from byte_count i } in d)
+    row_there =
+        (λ i. let d : Definition = record { sequence = rest_taken fk ks p.keysym_count p.first_keysym keysym_from keysym_count i; text = rest_taken fb ts p.byte_count p.first_byte byte_from byte_count i } in d)
 
     pub table_finished : rows_of ks ts (ps ++ p ∷ []) ≡ rows_of ks ts ps ++ record { sequence = drop fk ks; text = drop fb ts } ∷ []
     table_finished = map-append (definition_at ks ts) ps (p ∷ []) ∙ ap (λ d. rows_of ks ts ps ++ d ∷ []) row_there
@@ -255,7 +268,9 @@ module _ (ks ts : List ℕ) (ps : List RowSpan) (fk fb : ℕ) (is : IsDrafted ks
       omega arith,
       IsCharBoundary-end ts,
       subst (λ rows. is_table rows ≡ true) (sym table_finished)
-          (list_all-append is_definition (rows_of ks ts ps) (record { sequence = drop fk ks; text = drop fb ts } ∷ []) ∙ and_from (is_table (rows_of ks ts ps)) (is_table (record { sequence = drop fk ks; text = drop fb ts } ∷ [])) is.3 (and_from (is_definition (record { sequence = drop fk ks; text = drop fb ts })) true definition refl)),
+          (list_all-append is_definition (rows_of ks ts ps) (record { sequence = drop fk ks; text = drop fb ts } ∷ [])
+          ∙ and_from (is_table (rows_of ks ts ps)) (is_table (record { sequence = drop fk ks; text = drop fb ts } ∷ [])) is.3
+          (and_from (is_definition (record { sequence = drop fk ks; text = drop fb ts })) true definition refl)),
       (
           let row : Definition = record { sequence = drop fk ks; text = drop fb ts } in
           let many = length-append ps (p ∷ []) in let old = length-map ps (definition_at ks ts) in
@@ -271,4 +286,5 @@ module _ (ks ts : List ℕ) (ps : List RowSpan) (fk fb : ℕ) (is : IsDrafted ks
     )
 
     pub finished_with : (qs : List RowSpan) → qs ≡ ps ++ p ∷ [] → length (rows_of ks ts ps) < max_definitions → (fk fb : ℕ) → fk ≡ length ks → fb ≡ length ts → IsDrafted ks ts qs fk fb
-    finished_with qs e room fk fb k b = subst (λ ps. IsDrafted ks ts ps fk fb) (sym e) (subst (λ n. IsDrafted ks ts (ps ++ p ∷ []) n fb) (sym k) (subst (IsDrafted ks ts (ps ++ p ∷ []) (length ks)) (sym b) (finished room)))
+    finished_with qs e room fk fb k b =
+        subst (λ ps. IsDrafted ks ts ps fk fb) (sym e) (subst (λ n. IsDrafted ks ts (ps ++ p ∷ []) n fb) (sym k) (subst (IsDrafted ks ts (ps ++ p ∷ []) (length ks)) (sym b) (finished room)))

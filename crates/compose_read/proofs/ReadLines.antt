@@ -45,7 +45,9 @@ lines_below sources (suc left) source = refl
 pub visits_are : (sources : List Source) (left source : ℕ) (bytes : List ℕ) → source < length sources → option_map (λ (s : Source). s.bytes) (slice_get sources source) ≡ Some bytes
     → visits_below sources left source ≡ flat_map (below sources left) (numbered source (8 - left) 1 (source_lines bytes))
 visits_are sources left source bytes l h =
-    lines_below sources left source ∙ ap (λ bs. flat_map (below sources left) (numbered source (8 - left) 1 (source_lines bs))) (same_Some (get_or sources source none).bytes bytes (ap (option_map (λ (s : Source). s.bytes)) (sym (slice_get-get_or sources source none l)) ∙ h))
+    lines_below sources left source
+    ∙ ap (λ bs. flat_map (below sources left) (numbered source (8 - left) 1 (source_lines bs)))
+    (same_Some (get_or sources source none).bytes bytes (ap (option_map (λ (s : Source). s.bytes)) (sym (slice_get-get_or sources source none l)) ∙ h))
   where
     none : Source
     none = record { name = []; bytes = [] }
@@ -70,14 +72,16 @@ module _ (sources : List Source) (left source depth line : ℕ) (rest bytes behi
         let all = lines_left in let one = ap (λ vs. length vs) (plain_line sources left next h) in omega arith
 
     -- and with one that includes a source
-    pub include_counted : (between after included_source : ℕ) → 0 < left → included sources bytes ≡ Some included_source → between ≡ before + 1 → after ≡ between + length (visits_below sources (left - 1) included_source)
+    pub include_counted : (between after included_source : ℕ) → 0 < left → included sources bytes ≡ Some included_source → between ≡ before + 1
+        → after ≡ between + length (visits_below sources (left - 1) included_source)
         → after + length (left_to_visit sources left source depth (line + 1) behind) ≡ total
     include_counted between after included_source deep h e f =
         let all = lines_left in let more = ap (λ vs. length vs) (include_below sources left next included_source deep h) in omega arith
 
 -- ---- reading on
 
-module _ (names : KeysymNames) (sources : List Source) (left source depth line : ℕ) (rest bytes behind : List ℕ) (lines : lines_of rest ≡ bytes ∷ lines_of behind) (p old : Progress) (whole : List Visit)
+module _ (names : KeysymNames) (sources : List Source) (left source depth line : ℕ) (rest bytes behind : List ℕ) (lines : lines_of rest ≡ bytes ∷ lines_of behind) (p old : Progress)
+    (whole : List Visit)
     (reads : (ws : List Visit) → reading_on names sources p (left_to_visit sources left source depth line rest ++ ws) ≡ reading_on names sources old (whole ++ ws)) where
   abbrev v : Visit
   v = record { source = source; line = line + 1; bytes = bytes; depth = depth }
@@ -102,7 +106,8 @@ module _ (names : KeysymNames) (sources : List Source) (left source depth line :
       let first = line_first sources left v in
       sym (opened ws) ∙ ap (λ vs. reading_on names sources p (vs ++ (left_behind ++ ws))) first.1 ∙ h (first.0 ++ (left_behind ++ ws))
 
-  module _ (q : Progress) (included_source : ℕ) (deep : 0 < left) (h : included sources bytes ≡ Some included_source) (f : (us : List Visit) → reading_on names sources p (v ∷ us) ≡ reading_on names sources q us) where
+  module _ (q : Progress) (included_source : ℕ) (deep : 0 < left) (h : included sources bytes ≡ Some included_source)
+      (f : (us : List Visit) → reading_on names sources p (v ∷ us) ≡ reading_on names sources q us) where
     into_source : (ws : List Visit) → reading_on names sources q (visits_below sources (left - 1) included_source ++ (left_behind ++ ws)) ≡ reading_on names sources old (whole ++ ws)
     into_source ws =
         sym (f (visits_below sources (left - 1) included_source ++ (left_behind ++ ws)))
@@ -114,7 +119,8 @@ module _ (names : KeysymNames) (sources : List Source) (left source depth line :
     include_turn r g ws = sym (g (left_behind ++ ws)) ∙ into_source ws
 
     -- a fault in the included source
-    pub include_refused : (r s : Progress) (fault : ReadFault) → ReadsOn {X = Unit {0}} names sources (visits_below sources (left - 1) included_source) q r (Err fault) → ReadsOn {X = Unit {0}} names sources whole old s (Err fault)
+    pub include_refused : (r s : Progress) (fault : ReadFault) → ReadsOn {X = Unit {0}} names sources (visits_below sources (left - 1) included_source) q r (Err fault)
+        → ReadsOn {X = Unit {0}} names sources whole old s (Err fault)
     include_refused r s faults.NoMemory e = tt
     include_refused r s fault e = λ ws. sym (into_source ws) ∙ e (left_behind ++ ws)
 
@@ -123,7 +129,8 @@ module _ (names : KeysymNames) (sources : List Source) (left source depth line :
   pub none_left : length (left_to_visit sources left source depth line rest) ≡ 0
   none_left = ap (λ ls. length (flat_map (below sources left) (numbered source depth (1 + line) ls))) lines
 
-  pub whole_read : (p old : Progress) (whole : List Visit) → ((ws : List Visit) → reading_on names sources p (left_to_visit sources left source depth line rest ++ ws) ≡ reading_on names sources old (whole ++ ws))
+  pub whole_read : (p old : Progress) (whole : List Visit)
+      → ((ws : List Visit) → reading_on names sources p (left_to_visit sources left source depth line rest ++ ws) ≡ reading_on names sources old (whole ++ ws))
       → (ws : List Visit) → reading_on names sources old (whole ++ ws) ≡ reading_on names sources p ws
   whole_read p old whole reads ws = sym (reads ws) ∙ ap (λ ls. reading_on names sources p (flat_map (below sources left) (numbered source depth (1 + line) ls) ++ ws)) lines
 
@@ -138,18 +145,22 @@ none_before (Err e) = refl
 
 module _ (names : KeysymNames) (sources : List Source) (root : List ℕ) (source : ℕ) (named : position (λ (s : Source). bytes_eq root s.name) sources ≡ Some source) where
   root_read : definitions_of names sources root ≡ reading_on names sources (read_so_far 0 nothing) (visits_below sources 8 source ++ [])
-  root_read = go (nat_lt (source_named sources root) (length sources)) named ∙ sym (none_before (read_on names sources 0 0 (visits_below sources 8 source))) ∙ ap (λ vs. with_prefix [] (read_on names sources 0 0 vs)) (sym (append-nil (visits_below sources 8 source)))
+  root_read =
+      go (nat_lt (source_named sources root) (length sources)) named ∙ sym (none_before (read_on names sources 0 0 (visits_below sources 8 source)))
+      ∙ ap (λ vs. with_prefix [] (read_on names sources 0 0 vs)) (sym (append-nil (visits_below sources 8 source)))
     where
       go : (b : Bool) → (let o : Option ℕ = cond b (Some (source_named sources root)) None in o) ≡ Some source
           → cond b (read_on names sources 0 0 (visits sources (source_named sources root))) (Err faults.MissingRoot) ≡ read_on names sources 0 0 (visits_below sources 8 source)
       go true h = ap (λ n. read_on names sources 0 0 (visits_below sources 8 n)) (same_Some (source_named sources root) source h)
       go false h = cc
 
-  pub all_read : (draft : Drafted) (q : Progress) → draft ≡ nothing → ReadsOn {X = Unit {0}} names sources (visits_below sources 8 source) (read_so_far 0 draft) q (Ok tt) → definitions_of names sources root ≡ Ok q.draft.table
+  pub all_read : (draft : Drafted) (q : Progress) → draft ≡ nothing → ReadsOn {X = Unit {0}} names sources (visits_below sources 8 source) (read_so_far 0 draft) q (Ok tt)
+      → definitions_of names sources root ≡ Ok q.draft.table
   all_read draft q e h =
       root_read ∙ ap (λ d. reading_on names sources (read_so_far 0 d) (visits_below sources 8 source ++ [])) (sym e) ∙ h [] ∙ ap Ok (append-nil q.draft.table)
 
-  pub root_refused : {X : Type 0} (view : X → List Definition) (draft : Drafted) (q : Progress) (fault : ReadFault) → draft ≡ nothing → ReadsOn {X = Unit {0}} names sources (visits_below sources 8 source) (read_so_far 0 draft) q (Err fault)
+  pub root_refused : {X : Type 0} (view : X → List Definition) (draft : Drafted) (q : Progress) (fault : ReadFault) → draft ≡ nothing
+      → ReadsOn {X = Unit {0}} names sources (visits_below sources 8 source) (read_so_far 0 draft) q (Err fault)
       → ReadGives view (Err fault) (definitions_of names sources root)
   root_refused view draft q faults.NoMemory e h = tt
   root_refused view draft q fault e h = root_read ∙ ap (λ d. reading_on names sources (read_so_far 0 d) (visits_below sources 8 source ++ [])) (sym e) ∙ h []

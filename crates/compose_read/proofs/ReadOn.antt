@@ -28,7 +28,8 @@ goes_on names sources p ws found = read_on names sources (1 + p.lines) (length (
 line_taken : (names : KeysymNames) (sources : List Source) (p : Progress) (v : Visit) (ws : List Visit) (found : Option Definition) → p.lines < 1000000 → line_gives names sources v ≡ Ok found
     → reading_on names sources p (v ∷ ws) ≡ with_prefix p.draft.table (with_room v (length p.draft.table) found >>= goes_on names sources p ws)
 line_taken names sources p v ws found l h =
-    ap (λ b. with_prefix p.draft.table (cond b (Err (faults.TooManyLines v.source v.line)) (line_gives names sources v >>= with_room v (length p.draft.table)) >>= goes_on names sources p ws)) (lt-leb max_lines p.lines l)
+    ap (λ b. with_prefix p.draft.table (cond b (Err (faults.TooManyLines v.source v.line)) (line_gives names sources v >>= with_room v (length p.draft.table)) >>= goes_on names sources p ws))
+    (lt-leb max_lines p.lines l)
     ∙ ap (λ r. with_prefix p.draft.table ((r >>= with_room v (length p.draft.table)) >>= goes_on names sources p ws)) h
 
 -- a line without a fault and without a definition gives nothing
@@ -41,7 +42,8 @@ nothing_read names sources p v ws l h =
     ∙ ap₂ (λ n m. with_prefix p.draft.table (read_on names sources n m ws)) one same
 
 -- a line with a definition puts it behind the others
-pub definition_read : (names : KeysymNames) (sources : List Source) (p : Progress) (after : Drafted) (v : Visit) (d : Definition) (ws : List Visit) → after.table ≡ p.draft.table ++ d ∷ [] → p.lines < 1000000 → line_gives names sources v ≡ Ok (Some d) → length p.draft.table < 100000
+pub definition_read : (names : KeysymNames) (sources : List Source) (p : Progress) (after : Drafted) (v : Visit) (d : Definition) (ws : List Visit) → after.table ≡ p.draft.table ++ d ∷ []
+    → p.lines < 1000000 → line_gives names sources v ≡ Ok (Some d) → length p.draft.table < 100000
     → reading_on names sources p (v ∷ ws) ≡ reading_on names sources (read_so_far (p.lines + 1) after) ws
 definition_read names sources p after v d ws t l h m =
     line_taken names sources p v ws (Some d) l h

@@ -33,7 +33,8 @@ rows_say : (table : List Definition) (v : List ℕ) (ss : List (List ℕ)) → t
 rows_say table v [] = refl
 rows_say table v (s ∷ ss) = ap (λ o. option_or o (cond (same v s) (Some (unwrap_or (text_at table s) [])) None)) (rows_say table v ss) ∙ go (list_any (same v) ss) (same v s) refl
   where
-    go : (a b : Bool) → same v s ≡ b → option_or (cond a (Some (unwrap_or (text_at table v) [])) None) (cond b (Some (unwrap_or (text_at table s) [])) None) ≡ cond (b || a) (Some (unwrap_or (text_at table v) [])) None
+    go : (a b : Bool) → same v s ≡ b
+        → option_or (cond a (Some (unwrap_or (text_at table v) [])) None) (cond b (Some (unwrap_or (text_at table s) [])) None) ≡ cond (b || a) (Some (unwrap_or (text_at table v) [])) None
     go true true e = refl
     go true false e = refl
     go false true e = ap (λ t. Some (unwrap_or (text_at table t) [])) (sym (same_is v s e))
@@ -62,7 +63,8 @@ in_order_rises table = rows_rise table (leaves table) (rising_sorted nat_list_cm
 
 -- ---- none is a prefix of another
 
-rows_pass : (p : List ℕ → Bool) (table : List Definition) (ss : List (List ℕ)) → ((s : List ℕ) → list_any (same s) ss ≡ true → p s ≡ true) → list_all (λ (d : Definition). p d.sequence) (map (row table) ss) ≡ true
+rows_pass : (p : List ℕ → Bool) (table : List Definition) (ss : List (List ℕ)) → ((s : List ℕ) → list_any (same s) ss ≡ true → p s ≡ true)
+    → list_all (λ (d : Definition). p d.sequence) (map (row table) ss) ≡ true
 rows_pass p table [] f = refl
 rows_pass p table (s ∷ ss) f =
     and_from (p s) (list_all (λ (d : Definition). p d.sequence) (map (row table) ss)) (f s (or_left (same s s) (list_any (same s) ss) (same_from s s refl)))

@@ -26,7 +26,8 @@ text_definition [] v t h e = cc
 text_definition (d ∷ table) v t h e =
     let parts = and_parts (is_definition d) (is_table table) h in go (text_at table v) (same v d.sequence) refl (λ u f. text_definition table v u parts.1 f) parts.0 e
   where
-    go : (o : Option (List ℕ)) (b : Bool) → same v d.sequence ≡ b → ((u : List ℕ) → o ≡ Some u → is_definition (with_text v u) ≡ true) → is_definition d ≡ true → option_or o (cond b (Some d.text) None) ≡ Some t
+    go : (o : Option (List ℕ)) (b : Bool) → same v d.sequence ≡ b → ((u : List ℕ) → o ≡ Some u → is_definition (with_text v u) ≡ true) → is_definition d ≡ true
+        → option_or o (cond b (Some d.text) None) ≡ Some t
         → is_definition (with_text v t) ≡ true
     go (Some u) b s f p e = f t e
     go None true s f p e = ap is_definition (ap₂ with_text (same_is v d.sequence s) (sym (same_Some d.text t e))) ∙ p

@@ -102,14 +102,16 @@ module _ {X : Type 0} (xs ys : List X) (a k : ℕ) (zs : List X) where
 -- ---- the sort keys of spans
 
 -- the first three sort keys of the keysyms of a span
-pub prefix_sort_key_of_part : (keysyms keysym_sort_keys : List ℕ) (p : RowSpan) → keysym_sort_keys ≡ map keysym_sort_key keysyms → prefix_sort_key (take p.keysym_count (drop p.first_keysym keysym_sort_keys)) ≡ prefix_sort_key_at keysyms p
+pub prefix_sort_key_of_part : (keysyms keysym_sort_keys : List ℕ) (p : RowSpan) → keysym_sort_keys ≡ map keysym_sort_key keysyms
+    → prefix_sort_key (take p.keysym_count (drop p.first_keysym keysym_sort_keys)) ≡ prefix_sort_key_at keysyms p
 prefix_sort_key_of_part keysyms keysym_sort_keys p are =
     ap (λ ds. prefix_sort_key (take p.keysym_count (drop p.first_keysym ds))) are
     ∙ ap (λ ds. prefix_sort_key (take p.keysym_count ds)) (drop-map keysym_sort_key p.first_keysym keysyms)
     ∙ ap prefix_sort_key (take-map keysym_sort_key p.keysym_count (drop p.first_keysym keysyms))
 
 -- of two sort keys that differ by the index alone, the one of the earlier index is not above the other
-in_turn : (m n prefix_sort_key prefix_sort_key' : ℕ) → m ≡ prefix_sort_key * 131072 + m % 131072 → n ≡ prefix_sort_key' * 131072 + n % 131072 → prefix_sort_key ≡ prefix_sort_key' → m % 131072 ≤ n % 131072 → m ≤ n
+in_turn : (m n prefix_sort_key prefix_sort_key' : ℕ) → m ≡ prefix_sort_key * 131072 + m % 131072 → n ≡ prefix_sort_key' * 131072 + n % 131072 → prefix_sort_key ≡ prefix_sort_key'
+    → m % 131072 ≤ n % 131072 → m ≤ n
 in_turn m n prefix_sort_key prefix_sort_key' a b same le = let scaled = ap (λ f. f * 131072) same in omega (a, b, scaled, le, arith)
 
 tied_sequences : (keysyms : List ℕ) (p q : RowSpan) → ties (by_sequence keysyms) p q ≡ true → sequence_at keysyms p ≡ sequence_at keysyms q
@@ -121,7 +123,8 @@ tied_sequences keysyms p q e = go (slice_cmp nat_cmp s t) refl (nat_list_cmp_tot
     t : List ℕ
     t = sequence_at keysyms q
 
-    go : (o : Ordering) → slice_cmp nat_cmp s t ≡ o → slice_cmp nat_cmp t s ≡ ordering_reverse (slice_cmp nat_cmp s t) → not (is_lt (slice_cmp nat_cmp s t)) && not (is_lt (slice_cmp nat_cmp t s)) ≡ true → s ≡ t
+    go : (o : Ordering) → slice_cmp nat_cmp s t ≡ o → slice_cmp nat_cmp t s ≡ ordering_reverse (slice_cmp nat_cmp s t)
+        → not (is_lt (slice_cmp nat_cmp s t)) && not (is_lt (slice_cmp nat_cmp t s)) ≡ true → s ≡ t
     go Less is back e = absurd (let clash : false ≡ true = sym (ap (λ o. not (is_lt o) && not (is_lt (slice_cmp nat_cmp t s))) is) ∙ e in cc)
     go Equal is back e = exact_bytes s t is
     go Greater is back e =

@@ -43,7 +43,8 @@ PassesOn keysyms rule spans kept left =
 
 module _ (keysyms : List ℕ) (rule : Rule) (spans kept left : List RowSpan) (p q : RowSpan) (pass : PassesOn keysyms rule spans kept (p ∷ q ∷ left)) where
   -- a row that stays is kept
-  pub pass_kept : (pushed : List RowSpan) → pushed ≡ kept ++ p ∷ [] → ((texts : List ℕ) → stays_before rule (definition_at keysyms texts p) (definition_at keysyms texts q) ≡ Ok true) → PassesOn keysyms rule spans pushed (q ∷ left)
+  pub pass_kept : (pushed : List RowSpan) → pushed ≡ kept ++ p ∷ [] → ((texts : List ℕ) → stays_before rule (definition_at keysyms texts p) (definition_at keysyms texts q) ≡ Ok true)
+      → PassesOn keysyms rule spans pushed (q ∷ left)
   pass_kept pushed e stays = (
     λ texts.
         let f = definition_at keysyms texts in
@@ -52,8 +53,11 @@ module _ (keysyms : List ℕ) (rule : Rule) (spans kept left : List RowSpan) (p 
         ∙ sym (turn_kept rule (map f kept) (f p) (f q) (map f left) (stays texts)) ∙ pass.0 texts,
     others_of few p (q ∷ left) pass.1,
     λ texts h.
-        let all = pass.2 texts h in
-        (subst (ArePlaced keysyms texts) (sym e) (All-push (IsPlaced keysyms texts) kept p all.0 (first_of (IsPlaced keysyms texts) p (q ∷ left) all.1)), others_of (IsPlaced keysyms texts) p (q ∷ left) all.1),
+        let all = pass.2 texts h in (
+          subst (ArePlaced keysyms texts) (sym e) (All-push (IsPlaced keysyms texts) kept p all.0 (first_of (IsPlaced keysyms texts) p (q ∷ left) all.1)),
+          others_of (IsPlaced keysyms texts) p
+              (q ∷ left) all.1,
+        ),
   )
 
   -- another one is passed over

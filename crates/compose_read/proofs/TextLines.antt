@@ -18,7 +18,8 @@ abbrev cut : List ℕ → ℕ
 cut text = position_or_len is_newline text
 
 -- where what follows the first newline has such lines, so has the whole
-module _ (text : List ℕ) (u : IsUtf8 text) (some : text ≢ []) (others : length (drop (suc (cut text)) text) < length text → IsUtf8 (drop (suc (cut text)) text) → All IsUtf8 (lines_of (drop (suc (cut text)) text))) where
+module _ (text : List ℕ) (u : IsUtf8 text) (some : text ≢ [])
+    (others : length (drop (suc (cut text)) text) < length text → IsUtf8 (drop (suc (cut text)) text) → All IsUtf8 (lines_of (drop (suc (cut text)) text))) where
   other : (i : ℕ) → i < cut text → get_or text i 0 ≢ 10
   other i less is = let clash : true ≡ false = sym (eq-eqb (get_or text i 0) 10 is) ∙ fails_before_first is_newline text i 0 less in cc
 

@@ -26,9 +26,14 @@ impl Model for Draft {
 
     ghost Value = { Drafted };
 
-    ghost view = { λ d. drafted d.keysyms.items (string_bytes d.texts) d.spans.items d.first_keysym d.first_byte };
+    ghost view = { λ d. drafted d.keysyms.items
+        (string_bytes d.texts) d.spans.items d.first_keysym d.first_byte };
 
-    ghost invariant = { λ d. ArePlaced d.keysyms.items (string_bytes d.texts) d.spans.items × (d.first_keysym ≤ length d.keysyms.items) × IsCharBoundary (string_bytes d.texts) d.first_byte × IsTrue (is_table (rows_of d.keysyms.items (string_bytes d.texts) d.spans.items)) × IsBehind d.spans.items d.first_keysym d.first_byte };
+    ghost invariant = { λ d. ArePlaced d.keysyms.items (string_bytes d.texts) d.spans.items
+        × (d.first_keysym ≤ length d.keysyms.items)
+        × IsCharBoundary (string_bytes d.texts) d.first_byte
+        × IsTrue (is_table (rows_of d.keysyms.items (string_bytes d.texts) d.spans.items))
+        × IsBehind d.spans.items d.first_keysym d.first_byte };
 }
 
 impl Draft {
@@ -79,7 +84,14 @@ impl Draft {
 
     /// Puts a keysym behind those of the definition that is being read. A refusal changes nothing. O(1).
     pub(crate) fn push_keysym(&mut self, keysym: Keysym) -> Result<(), AllocError>
-        ensures pushed { OnOk result (self.new ≡ with_row self.old (record { sequence = self.old.row.sequence ++ keysym ∷ []; text = self.old.row.text })) }
+        ensures pushed { OnOk result
+            (self.new
+            ≡ with_row self.old
+            (record {
+              sequence = self.old.row.sequence ++ keysym ∷ [];
+              text =
+                  self.old.row.text;
+            })) }
         ensures unchanged { OnErr result (self.new ≡ self.old) }
     {
         self.keysyms.push(keysym)?;
@@ -89,15 +101,25 @@ impl Draft {
     /// Puts the text that a raw text stands for behind that of the definition. O(bytes).
     pub(crate) fn push_raw_text(&mut self, raw: &str) -> Result<(), LexFault>
         ensures exact { PushGives self.old.row.text self.new.row.text result (text_of raw.now) }
-        ensures found { OnOk result ((bytes : List ℕ) × (self.new.row.text ≡ self.old.row.text ++ bytes) × Unescapes raw.now bytes × IsText bytes) }
-        ensures others { (self.new.table ≡ self.old.table) × (self.new.row.sequence ≡ self.old.row.sequence) }
+        ensures found { OnOk result
+            ((bytes : List ℕ) × (self.new.row.text ≡ self.old.row.text ++ bytes)
+            × Unescapes raw.now bytes × IsText bytes) }
+        ensures others { (self.new.table ≡ self.old.table)
+            × (self.new.row.sequence ≡ self.old.row.sequence) }
     {
         push_text(&mut self.texts, raw)
     }
 
     /// Puts a character behind the text of the definition. A refusal changes nothing. O(1).
     pub(crate) fn push_character(&mut self, character: char) -> Result<(), AllocError>
-        ensures pushed { OnOk result (self.new ≡ with_row self.old (record { sequence = self.old.row.sequence; text = self.old.row.text ++ encode_utf8 character })) }
+        ensures pushed { OnOk result
+            (self.new
+            ≡ with_row self.old
+            (record {
+              sequence = self.old.row.sequence;
+              text =
+                  self.old.row.text ++ encode_utf8 character;
+            })) }
         ensures unchanged { OnErr result (self.new ≡ self.old) }
     {
         self.texts.push(character)?;
@@ -127,7 +149,8 @@ impl Draft {
     pub(crate) fn repeat(&mut self, first: usize, count: usize) -> Result<(), AllocError>
         requires within { first + count ≤ length self.old.table }
         requires room { length self.old.table + count ≤ max_definitions }
-        ensures repeated { OnOk result (self.new.table ≡ self.old.table ++ take count (drop first self.old.table)) }
+        ensures repeated { OnOk result
+            (self.new.table ≡ self.old.table ++ take count (drop first self.old.table)) }
         ensures unchanged { OnErr result (self.new ≡ self.old) }
     {
         self.spans.extend_from_within(first..first + count)?;

@@ -35,7 +35,8 @@ impl Kept {
     /// What is kept of a source, where it was read with no more levels left than these. O(1).
     pub(crate) fn find(&self, source: usize, left: usize) -> Option<KeptSource>
         requires { source < 64 }
-        ensures { IfSome result (λ k. (slice_get self.now.by_source source ≡ Some (Some k)) × (k.left ≤ left)) }
+        ensures { IfSome result
+            (λ k. (slice_get self.now.by_source source ≡ Some (Some k)) × (k.left ≤ left)) }
     {
         let kept = self.by_source[source]?;
         if kept.left > left {

@@ -123,14 +123,20 @@ impl<T: Drop> From<AllocFailed<T>> for ReadFault {
 
 /// Settling by either rule changes no run; its rows rise, each sequence once, and none is a prefix of another.
 pub fn law_settle()
-    ensures runs { (names : KeysymNames) (rule : rules.Rule) (table rows : List Definition) (keys : List ℕ) → settled rule table ≡ Ok rows → run names rows keys ≡ run names table keys }
-    ensures prefix_free { (rule : rules.Rule) (table rows : List Definition) → settled rule table ≡ Ok rows → IsTrue (is_prefix_free rows) }
-    ensures rise { (rule : rules.Rule) (table rows : List Definition) → settled rule table ≡ Ok rows → IsTrue (sequences_rise rows) }
+    ensures runs { (names : KeysymNames) (rule : rules.Rule) (table rows : List Definition)
+        (keys : List ℕ) → settled rule table ≡ Ok rows
+        → run names rows keys ≡ run names table keys }
+    ensures prefix_free { (rule : rules.Rule) (table rows : List Definition)
+        → settled rule table ≡ Ok rows → IsTrue (is_prefix_free rows) }
+    ensures rise { (rule : rules.Rule) (table rows : List Definition)
+        → settled rule table ≡ Ok rows → IsTrue (sequences_rise rows) }
 {}
 
 /// What `Refuse` refuses is the least overlap; a table without one is settled, and `Longest` refuses none.
 pub fn law_overlap()
-    ensures least { (table : List Definition) (o : Overlap) → settled Refuse table ≡ Err o → IsLeastOverlap table o }
-    ensures free { (table rows : List Definition) → settled Refuse table ≡ Ok rows → IsTrue (is_prefix_free table) }
+    ensures least { (table : List Definition) (o : Overlap) → settled Refuse table ≡ Err o
+        → IsLeastOverlap table o }
+    ensures free { (table rows : List Definition) → settled Refuse table ≡ Ok rows
+        → IsTrue (is_prefix_free table) }
     ensures never { (table : List Definition) (o : Overlap) → settled Longest table ≡ Err o → ⊥ }
 {}

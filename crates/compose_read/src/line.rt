@@ -85,7 +85,8 @@ pub(crate) fn read_line<'a>(
 /// The line as a text, if it is one. Where it is known to be one, it is not tested.
 fn line_text(bytes: &[u8], is_text: bool) -> Option<&str>
     requires { IsTrue is_text → IsUtf8 bytes.now }
-    ensures { MatchOption result (¬ (IsUtf8 bytes.now)) (λ text. (text.now ≡ bytes.now) × IsUtf8 bytes.now) }
+    ensures { MatchOption result (¬ (IsUtf8 bytes.now))
+        (λ text. (text.now ≡ bytes.now) × IsUtf8 bytes.now) }
 {
     if is_text {
         return Some(unsafe { str::from_utf8_unchecked(bytes) });
@@ -95,8 +96,12 @@ fn line_text(bytes: &[u8], is_text: bool) -> Option<&str>
 
 /// The source that an include names.
 fn include(sources: &Sources, place: Place, name: &str) -> Result<usize, ReadFault>
-    ensures exact { (bytes : List ℕ) → ReadGives (λ (s : ℕ). no_definition) result (include_fault sources.now (visit place bytes) name.now) }
-    ensures found { IfOk result (λ s. (included_by sources.now (Ok (include name.now)) ≡ Some s) × (place.depth < 8) × (s < length sources.now)) }
+    ensures exact { (bytes : List ℕ)
+        → ReadGives (λ (s : ℕ). no_definition) result
+        (include_fault sources.now (visit place bytes) name.now) }
+    ensures found { IfOk result
+        (λ s. (included_by sources.now (Ok (include name.now)) ≡ Some s) × (place.depth < 8)
+        × (s < length sources.now)) }
 {
     let (source, line) = (place.source, place.line);
     let included = sources
@@ -133,7 +138,10 @@ fn read_production(
     draft: &mut Draft,
 ) -> Result<(), ReadFault>
     requires { (0 < length events.now) × (length events.now ≤ 32) }
-    ensures exact { (bytes : List ℕ) → ReadGives (λ _. draft.new.row) result (definition_of names.now (visit place bytes) (map (λ e. e.now) events.now) (option_copied raw_text.entry) (option_copied result_name.entry)) }
+    ensures exact { (bytes : List ℕ)
+        → ReadGives (λ _. draft.new.row) result
+        (definition_of names.now (visit place bytes) (map (λ e. e.now) events.now)
+        (option_copied raw_text.entry) (option_copied result_name.entry)) }
     ensures definition { OnOk result (IsTrue (is_definition draft.new.row)) }
     ensures kept { OnOk result (draft.new.table ≡ draft.old.table) }
 {
@@ -160,9 +168,13 @@ fn read_sequence(
     draft: &mut Draft,
 ) -> Result<(), ReadFault>
     requires { draft.old.row.sequence ≡ [] }
-    ensures exact { (bytes : List ℕ) → ReadGives (λ _. draft.new.row.sequence) result (sequence_of names.now (visit place bytes) 0 (map (λ e. e.now) events.now)) }
-    ensures fed { OnOk result (AreFed draft.new.row.sequence × (length draft.new.row.sequence ≡ length events.now)) }
-    ensures kept { OnOk result ((draft.new.table ≡ draft.old.table) × (draft.new.row.text ≡ draft.old.row.text)) }
+    ensures exact { (bytes : List ℕ)
+        → ReadGives (λ _. draft.new.row.sequence) result
+        (sequence_of names.now (visit place bytes) 0 (map (λ e. e.now) events.now)) }
+    ensures fed { OnOk result
+        (AreFed draft.new.row.sequence × (length draft.new.row.sequence ≡ length events.now)) }
+    ensures kept { OnOk result
+        ((draft.new.table ≡ draft.old.table) × (draft.new.row.text ≡ draft.old.row.text)) }
 {
     for (index, event) in events.iter().enumerate() {
         draft.push_keysym(event_keysym(names, place, index, event)?)?;
@@ -172,7 +184,9 @@ fn read_sequence(
 
 /// The keysym of the event at this index.
 fn event_keysym(names: &Names, place: Place, index: usize, event: &str) -> Result<Keysym, ReadFault>
-    ensures exact { (bytes : List ℕ) → ReadGives (λ (k : ℕ). k) result (event_keysym (visit place bytes) index (value names.now event.now)) }
+    ensures exact { (bytes : List ℕ)
+        → ReadGives (λ (k : ℕ). k) result
+        (event_keysym (visit place bytes) index (value names.now event.now)) }
     ensures fed { IfOk result (λ k. IsTrue (is_fed k)) }
 {
     let (source, line) = (place.source, place.line);
@@ -194,9 +208,12 @@ fn event_keysym(names: &Names, place: Place, index: usize, event: &str) -> Resul
 /// Reads the text of a raw text into a draft that has none yet.
 fn read_string(place: Place, raw: &str, draft: &mut Draft) -> Result<(), ReadFault>
     requires { draft.old.row.text ≡ [] }
-    ensures exact { (bytes : List ℕ) → ReadGives (λ _. Some draft.new.row.text) result (string_text (visit place bytes) (Some raw.now)) }
+    ensures exact { (bytes : List ℕ)
+        → ReadGives (λ _. Some draft.new.row.text) result
+        (string_text (visit place bytes) (Some raw.now)) }
     ensures fits { OnOk result (length draft.new.row.text ≤ 255) }
-    ensures kept { OnOk result ((draft.new.table ≡ draft.old.table) × (draft.new.row.sequence ≡ draft.old.row.sequence)) }
+    ensures kept { OnOk result
+        ((draft.new.table ≡ draft.old.table) × (draft.new.row.sequence ≡ draft.old.row.sequence)) }
 {
     match draft.push_raw_text(raw) {
         Ok(()) => Ok(()),
@@ -211,7 +228,9 @@ fn result_keysym(
     events: usize,
     name: Option<&str>,
 ) -> Result<Option<Keysym>, ReadFault>
-    ensures { (bytes : List ℕ) → ReadGives (keysym_text names.now) result (result_text names.now (visit place bytes) events (option_copied name.entry)) }
+    ensures { (bytes : List ℕ)
+        → ReadGives (keysym_text names.now) result
+        (result_text names.now (visit place bytes) events (option_copied name.entry)) }
 {
     let Some(name) = name else {
         return Ok(None);
@@ -231,7 +250,14 @@ fn push_keysym_text(
     draft: &mut Draft,
 ) -> Result<(), AllocError>
     requires { draft.old.row.text ≡ [] }
-    ensures same { OnOk result (draft.new ≡ with_row draft.old (record { sequence = draft.old.row.sequence; text = keysym_text names.now keysym })) }
+    ensures same { OnOk result
+        (draft.new
+        ≡ with_row draft.old
+        (record {
+          sequence = draft.old.row.sequence;
+          text =
+              keysym_text names.now keysym;
+        })) }
     ensures fits { OnOk result (length draft.new.row.text ≤ 255) }
 {
     if let Some(keysym) = keysym {

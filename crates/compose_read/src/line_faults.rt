@@ -27,7 +27,8 @@ pub fn read_faults(
     root: &str,
     most: usize,
 ) -> Result<Vec<ReadFault>, AllocError>
-    ensures { IfOk result (λ faults. faults.items ≡ take most (faults_of names.now sources.now root.now)) }
+    ensures { IfOk result
+        (λ faults. faults.items ≡ take most (faults_of names.now sources.now root.now)) }
 {
     match sources.visits(root) {
         Some(visits) => faults_in(alloc, names, sources, visits, most),
@@ -54,7 +55,10 @@ fn faults_in(
     mut visits: Visits<'_>,
     most: usize,
 ) -> Result<Vec<ReadFault>, AllocError>
-    ensures { IfOk result (λ faults. faults.items ≡ take most (filter_map (fault_of names.now sources.now) (take max_lines visits.entry))) }
+    ensures { IfOk result
+        (λ faults. faults.items
+        ≡ take most
+        (filter_map (fault_of names.now sources.now) (take max_lines visits.entry))) }
 {
     let mut faults = Vec::new(alloc);
     let mut draft = Draft::new(alloc);

@@ -32,7 +32,9 @@ impl<'a> OpenSource<'a> {
     /// The source at this index, of which no line is visited yet. O(1).
     pub(crate) fn new(sources: &'a Sources, source: usize) -> OpenSource<'a>
         requires { source < length sources.now }
-        ensures { (depth : ℕ) → depth ≤ max_depth → left_in sources.now depth result ≡ visits_below sources.now (max_depth - depth) source }
+        ensures { (depth : ℕ) → depth ≤ max_depth
+            → left_in sources.now depth result
+            ≡ visits_below sources.now (max_depth - depth) source }
     {
         OpenSource {
             source,

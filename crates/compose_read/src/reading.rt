@@ -41,7 +41,8 @@ pub fn read_definitions(
     sources: &Sources,
     root: &str,
 ) -> Result<Definitions, ReadFault>
-    ensures exact { ReadGives (λ (table : List Definition). table) result (definitions_of names.now sources.now root.now) }
+    ensures exact { ReadGives (λ (table : List Definition). table) result
+        (definitions_of names.now sources.now root.now) }
     ensures table { IfOk result (λ table. IsTrue (is_table table)) }
 {
     let Some(source) = sources.index_of(root) else {
@@ -78,9 +79,12 @@ fn read_source<'a>(
     requires within { (source < length sources.now) × (length sources.now ≤ 64) }
     requires levels { left ≤ 8 }
     requires kept { AreKept names.now sources.now progress.old.draft.table kept.old.by_source }
-    ensures reads { ReadsOn names.now sources.now (visits_below sources.now left source) progress.old progress.new result }
-    ensures kept { OnOk result (AreKept names.now sources.now progress.new.draft.table kept.new.by_source) }
-    ensures counted { OnOk result (progress.new.lines ≡ progress.old.lines + length (visits_below sources.now left source)) }
+    ensures reads { ReadsOn names.now sources.now
+        (visits_below sources.now left source) progress.old progress.new result }
+    ensures kept { OnOk result
+        (AreKept names.now sources.now progress.new.draft.table kept.new.by_source) }
+    ensures counted { OnOk result
+        (progress.new.lines ≡ progress.old.lines + length (visits_below sources.now left source)) }
 {
     if let Some(again) = kept_source(kept, source, left, progress) {
         progress.draft.repeat(again.first, again.count)?;
@@ -123,8 +127,11 @@ fn read_source<'a>(
 /// What is kept of a source, if it was read where no more levels were left below it, and if it passes no limit when it is read on from here.
 fn kept_source(kept: &Kept, source: usize, left: usize, progress: &Progress) -> Option<KeptSource>
     requires { source < 64 }
-    ensures found { IfSome result (λ k. (slice_get kept.now.by_source source ≡ Some (Some k)) × (k.left ≤ left)) }
-    ensures fits { IfSome result (λ k. (progress.now.lines + k.lines ≤ 1000000) × (length progress.now.draft.table + k.count ≤ 100000)) }
+    ensures found { IfSome result
+        (λ k. (slice_get kept.now.by_source source ≡ Some (Some k)) × (k.left ≤ left)) }
+    ensures fits { IfSome result
+        (λ k. (progress.now.lines + k.lines ≤ 1000000)
+        × (length progress.now.draft.table + k.count ≤ 100000)) }
 {
     let again = kept.find(source, left)?;
     if progress.lines.saturating_add(again.lines) > MAX_LINES {
@@ -147,10 +154,12 @@ fn take_line<'a>(
     progress: &mut Progress,
 ) -> Result<Option<usize>, ReadFault>
     requires { IsTrue is_text → IsUtf8 bytes.now }
-    ensures reads { ReadsOn names.now sources.now (visit place bytes.now ∷ []) progress.old progress.new result }
+    ensures reads { ReadsOn names.now sources.now
+        (visit place bytes.now ∷ []) progress.old progress.new result }
     ensures counted { OnOk result (progress.new.lines ≡ progress.old.lines + 1) }
     ensures source { IfOk result (λ o. included sources.now bytes.now ≡ o) }
-    ensures within { IfOk result (λ o. IfSome o (λ s. (place.depth < 8) × (s < length sources.now))) }
+    ensures within { IfOk result
+        (λ o. IfSome o (λ s. (place.depth < 8) × (s < length sources.now))) }
 {
     let (source, line) = (place.source, place.line);
     if progress.lines >= MAX_LINES {

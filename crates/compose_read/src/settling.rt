@@ -49,8 +49,11 @@ impl<T: Drop> From<AllocFailed<T>> for SettleFault {
 
 /// The sequences of the definitions in rising order, each with the text of its last definition. Where one is a prefix of another, the rule decides: the table is refused, or the longer one overrides the shorter one (libxkbcommon). O(n log n) comparisons of sequences.
 pub fn settle(alloc: Global, definitions: Definitions, rule: Rule) -> Result<Sequences, SettleFault>
-    ensures exact { SettleGives (λ (rows : List Definition). rows) result (settled rule definitions) }
-    ensures runs { IfOk result (λ rows. (names : KeysymNames) (keys : List ℕ) → run names rows keys ≡ run names definitions keys) }
+    ensures exact { SettleGives (λ (rows : List Definition). rows) result
+        (settled rule definitions) }
+    ensures runs { IfOk result
+        (λ rows. (names : KeysymNames) (keys : List ℕ)
+        → run names rows keys ≡ run names definitions keys) }
 {
     let rows = definitions.into_rows();
     let keysyms = rows.keysyms;
@@ -72,8 +75,12 @@ fn settle_sorted(
     rule: Rule,
 ) -> Result<Vec<RowSpan>, SettleFault>
     requires { All (λ p. p.keysym_count ≤ 32) spans.items }
-    ensures settled { (texts : List ℕ) → SettleGives (λ v. rows_of keysyms.now texts v.items) result (settled_neighbours rule (rows_of keysyms.now texts spans.items)) }
-    ensures placed { IfOk result (λ v. (texts : List ℕ) → ArePlaced keysyms.now texts spans.items → ArePlaced keysyms.now texts v.items) }
+    ensures settled { (texts : List ℕ)
+        → SettleGives (λ v. rows_of keysyms.now texts v.items) result
+        (settled_neighbours rule (rows_of keysyms.now texts spans.items)) }
+    ensures placed { IfOk result
+        (λ v. (texts : List ℕ) → ArePlaced keysyms.now texts spans.items
+        → ArePlaced keysyms.now texts v.items) }
 {
     let mut kept = Vec::with_capacity(alloc, spans.len())?;
     let mut last: Option<RowSpan> = None;
@@ -98,7 +105,8 @@ fn settle_sorted(
 fn leave_out(short: &[Keysym], long: &[Keysym], rule: Rule) -> Result<(), SettleFault>
     requires few { (length short.now ≤ 32) × (length long.now ≤ 32) }
     requires is_prefix { starts_with nat_eq long.now short.now ≡ true }
-    ensures { (d e : Definition) → d.sequence ≡ short.now → e.sequence ≡ long.now → SettleGives (λ _. false) result (stays_before rule d e) }
+    ensures { (d e : Definition) → d.sequence ≡ short.now → e.sequence ≡ long.now
+        → SettleGives (λ _. false) result (stays_before rule d e) }
 {
     if long.len() == short.len() {
         return Ok(());

@@ -20,9 +20,15 @@ pub(crate) fn sorted(
     spans: Vec<RowSpan>,
 ) -> Result<Vec<RowSpan>, AllocError>
     requires { length spans.items ≤ max_definitions }
-    ensures ascend { IfOk result (λ r. (texts : List ℕ) → SequencesAscend (rows_of keysyms.now texts r.items)) }
-    ensures same { IfOk result (λ r. (texts : List ℕ) → IsSameTable (rows_of keysyms.now texts r.items) (rows_of keysyms.now texts spans.items)) }
-    ensures placed { IfOk result (λ r. (texts : List ℕ) → ArePlaced keysyms.now texts spans.items → ArePlaced keysyms.now texts r.items) }
+    ensures ascend { IfOk result
+        (λ r. (texts : List ℕ) → SequencesAscend (rows_of keysyms.now texts r.items)) }
+    ensures same { IfOk result
+        (λ r. (texts : List ℕ)
+        → IsSameTable (rows_of keysyms.now texts r.items)
+        (rows_of keysyms.now texts spans.items)) }
+    ensures placed { IfOk result
+        (λ r. (texts : List ℕ) → ArePlaced keysyms.now texts spans.items
+        → ArePlaced keysyms.now texts r.items) }
 {
     let mut sorted = sorted_by_prefix(alloc, keysyms, &spans)?;
     sort_run(alloc, keysyms, &mut sorted)?;
@@ -85,7 +91,9 @@ fn sort_run(alloc: Global, keysyms: &[Keysym], run: &mut [RowSpan]) -> Result<()
 /// The spans at the indexes that these sort keys have in their low 17 bits.
 fn picked(alloc: Global, spans: &[RowSpan], sort_keys: &[u64]) -> Result<Vec<RowSpan>, AllocError>
     requires { All (λ n. n % 131072 < length spans.now) sort_keys.now }
-    ensures { IfOk result (λ r. (d : RowSpan) → r.items ≡ map (λ n. slice_index_or spans.now (n % 131072) d) sort_keys.now) }
+    ensures { IfOk result
+        (λ r. (d : RowSpan)
+        → r.items ≡ map (λ n. slice_index_or spans.now (n % 131072) d) sort_keys.now) }
 {
     let mut picked = Vec::with_capacity(alloc, sort_keys.len())?;
     for sort_key in sort_keys {

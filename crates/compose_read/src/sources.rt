@@ -85,10 +85,13 @@ impl Sources {
 
     /// Adds a source behind the others. A refusal changes nothing. O(1) in the sources, beside the copy of the name.
     pub fn add(&mut self, name: &str, bytes: Vec<u8>) -> Result<(), SourceFault>
-        ensures ok { OnOk result ((add_fault self.old name.now ≡ None) × (self.new ≡ self.old ++ record { name = name.now; bytes = bytes.items } ∷ [])) }
+        ensures ok { OnOk result
+            ((add_fault self.old name.now ≡ None)
+            × (self.new ≡ self.old ++ record { name = name.now; bytes = bytes.items } ∷ [])) }
         ensures err { OnErr result (self.new ≡ self.old) }
         ensures refused { IfErr result (λ e. e ≢ NoMemory → add_fault self.old name.now ≡ Some e) }
-        ensures fault { IsSome (add_fault self.old name.now) → IfErr result (λ e. add_fault self.old name.now ≡ Some e) }
+        ensures fault { IsSome (add_fault self.old name.now)
+            → IfErr result (λ e. add_fault self.old name.now ≡ Some e) }
     {
         if self.index_of(name).is_some() {
             return Err(SourceFault::NameTaken);
@@ -121,7 +124,8 @@ impl Sources {
     fn append(&mut self, name: &str, bytes: Vec<u8>) -> Result<(), AllocError>
         requires new { position (λ s. bytes_eq name.now s.name) self.old ≡ None }
         requires room { length self.old < 64 }
-        ensures ok { OnOk result (self.new ≡ self.old ++ record { name = name.now; bytes = bytes.items } ∷ []) }
+        ensures ok { OnOk result
+            (self.new ≡ self.old ++ record { name = name.now; bytes = bytes.items } ∷ []) }
         ensures err { OnErr result (self.new ≡ self.old) }
     {
         let alloc = *self.files.allocator();

@@ -55,7 +55,9 @@ impl Sources {
 
     /// All lines that are read from the source with the root's name, in reading order; none where no source has that name. O(1).
     pub fn visits(&self, root: &str) -> Option<Visits<'_>>
-        ensures { result ≡ (if nat_lt (source_named self.now root.now) (length self.now) then Some (visits self.now (source_named self.now root.now)) else None) }
+        ensures { result
+            ≡ (if nat_lt (source_named self.now root.now) (length self.now) then Some
+            (visits self.now (source_named self.now root.now)) else None) }
     {
         let source = self.index_of(root)?;
         let mut opened = ArrayVec::new();
@@ -87,8 +89,15 @@ impl<'a> Iterator for Visits<'a> {
 /// The next line of the last open source that has one; those that have none are closed.
 fn take_line<'a>(opened: &mut OpenSources<'a>) -> Option<VisitedLine<'a>>
     requires { length opened.old.items ≤ 9 }
-    ensures lines { (sources : List Source) → MatchOption result ((left_from sources 0 opened.old.items ≡ []) × (left_from sources 0 opened.new.items ≡ [])) (λ v. left_from sources 0 opened.old.items ≡ below sources (max_depth - v.depth) (visit_of v) ++ left_from sources 0 opened.new.items) }
-    ensures depth { IfSome result (λ v. (length opened.new.items ≡ v.depth + 1) × (v.depth ≤ max_depth)) }
+    ensures lines { (sources : List Source)
+        → MatchOption result
+        ((left_from sources 0 opened.old.items ≡ [])
+        × (left_from sources 0 opened.new.items ≡ []))
+        (λ v. left_from sources 0 opened.old.items
+        ≡ below sources (max_depth - v.depth) (visit_of v)
+        ++ left_from sources 0 opened.new.items) }
+    ensures depth { IfSome result
+        (λ v. (length opened.new.items ≡ v.depth + 1) × (v.depth ≤ max_depth)) }
     ensures few { length opened.new.items ≤ 9 }
 {
     while let Some(top) = opened.pop() {
@@ -109,7 +118,9 @@ fn take_line<'a>(opened: &mut OpenSources<'a>) -> Option<VisitedLine<'a>>
 /// Opens the source that a line of the last open source includes, unless too many includes lead to that line.
 fn open_included<'a>(sources: &'a Sources, visited: VisitedLine<'a>, opened: &mut OpenSources<'a>)
     requires depth { (length opened.old.items ≡ visited.depth + 1) × (visited.depth ≤ max_depth) }
-    ensures lines { below sources.now (max_depth - visited.entry.depth) (visit_of visited.entry) ++ left_from sources.now 0 opened.old.items ≡ visit_of visited.entry ∷ left_from sources.now 0 opened.new.items }
+    ensures lines { below sources.now (max_depth - visited.entry.depth) (visit_of visited.entry)
+        ++ left_from sources.now 0 opened.old.items
+        ≡ visit_of visited.entry ∷ left_from sources.now 0 opened.new.items }
     ensures few { length opened.new.items ≤ 9 }
 {
     if visited.depth >= MAX_DEPTH {

@@ -29,7 +29,8 @@ all-more : {X : Type 0} (P : X → Type 0) (xs : List X) (x : X) → AllByRecurs
 all-more P [] x a p = (p, tt)
 all-more P (y ∷ xs) x a p = (a.0, all-more P xs x a.1 p)
 
-run-more : (reading : Reading) (old mid new : ServiceState) (qs : List Request) (rs : List Reply) (q : Request) (r : Reply) → Run reading old qs rs mid → Step reading mid q r new → Run reading old (qs ++ q ∷ []) (rs ++ r ∷ []) new
+run-more : (reading : Reading) (old mid new : ServiceState) (qs : List Request) (rs : List Reply) (q : Request) (r : Reply) → Run reading old qs rs mid → Step reading mid q r new
+    → Run reading old (qs ++ q ∷ []) (rs ++ r ∷ []) new
 run-more reading old mid new [] [] q r h s = (new, subst (λ (st : ServiceState). Step reading st q r new) h s, refl)
 run-more reading old mid new (p ∷ qs) (o ∷ rs) q r h s = (h.0, h.1, run-more reading h.0 mid new qs rs q r h.2 s)
 run-more reading old mid new [] (o ∷ rs) q r h s = absurd h
@@ -77,13 +78,23 @@ module _ (reading : Reading) (old : ServiceState) (left written : Option (List �
   module _ (now : ServiceState) (left' written' : Option (List ℕ)) (count : ℕ) where
     pub going_read : (left'' : Option (List ℕ)) (held rest : List ℕ) → Going now left' written' count held → SameStream held left' rest left'' → Going now left'' written' count rest
     going_read left'' held rest g s =
-        record { requests = g.requests; replies = g.replies; fit = g.fit; run = g.run; counted = g.counted; read = consumes-more (frames g.requests) held rest left left' left'' g.read s; wrote = g.wrote }
+        record {
+          requests = g.requests;
+          replies = g.replies;
+          fit = g.fit;
+          run = g.run;
+          counted = g.counted;
+          read = consumes-more (frames g.requests) held rest left left' left'' g.read s;
+          wrote =
+              g.wrote;
+        }
 
     frames-more : (rest held' : List ℕ) (q : Request) (g : Going now left' written' count rest) → rest ≡ frame q ++ held' → frames g.requests ++ rest ≡ frames (g.requests ++ q ∷ []) ++ held'
     frames-more rest held' q g e =
         ap (λ y. frames g.requests ++ y) e ∙ sym (append_assoc (frames g.requests) (frame q) held') ∙ ap (λ y. y ++ held') (sym (flat-more frame g.requests q))
 
-    pub going_answered : (rest held' : List ℕ) (q : Request) (r : Reply) (next : ServiceState) (written'' : Option (List ℕ)) (g : Going now left' written' count rest) → Fits q → rest ≡ frame q ++ held' → Step reading now q r next
+    pub going_answered : (rest held' : List ℕ) (q : Request) (r : Reply) (next : ServiceState) (written'' : Option (List ℕ)) (g : Going now left' written' count rest) → Fits q
+        → rest ≡ frame q ++ held' → Step reading now q r next
         → Appends written' written'' (reply_bytes r) → Going next left' written'' (count + 1) held'
     going_answered rest held' q r next written'' g f e s w = record {
       requests = g.requests ++ q ∷ [];
@@ -92,13 +103,15 @@ module _ (reading : Reading) (old : ServiceState) (left written : Option (List �
       run = run-more reading old now next g.requests g.replies q r g.run s;
       counted = length-append g.requests (q ∷ []) ∙ ap (λ n. n + 1) g.counted;
       read = subst (λ (h : List ℕ). Consumes left left' h) (frames-more rest held' q g e) g.read;
-      wrote = subst (λ (h : List ℕ). Appends written written'' h) (sym (flat-more reply_bytes g.replies r)) (Appends-then written written' written'' (replies_bytes g.replies) (reply_bytes r) g.wrote w);
+      wrote =
+          subst (λ (h : List ℕ). Appends written written'' h) (sym (flat-more reply_bytes g.replies r)) (Appends-then written written' written'' (replies_bytes g.replies) (reply_bytes r) g.wrote w);
     }
 
     -- ---- ends
 
     -- a write of a reply failed
-    pub ends_in_reply : (rest held' : List ℕ) (q : Request) (r : Reply) (next : ServiceState) (written'' : Option (List ℕ)) (read_failed write_failed : Bool) (n : ℕ) (g : Going now left' written' count rest)
+    pub ends_in_reply : (rest held' : List ℕ) (q : Request) (r : Reply) (next : ServiceState) (written'' : Option (List ℕ)) (read_failed write_failed : Bool) (n : ℕ)
+        (g : Going now left' written' count rest)
         → count < max_frames → Fits q → rest ≡ frame q ++ held' → Step reading now q r next → n < length (reply_bytes r) → Appends written' written'' (take n (reply_bytes r)) → write_failed ≡ true
         → Serves reading old next left left' written written'' read_failed write_failed (Err Write)
     ends_in_reply rest held' q r next written'' read_failed write_failed n g c f e s l w failed = (
@@ -114,18 +127,23 @@ module _ (reading : Reading) (old : ServiceState) (left written : Option (List �
     )
 
     module _ (rest : List ℕ) (g : Going now left' written' count rest) (few : count ≤ max_frames) where
-      served_by : (written'' : Option (List ℕ)) (bytes : List ℕ) → Appends written written'' bytes → IsServed reading old now left left' written written'' (record { requests = g.requests; replies = g.replies; rest = rest; written = bytes })
+      served_by : (written'' : Option (List ℕ)) (bytes : List ℕ) → Appends written written'' bytes
+          → IsServed reading old now left left' written written'' (record { requests = g.requests; replies = g.replies; rest = rest; written = bytes })
       served_by written'' bytes w = record { fit = g.fit; run = g.run; few = subst (λ (n : ℕ). n ≤ max_frames) (sym g.counted) few; read = g.read; wrote = w }
 
-      all_written : (written'' : Option (List ℕ)) → written'' ≡ written' → IsServed reading old now left left' written written'' (record { requests = g.requests; replies = g.replies; rest = rest; written = replies_bytes g.replies })
+      all_written : (written'' : Option (List ℕ)) → written'' ≡ written'
+          → IsServed reading old now left left' written written'' (record { requests = g.requests; replies = g.replies; rest = rest; written = replies_bytes g.replies })
       all_written written'' e = served_by written'' (replies_bytes g.replies) (subst (λ (o : Option (List ℕ)). Appends written o (replies_bytes g.replies)) (sym e) g.wrote)
 
       -- no request follows
-      pub ends_at : (stop : Stop) (result : Result Ended ServeFault) (held' : List ℕ) (written'' : Option (List ℕ)) (read_failed write_failed : Bool) → ComesSo (Err stop) rest held' left' read_failed → EndsBy stop result written' written'' write_failed
+      pub ends_at : (stop : Stop) (result : Result Ended ServeFault) (held' : List ℕ) (written'' : Option (List ℕ)) (read_failed write_failed : Bool) → ComesSo (Err stop) rest held' left' read_failed
+          → EndsBy stop result written' written'' write_failed
           → Serves reading old now left left' written written'' read_failed write_failed result
       ends_at Faulty (Ok Malformed) held' written'' rf wf c w = (
         _,
-        served_by written'' (replies_bytes (g.replies ++ malformed_reply ∷ [])) (subst (λ (h : List ℕ). Appends written written'' h) (sym (flat-more reply_bytes g.replies malformed_reply)) (Appends-then written written' written'' (replies_bytes g.replies) (reply_bytes malformed_reply) g.wrote w)),
+        served_by written'' (replies_bytes (g.replies ++ malformed_reply ∷ []))
+            (subst (λ (h : List ℕ). Appends written written'' h) (sym (flat-more reply_bytes g.replies malformed_reply))
+            (Appends-then written written' written'' (replies_bytes g.replies) (reply_bytes malformed_reply) g.wrote w)),
         record { faulty = c; written = refl },
       )
       ends_at Faulty (Err Write) held' written'' rf wf c w = (

@@ -40,7 +40,8 @@ pub(crate) enum Stop {
 
 /// Reads one piece.
 fn pull_piece<R: Pull>(feeder: &mut Feeder, reader: &mut R) -> Pulled
-    ensures so { (rest : List ℕ) × SameStream (feeder.old) (R.left reader.old) rest (R.left reader.new)
+    ensures so { (rest : List ℕ)
+        × SameStream (feeder.old) (R.left reader.old) rest (R.left reader.new)
         × PullsSo result (feeder.old) rest (feeder.new) (R.left reader.new) (R.failed reader.new) }
     ensures mark { result ≢ Pulled.Failure → R.failed reader.new ≡ R.failed reader.old }
 {
@@ -61,7 +62,8 @@ pub(crate) fn next_request<R: Pull>(
     alloc: Global,
     reader: &mut R,
 ) -> Result<Request, Stop>
-    ensures so { (rest : List ℕ) × SameStream (feeder.old) (R.left reader.old) rest (R.left reader.new)
+    ensures so { (rest : List ℕ)
+        × SameStream (feeder.old) (R.left reader.old) rest (R.left reader.new)
         × ComesSo result rest (feeder.new) (R.left reader.new) (R.failed reader.new) }
     ensures mark { result ≢ Err Stop.ReadFailed → R.failed reader.new ≡ R.failed reader.old }
 {

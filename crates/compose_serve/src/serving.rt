@@ -25,12 +25,15 @@ pub trait Answer {
 
     /// Answers one request.
     fn answer(&mut self, alloc: Global, request: &Request) -> Reply
-        ensures { (said : words.Reply) × Step reading (state self.old) (request_of request.now) said (state self.new) × SaysReply result said };
+        ensures { (said : words.Reply)
+            × Step reading (state self.old) (request_of request.now) said (state self.new)
+            × SaysReply result said };
 }
 
 /// Writes what is due where no request follows: the refusal of a faulty frame.
 fn end_with<W: Push>(writer: &mut W, stop: Stop) -> Result<Ended, ServeFault>
-    ensures so { EndsBy stop result (W.written writer.old) (W.written writer.new) (W.failed writer.new) }
+    ensures so { EndsBy stop result (W.written writer.old) (W.written writer.new)
+        (W.failed writer.new) }
     ensures mark { result ≢ Err ServeFault.Write → W.failed writer.new ≡ W.failed writer.old }
 {
     match stop {
@@ -63,7 +66,9 @@ pub fn serve<S: Answer, R: Pull, W: Push>(
     reader: &mut R,
     writer: &mut W,
 ) -> Result<Ended, ServeFault>
-    ensures ends { Serves S.reading (S.state service.old) (S.state service.new) (R.left reader.old) (R.left reader.new) (W.written writer.old) (W.written writer.new) (R.failed reader.new) (W.failed writer.new) result }
+    ensures ends { Serves S.reading (S.state service.old) (S.state service.new)
+        (R.left reader.old) (R.left reader.new) (W.written writer.old) (W.written writer.new)
+        (R.failed reader.new) (W.failed writer.new) result }
     ensures read_mark { result ≢ Err ServeFault.Read → R.failed reader.new ≡ R.failed reader.old }
     ensures write_mark { result ≢ Err ServeFault.Write → W.failed writer.new ≡ W.failed writer.old }
 {

@@ -19,7 +19,8 @@ pub trait Pull {
     ///
     /// Failed where it cannot: it is marked then, and no byte is gone.
     fn pull(&mut self, piece: &mut [u8]) -> Result<usize, Failed>
-        ensures { Pulls (left self.old) (left self.new) (failed self.old) (failed self.new) result piece.new };
+        ensures { Pulls (left self.old) (left self.new) (failed self.old)
+            (failed self.new) result piece.new };
 }
 
 /// What bytes are pushed to.
@@ -34,14 +35,16 @@ pub trait Push {
     ///
     /// Failed where it cannot: it is marked then, and has taken none.
     fn push(&mut self, piece: &[u8]) -> Result<usize, Failed>
-        ensures { Pushes (written self.old) (written self.new) (failed self.old) (failed self.new) result piece.now };
+        ensures { Pushes (written self.old) (written self.new) (failed self.old)
+            (failed self.new) result piece.now };
 }
 
 /// Writes all of the bytes, by as many pushes as it takes; at a failure a part of them is written.
 pub(crate) fn push_all<W: Push>(writer: &mut W, bytes: &[u8]) -> Result<(), Failed>
     ensures ok { OnOk result (Appends (W.written writer.old) (W.written writer.new) bytes.now) }
     ensures kept { OnOk result (W.failed writer.new ≡ W.failed writer.old) }
-    ensures err { OnErr result (PushesPart (W.written writer.old) (W.written writer.new) bytes.now) }
+    ensures err { OnErr result
+        (PushesPart (W.written writer.old) (W.written writer.new) bytes.now) }
     ensures marked { OnErr result (W.failed writer.new ≡ true) }
 {
     let mut done = 0;

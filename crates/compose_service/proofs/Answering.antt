@@ -72,11 +72,13 @@ module _ (old : ServiceState) (n : ℕ) where
   unfolding Answered
   open_full number e h l = (words.refused words.full, (h, l, refl), e)
 
-  pub open_no_memory : (number : ℕ) (rows : List Row) → number ≡ code words.no_memory → IsNone (session_of old.sessions n) → length old.sessions < max_sessions → rows ≡ old.sessions → Answered old n words.open_session (Refused number) (with_sessions old rows)
+  pub open_no_memory : (number : ℕ) (rows : List Row) → number ≡ code words.no_memory → IsNone (session_of old.sessions n) → length old.sessions < max_sessions → rows ≡ old.sessions
+      → Answered old n words.open_session (Refused number) (with_sessions old rows)
   unfolding Answered
   open_no_memory number rows e h l r = (words.refused words.no_memory, (h, l, ap (with_sessions old) r), e)
 
-  pub open_opened : (rows : List Row) → IsNone (session_of old.sessions n) → length old.sessions < max_sessions → rows ≡ old.sessions ++ record { number = n; session = rest } ∷ [] → Answered old n words.open_session Opened (with_sessions old rows)
+  pub open_opened : (rows : List Row) → IsNone (session_of old.sessions n) → length old.sessions < max_sessions → rows ≡ old.sessions ++ record { number = n; session = rest } ∷ []
+      → Answered old n words.open_session Opened (with_sessions old rows)
   unfolding Answered
   open_opened rows h l r = (words.opened, (h, l, ap (with_sessions old) r), tt)
 
@@ -98,7 +100,8 @@ module _ (old : ServiceState) (n : ℕ) where
     key_bad k number e h f = (words.refused words.bad_keysym, (one_there h, f, ap (with_sessions old) refed_rows), e)
 
     pub key_fed : (k x : ℕ) (answer : Answer) (rows' : List Row) (s : Session) → (x ≡ k) × IsTrue (is_keysym k) → session_of rows n ≡ Some s → rows' ≡ with_session rows n (session_fed old.table s x)
-        → SaysAnswer answer (words.fed (session_fed old.table s x).status (not (is_ignored x)) (step old.names old.table s.pending x).text) → Answered old n (words.key k) answer (with_sessions old rows')
+        → SaysAnswer answer (words.fed (session_fed old.table s x).status (not (is_ignored x)) (step old.names old.table s.pending x).text)
+        → Answered old n (words.key k) answer (with_sessions old rows')
     unfolding Answered
     key_fed k x answer rows' s t h r says =
         let there : session_of (map (refed_row old.table n) old.sessions) n ≡ Some s = subst (λ (rs : List Row). session_of rs n ≡ Some s) refed_rows h in (
@@ -115,7 +118,8 @@ module _ (old : ServiceState) (n : ℕ) where
           says,
         )
 
-    pub reset_no_session : (number : ℕ) (rows' : List Row) → number ≡ code words.no_session → IsNone (session_of rows n) → rows' ≡ rows → Answered old n words.reset (Refused number) (with_sessions old rows')
+    pub reset_no_session : (number : ℕ) (rows' : List Row) → number ≡ code words.no_session → IsNone (session_of rows n) → rows' ≡ rows
+        → Answered old n words.reset (Refused number) (with_sessions old rows')
     unfolding Answered
     reset_no_session number rows' e h r = (words.refused words.no_session, (none_there h, ap (with_sessions old) (r ∙ refed_rows)), e)
 
@@ -123,7 +127,8 @@ module _ (old : ServiceState) (n : ℕ) where
     unfolding Answered
     reset_done rows' h r = (words.was_reset, (one_there h, ap (with_sessions old) (r ∙ ap (λ rs. with_session rs n rest) refed_rows)), tt)
 
-    pub close_no_session : (number : ℕ) (rows' : List Row) → number ≡ code words.no_session → IsNone (session_of rows n) → rows' ≡ rows → Answered old n words.close (Refused number) (with_sessions old rows')
+    pub close_no_session : (number : ℕ) (rows' : List Row) → number ≡ code words.no_session → IsNone (session_of rows n) → rows' ≡ rows
+        → Answered old n words.close (Refused number) (with_sessions old rows')
     unfolding Answered
     close_no_session number rows' e h r = (words.refused words.no_session, (none_there h, ap (with_sessions old) (r ∙ refed_rows)), e)
 
@@ -141,11 +146,13 @@ module _ (old : ServiceState) (n : ℕ) where
 
   -- a key, where its session is refed and fed at once
 
-  pub key_nobody : (k number : ℕ) (rows : List Row) → number ≡ code words.no_session → session_of old.sessions n ≡ None → rows ≡ old.sessions → Answered old n (words.key k) (Refused number) (with_sessions old rows)
+  pub key_nobody : (k number : ℕ) (rows : List Row) → number ≡ code words.no_session → session_of old.sessions n ≡ None → rows ≡ old.sessions
+      → Answered old n (words.key k) (Refused number) (with_sessions old rows)
   key_nobody k number rows e none r =
       key_no_session rows (r ∙ sym (nobody_changed n (session_loaded old.table) old.sessions none)) k number e (ap (λ rs. is_some (session_of rs n)) r ∙ ap is_some none)
 
-  pub key_refed : (k x : ℕ) (answer : Answer) (rows : List Row) (s : Session) → (x ≡ k) × IsTrue (is_keysym k) → session_of old.sessions n ≡ Some s → rows ≡ with_session old.sessions n (session_fed old.table (session_loaded old.table s) x)
+  pub key_refed : (k x : ℕ) (answer : Answer) (rows : List Row) (s : Session) → (x ≡ k) × IsTrue (is_keysym k) → session_of old.sessions n ≡ Some s
+      → rows ≡ with_session old.sessions n (session_fed old.table (session_loaded old.table s) x)
       → SaysAnswer answer (words.fed (session_fed old.table (session_loaded old.table s) x).status (not (is_ignored x)) (step old.names old.table (session_loaded old.table s).pending x).text)
       → Answered old n (words.key k) answer (with_sessions old rows)
   key_refed k x answer rows s t there r says =
@@ -156,7 +163,8 @@ module _ (old : ServiceState) (n : ℕ) where
 -- ---- Load
 
 -- a valid table that becomes the current one keeps what is stored sound
-pub swap_sound : (inside old : ServiceState) → inside ≡ old → (table : List Definition) (certificate : Certificate) (rows : List Row) → is_prefix_free table ≡ true → IsValid old.names old.table table old.repertoire certificate
+pub swap_sound : (inside old : ServiceState) → inside ≡ old → (table : List Definition) (certificate : Certificate) (rows : List Row) → is_prefix_free table ≡ true
+    → IsValid old.names old.table table old.repertoire certificate
     → AreKept inside.table inside.sessions → rows ≡ rows_at_swap certificate.fresh inside.table inside.sessions → AreKept table rows
 swap_sound inside old is table certificate rows free valid kept e =
     let valid' : IsValid inside.names inside.table table inside.repertoire certificate = subst (λ (s : ServiceState). IsValid s.names s.table table s.repertoire certificate) (sym is) valid in
@@ -184,7 +192,8 @@ module _ (now : ServiceState) (rule : Rule) (bytes : List ℕ) {T : Type 0} (vie
   unfolding Checked
   load_valid p h = h.2
 
-  pub load_done : (n : ℕ) (p : T × Certificate) (answer : Answer) (new : ServiceState) → Checked now rule bytes view (Ok p) → new ≡ swapped now (view p.0) p.1.fresh → SaysAnswer answer (words.loaded (one_more now.loads)) → Answered now n (words.load rule bytes) answer new
+  pub load_done : (n : ℕ) (p : T × Certificate) (answer : Answer) (new : ServiceState) → Checked now rule bytes view (Ok p) → new ≡ swapped now (view p.0) p.1.fresh
+      → SaysAnswer answer (words.loaded (one_more now.loads)) → Answered now n (words.load rule bytes) answer new
   unfolding Answered Checked
   load_done n p answer new h e says = (words.loaded (one_more now.loads), (view p.0, p.1, h.0, h.1, h.2, refl, e), says)
 
@@ -206,7 +215,8 @@ module _ (now : ServiceState) (rule : Rule) (bytes : List ℕ) {T : Type 0} (vie
     reads : (said : Result (List Definition) NoTable) → first_table now.names b.sources rule ≡ said → reading rule now.names bytes ≡ parts_by said (certificate_of b.certificate)
     reads said e = ap (bundle_parts rule now.names) bundled ∙ ap (λ r. parts_by r (certificate_of b.certificate)) e
 
-    table_refused_by : (fault : TableFault) (said : Result (List Definition) NoTable) → of_table fault ≡ TableRefused → first_table now.names b.sources rule ≡ said → TableFails fault said → Checked now rule bytes view (Err TableRefused)
+    table_refused_by : (fault : TableFault) (said : Result (List Definition) NoTable) → of_table fault ≡ TableRefused → first_table now.names b.sources rule ≡ said → TableFails fault said
+        → Checked now rule bytes view (Err TableRefused)
     unfolding Checked
     table_refused_by fault (Err why) is e h = (reads (Err why) e, refl)
     table_refused_by fault (Ok table) is e h = absurd (no_fault fault table h)
@@ -215,7 +225,8 @@ module _ (now : ServiceState) (rule : Rule) (bytes : List ℕ) {T : Type 0} (vie
     unfolding Checked
     table_fault table_faults.NoMemory h = refl
     table_fault (table_faults.Read fault) h = table_refused_by (table_faults.Read fault) (first_table now.names b.sources rule) refl refl h
-    table_fault (table_faults.Settle (settle_faults.Overlap short long)) h = table_refused_by (table_faults.Settle (settle_faults.Overlap short long)) (first_table now.names b.sources rule) refl refl h
+    table_fault (table_faults.Settle (settle_faults.Overlap short long)) h =
+        table_refused_by (table_faults.Settle (settle_faults.Overlap short long)) (first_table now.names b.sources rule) refl refl h
     table_fault (table_faults.Settle settle_faults.NoMemory) h = absurd h
     table_fault (table_faults.Build build_faults.TooManyNodes) h = table_refused_by (table_faults.Build build_faults.TooManyNodes) (first_table now.names b.sources rule) refl refl h
     table_fault (table_faults.Build build_faults.NoMemory) h = absurd h
@@ -240,14 +251,16 @@ module _ (now : ServiceState) (rule : Rule) (bytes : List ℕ) {T : Type 0} (vie
         valid free h = (reads_on (Ok certificate) is_certificate, free, h)
 
 -- the result of a `?` is the refusal of its fault
-pub raised : {T : Type 0} (now : ServiceState) (rule : Rule) (bytes : List ℕ) (view : T → List Definition) (result : Result (T × Certificate) Refusal) (why : Refusal) → IsErrAnd result (λ e. e ≡ why) → Checked now rule bytes view (Err why) → Checked now rule bytes view result
+pub raised : {T : Type 0} (now : ServiceState) (rule : Rule) (bytes : List ℕ) (view : T → List Definition) (result : Result (T × Certificate) Refusal) (why : Refusal) → IsErrAnd result (λ e. e ≡ why)
+    → Checked now rule bytes view (Err why) → Checked now rule bytes view result
 raised now rule bytes view (Ok p) why is h = absurd is
 raised now rule bytes view (Err e) why is h = subst (λ (y : Refusal). Checked now rule bytes view (Err y)) (sym is) h
 
 -- ---- any request
 
 module _ (old : ServiceState) (n : ℕ) (body : Body) (answer : Answer) (new : ServiceState) where
-  pub answered_stored : Answered old n body answer new → (said : words.Answer) × LateAnswers reading old n body said new × SaysReply (record { session = n; answer = answer }) (record { session = n; answer = said })
+  pub answered_stored : Answered old n body answer new
+      → (said : words.Answer) × LateAnswers reading old n body said new × SaysReply (record { session = n; answer = answer }) (record { session = n; answer = said })
   unfolding Answered
   answered_stored h = (h.0, h.1, (refl, h.2))
 

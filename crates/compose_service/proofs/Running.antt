@@ -26,16 +26,20 @@ pub one_more : (reading : Reading) (old mid new : ServiceState) (requests : List
 one_more reading old mid new requests q replies r told h =
     (told.0 ++ h.0 ∷ [], joined reading old mid new requests (q ∷ []) told.0 (h.0 ∷ []) told.1 (new, h.1, refl), say_more replies told.0 r h.0 told.2 h.2)
 
-requests_more : (requests : List Request) (i : ℕ) (q d : Request) → i < length requests → q ≡ get_or requests i d → map request_of (take (i + 1) requests) ≡ map request_of (take i requests) ++ request_of q ∷ []
+requests_more : (requests : List Request) (i : ℕ) (q d : Request) → i < length requests → q ≡ get_or requests i d
+    → map request_of (take (i + 1) requests) ≡ map request_of (take i requests) ++ request_of q ∷ []
 requests_more requests i q d l e =
     ap (map request_of) (ap (λ n. take n requests) (add-one i) ∙ take-suc requests i d l ∙ ap (λ (y : Request). take i requests ++ y ∷ []) (sym e)) ∙ map-append request_of (take i requests) (q ∷ [])
 
 -- the run over one more of these requests
-pub run_more : (reading : Reading) (old mid new : ServiceState) (requests : List Request) (i : ℕ) (q d : Request) (replies replies' : List Reply) (r : Reply) → i < length requests → q ≡ get_or requests i d → replies' ≡ replies ++ r ∷ []
-    → Told reading old (map request_of (take i requests)) replies mid → (s : words.Reply) × Step reading mid (request_of q) s new × SaysReply r s → Told reading old (map request_of (take (i + 1) requests)) replies' new
+pub run_more : (reading : Reading) (old mid new : ServiceState) (requests : List Request) (i : ℕ) (q d : Request) (replies replies' : List Reply) (r : Reply) → i < length requests
+    → q ≡ get_or requests i d → replies' ≡ replies ++ r ∷ []
+    → Told reading old (map request_of (take i requests)) replies mid → (s : words.Reply) × Step reading mid (request_of q) s new × SaysReply r s
+    → Told reading old (map request_of (take (i + 1) requests)) replies' new
 run_more reading old mid new requests i q d replies replies' r l e pushed told h =
     subst (λ (qs : List words.Request). Told reading old qs replies' new) (sym (requests_more requests i q d l e))
-    (subst (λ (rs : List Reply). Told reading old (map request_of (take i requests) ++ request_of q ∷ []) rs new) (sym pushed) (one_more reading old mid new (map request_of (take i requests)) (request_of q) replies r told h))
+    (subst (λ (rs : List Reply). Told reading old (map request_of (take i requests) ++ request_of q ∷ []) rs new) (sym pushed)
+    (one_more reading old mid new (map request_of (take i requests)) (request_of q) replies r told h))
 
 -- no request yet
 pub none_yet : (reading : Reading) (old : ServiceState) (replies : List Reply) → replies ≡ [] → Told reading old [] replies old

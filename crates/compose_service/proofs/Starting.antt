@@ -36,11 +36,13 @@ no_fault (table_faults.Build fault) table h = search rules
 no_fault table_faults.NoMemory table h = h
 
 module _ (names : KeysymNames) (repertoire : Repertoire) where
-  fails : (fault : TableFault) (said : Result (List Definition) NoTable) (certificate : Result Certificate CertFault) → TableFails fault said → (why : NoTable) × (started names repertoire said certificate ≡ Err (without_table why)) × TableFails fault (Err why)
+  fails : (fault : TableFault) (said : Result (List Definition) NoTable) (certificate : Result Certificate CertFault) → TableFails fault said
+      → (why : NoTable) × (started names repertoire said certificate ≡ Err (without_table why)) × TableFails fault (Err why)
   fails fault (Err why) certificate h = (why, refl, h)
   fails fault (Ok table) certificate h = absurd (no_fault fault table h)
 
-  pub table_fault : {T : Type 0} (view : T → List Definition) (result : Result ServiceState StartFault) (fault : TableFault) (said : Result (List Definition) NoTable) (certificate : Result Certificate CertFault)
+  pub table_fault : {T : Type 0} (view : T → List Definition) (result : Result ServiceState StartFault) (fault : TableFault) (said : Result (List Definition) NoTable)
+      (certificate : Result Certificate CertFault)
       → IsErrAnd result (λ e. e ≡ table_raised fault) → TableGives view (Err fault) said → StartGives names repertoire result (started names repertoire said certificate)
   table_fault view (Ok s) fault said certificate is h = absurd is
   table_fault view (Err e) fault said certificate is h = subst (λ (x : StartFault). StartGives names repertoire (Err x) (started names repertoire said certificate)) (sym is) (go fault h)
@@ -53,7 +55,8 @@ module _ (names : KeysymNames) (repertoire : Repertoire) where
       go (table_faults.Build build_faults.TooManyNodes) h = fails (table_faults.Build build_faults.TooManyNodes) said certificate h
       go (table_faults.Build build_faults.NoMemory) h = absurd h
 
-  module _ (said : Result (List Definition) NoTable) (spelt : Result Certificate CertFault) (table : List Definition) (certificate : Certificate) (t : said ≡ Ok table) (c : spelt ≡ Ok certificate) where
+  module _ (said : Result (List Definition) NoTable) (spelt : Result Certificate CertFault) (table : List Definition) (certificate : Certificate) (t : said ≡ Ok table)
+      (c : spelt ≡ Ok certificate) where
     both : started names repertoire said spelt ≡ begun_by (fault_of names table table repertoire certificate) table certificate
     both = ap₂ (λ x y. started names repertoire x y) t c
 

@@ -90,7 +90,14 @@ impl<T: ComposeTable> Model for Service<T> {
 
     ghost Value = { ServiceState };
 
-    ghost view = { λ s. record { table = T.definitions s.table; names = s.names; repertoire = s.repertoire; loads = s.loads; sessions = s.sessions } };
+    ghost view = { λ s. record {
+      table = T.definitions s.table;
+      names = s.names;
+      repertoire =
+          s.repertoire;
+      loads = s.loads;
+      sessions = s.sessions;
+    } };
 
     // the current table does not cancel on what is pending in a session, and its status is composing exactly where something is pending
     ghost invariant = { λ s. AreKept (T.definitions s.table) s.sessions };
@@ -124,7 +131,9 @@ impl<T: ComposeTable> Service<T> {
         rule: Rule,
         certificate: &[u8],
     ) -> Result<Service<T>, StartFault>
-        ensures { StartGives names repertoire result (started names repertoire (first_table names sources rule) (certificate_of certificate.now)) }
+        ensures { StartGives names repertoire result
+            (started names repertoire (first_table names sources rule)
+            (certificate_of certificate.now)) }
     {
         let table: T = read_first_table(alloc, &names, &sources, rule)?;
         let certificate = Certificate::read(alloc, certificate)?;
@@ -172,8 +181,14 @@ impl<T: ComposeTable> Service<T> {
     /// session, unless its certificate has fresh keysyms, and then refeeds each.
     #[inline(always)]
     pub fn answer(&mut self, alloc: Global, request: &Request) -> Reply
-        ensures stored { (said : words.Answer) × LateAnswers reading self.old (request_of request.now).session (request_of request.now).body said self.new × SaysReply result (record { session = (request_of request.now).session; answer = said }) }
-        ensures step { (said : words.Reply) × Step reading (seen self.old) (request_of request.now) said (seen self.new) × SaysReply result said }
+        ensures stored { (said : words.Answer)
+            × LateAnswers reading self.old (request_of request.now).session
+            (request_of request.now).body said self.new
+            × SaysReply result
+            (record { session = (request_of request.now).session; answer = said }) }
+        ensures step { (said : words.Reply)
+            × Step reading (seen self.old) (request_of request.now) said (seen self.new)
+            × SaysReply result said }
     {
         // what is stored is sound, which its invariant tells
         let _sessions = &self.sessions;
@@ -192,7 +207,10 @@ impl<T: ComposeTable> Service<T> {
     /// Answers requests in order, each by `answer`. Room for all replies is taken first; refused then, nothing has changed. The sum of
     /// what the requests cost, and one allocation for the replies.
     pub fn run(&mut self, alloc: Global, requests: &[Request]) -> Result<Vec<Reply>, RunFault>
-        ensures ok { IfOk result (λ replies. (said : List words.Reply) × Run reading (seen self.old) (map request_of requests.now) said (seen self.new) × SayReplies replies.items said) }
+        ensures ok { IfOk result
+            (λ replies. (said : List words.Reply)
+            × Run reading (seen self.old) (map request_of requests.now) said (seen self.new)
+            × SayReplies replies.items said) }
         ensures err { OnErr result (self.new ≡ self.old) }
     {
         let Ok(mut replies) = Vec::with_capacity(alloc, requests.len()) else {
@@ -213,9 +231,13 @@ impl<T: ComposeTable> Service<T> {
         reader: &mut R,
         writer: &mut W,
     ) -> Result<Ended, ServeFault>
-        ensures ends { Serves reading (seen self.old) (seen self.new) (R.left reader.old) (R.left reader.new) (W.written writer.old) (W.written writer.new) (R.failed reader.new) (W.failed writer.new) result }
-        ensures read_mark { result ≢ Err ServeFault.Read → R.failed reader.new ≡ R.failed reader.old }
-        ensures write_mark { result ≢ Err ServeFault.Write → W.failed writer.new ≡ W.failed writer.old }
+        ensures ends { Serves reading (seen self.old) (seen self.new) (R.left reader.old)
+            (R.left reader.new) (W.written writer.old) (W.written writer.new)
+            (R.failed reader.new) (W.failed writer.new) result }
+        ensures read_mark { result ≢ Err ServeFault.Read
+            → R.failed reader.new ≡ R.failed reader.old }
+        ensures write_mark { result ≢ Err ServeFault.Write
+            → W.failed writer.new ≡ W.failed writer.old }
     {
         serve(self, alloc, reader, writer)
     }
@@ -360,7 +382,8 @@ impl<T: ComposeTable> Service<T> {
     /// refed by the one that goes.
     fn swap(&mut self, table: T, certificate: &Certificate) -> Answer
         requires prefix_free { IsTrue (is_prefix_free (T.definitions table)) }
-        requires valid { IsValid self.old.names self.old.table (T.definitions table) self.old.repertoire certificate.now }
+        requires valid { IsValid self.old.names self.old.table
+            (T.definitions table) self.old.repertoire certificate.now }
         ensures swapped { self.new ≡ swapped self.old (T.definitions table) certificate.now.fresh }
         ensures told { SaysAnswer result (words.loaded (one_more self.old.loads)) }
     {

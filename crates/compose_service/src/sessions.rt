@@ -62,7 +62,8 @@ impl Sessions {
     /// Puts a session at rest after the others. Refused where memory is, it changes nothing. O(1), the growth spread.
     pub fn open(&mut self, number: u32) -> Result<(), AllocError>
         requires { IsNone (session_of self.old number) }
-        ensures ok { OnOk result (self.new ≡ self.old ++ record { number = number; session = rest } ∷ []) }
+        ensures ok { OnOk result
+            (self.new ≡ self.old ++ record { number = number; session = rest } ∷ []) }
         ensures err { OnErr result (self.new ≡ self.old) }
     {
         self.rows.insert(number, ComposeState::new())?;
@@ -93,7 +94,19 @@ impl Sessions {
         keysym: Keysym,
         text: &mut ArrayString<255>,
     ) -> Option<(Status, bool)>
-        ensures { MatchOption result ((session_of self.old number ≡ None) × (self.new ≡ self.old)) (λ told. (s : Session) × (session_of self.old number ≡ Some s) × (self.new ≡ with_session self.old number (session_fed (T.definitions table.now) (loaded (T.definitions table.now) s) keysym)) × (told.0 ≡ (session_fed (T.definitions table.now) (loaded (T.definitions table.now) s) keysym).status) × (told.1 ≡ not (is_ignored keysym)) × (text.new.bytes ≡ (step names.now (T.definitions table.now) (loaded (T.definitions table.now) s).pending keysym).text)) }
+        ensures { MatchOption result ((session_of self.old number ≡ None) × (self.new ≡ self.old))
+            (λ told. (s : Session) × (session_of self.old number ≡ Some s)
+            × (self.new
+            ≡ with_session self.old number
+            (session_fed (T.definitions table.now)
+            (loaded (T.definitions table.now) s) keysym))
+            × (told.0
+            ≡ (session_fed (T.definitions table.now)
+            (loaded (T.definitions table.now) s) keysym).status)
+            × (told.1 ≡ not (is_ignored keysym))
+            × (text.new.bytes
+            ≡ (step names.now (T.definitions table.now)
+            (loaded (T.definitions table.now) s).pending keysym).text)) }
     {
         let Some(session) = self.rows.get_mut(&number) else {
             return None;
@@ -126,7 +139,9 @@ impl Sessions {
 
     /// What is pending in the session and its status, if there is one. O(pending keysyms).
     pub fn state(&self, number: u32) -> Option<Answer>
-        ensures { MatchOption result (session_of self.now number ≡ None) (λ answer. (s : Session) × (session_of self.now number ≡ Some s) × SaysAnswer answer (words.state s.status s.pending)) }
+        ensures { MatchOption result (session_of self.now number ≡ None)
+            (λ answer. (s : Session) × (session_of self.now number ≡ Some s)
+            × SaysAnswer answer (words.state s.status s.pending)) }
     {
         let Some(session) = self.rows.get(&number) else {
             return None;
@@ -153,7 +168,8 @@ impl Sessions {
     {
         self.rows.retain(
             |_number: &u32, each: &mut ComposeState| -> bool
-                ensures { (result ≡ true) × (each.new ≡ loaded (T.definitions table.entry.now) each.old) }
+                ensures { (result ≡ true)
+                    × (each.new ≡ loaded (T.definitions table.entry.now) each.old) }
             {
                 each.refeed(table, names);
                 true

@@ -45,7 +45,10 @@ pub fn begin<T: ComposeTable>(
     input: &BeginInput<'_>,
     sources: Sources,
 ) -> Result<Service<T>, BeginFault>
-    ensures { BeginGives input.entry.now.header.now input.entry.now.repertoire.now (λ names repertoire. started names repertoire (first_table names sources input.entry.now.rule) (certificate_of input.entry.now.certificate.now)) result }
+    ensures { BeginGives input.entry.now.header.now input.entry.now.repertoire.now
+        (λ names repertoire. started names repertoire
+        (first_table names sources input.entry.now.rule)
+        (certificate_of input.entry.now.certificate.now)) result }
 {
     let names = match Names::read(alloc, input.header) {
         Ok(names) => names,

@@ -28,7 +28,9 @@ pub struct Asked<'k> {
 
 /// The requests of a session, in their order. O(keys).
 pub fn session_requests(alloc: Global, asked: &Asked<'_>) -> Result<Vec<Request>, AllocError>
-    ensures { IfOk result (λ requests. requests.items ≡ map (asks asked.entry.now.session) (bodies_of asked.entry.now)) }
+    ensures { IfOk result
+        (λ requests. requests.items
+        ≡ map (asks asked.entry.now.session) (bodies_of asked.entry.now)) }
 {
     let session = asked.session;
     let mut requests = Vec::new(alloc);
@@ -47,7 +49,9 @@ fn push_if(
     session: u32,
     body: Body,
 ) -> Result<(), AllocError>
-    ensures { IfOk result (λ _. requests.new.items ≡ requests.old.items ++ map (asks session) (if wanted then body ∷ [] else [])) }
+    ensures { IfOk result
+        (λ _. requests.new.items
+        ≡ requests.old.items ++ map (asks session) (if wanted then body ∷ [] else [])) }
 {
     if wanted {
         requests.push(Request { session, body })?;
@@ -57,7 +61,9 @@ fn push_if(
 
 /// Puts a request for each key behind the others.
 fn push_keys(requests: &mut Vec<Request>, session: u32, keys: &[Keysym]) -> Result<(), AllocError>
-    ensures { IfOk result (λ _. requests.new.items ≡ requests.old.items ++ map (asks session) (map (λ k. Body.Key k) keys.now)) }
+    ensures { IfOk result
+        (λ _. requests.new.items
+        ≡ requests.old.items ++ map (asks session) (map (λ k. Body.Key k) keys.now)) }
 {
     for key in keys {
         let body = Body::Key(key.value());
@@ -76,7 +82,8 @@ pub fn load_request(
     rule: Rule,
     certificate: &[u8],
 ) -> Result<Request, BundleFault>
-    ensures { LoadGives result rule (record { sources = sources.now; certificate = certificate.now }) }
+    ensures { LoadGives result rule
+        (record { sources = sources.now; certificate = certificate.now }) }
 {
     let payload = Payload::new(write_bundle(alloc, sources, certificate)?);
     let body = match rule {

@@ -50,7 +50,8 @@ pub fn report_replies(
     requests: &[Request],
     replies: &[Reply],
 ) -> Result<Report, AllocError>
-    ensures { IfOk result (λ report. report_of report ≡ reported names.now requests.now replies.now) }
+    ensures { IfOk result
+        (λ report. report_of report ≡ reported names.now requests.now replies.now) }
 {
     let mut text = String::new(alloc);
     for index in 0..requests.len() {
@@ -69,7 +70,9 @@ pub fn report_replies(
 
 /// Puts what is told of a reply behind the text; the end of the exchange, if it is its last.
 fn push_told(text: &mut String, answered: &Told) -> Result<Option<End>, AllocError>
-    ensures { IfOk result (λ end. course_of (string_bytes text.new) end ≡ after (string_bytes text.old) (told_of answered.now)) }
+    ensures { IfOk result
+        (λ end. course_of (string_bytes text.new) end
+        ≡ after (string_bytes text.old) (told_of answered.now)) }
 {
     match answered {
         Told::Line(line) => {
@@ -186,7 +189,9 @@ fn push_names(
     names: &Names,
     keysyms: &[Keysym],
 ) -> Result<(), AllocError>
-    ensures { IfOk result (λ _. string_bytes line.new ≡ string_bytes line.old ++ pending_names names.now keysyms.now) }
+    ensures { IfOk result
+        (λ _. string_bytes line.new
+        ≡ string_bytes line.old ++ pending_names names.now keysyms.now) }
 {
     for keysym in keysyms {
         let Ok(name) = names.print(alloc, *keysym) else {

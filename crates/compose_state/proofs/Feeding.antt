@@ -21,7 +21,8 @@ use Rattle.compose_state.specs.Answers.{IsFed, ComesFrom}
 use Rattle.compose_state.proofs.PathNodes.{to_node, to_leaf, extended_short}
 
 -- the session after a key with this effect
-pub fed_by : (table : List Definition) (s : Session) (k : ℕ) (x : Effect) → effect table s.pending k ≡ x → fed table s k ≡ (let t : Session = record { pending = pending_by x s.pending k; status = status_by x s.status } in t)
+pub fed_by : (table : List Definition) (s : Session) (k : ℕ) (x : Effect) → effect table s.pending k ≡ x
+    → fed table s k ≡ (let t : Session = record { pending = pending_by x s.pending k; status = status_by x s.status } in t)
 fed_by table s k x e = ap (λ y. let t : Session = record { pending = pending_by y s.pending k; status = status_by y s.status } in t) e
 
 -- the effect of a key with this target
@@ -34,7 +35,8 @@ module _ (table : List Definition) (s : Session) (k : ℕ) (t : Option Target) (
   pub session_after : (u : List ℕ) (status : Status) → u ≡ pending_by (effect_at (is_empty s.pending) t) s.pending k → status ≡ status_by (effect_at (is_empty s.pending) t) s.status
       → (let after : Session = record { pending = u; status = status } in after) ≡ fed table s k
   session_after u status e f =
-      ap₂ (λ (v : List ℕ) (x : Status). let after : Session = record { pending = v; status = x } in after) e f ∙ sym (fed_by table s k (effect_at (is_empty s.pending) t) (effect_is_by table s.pending k t accepted leads))
+      ap₂ (λ (v : List ℕ) (x : Status). let after : Session = record { pending = v; status = x } in after) e f
+      ∙ sym (fed_by table s k (effect_at (is_empty s.pending) t) (effect_is_by table s.pending k t accepted leads))
 
   -- the answer to it, where the session is another name of this one
   pub answered : (same : Session) → s ≡ same → (names : KeysymNames) (answer : Fed) → answer.accepted ≡ true → answer.status ≡ status_by (effect_at (is_empty s.pending) t) s.status
@@ -47,7 +49,8 @@ module _ (table : List Definition) (s : Session) (k : ℕ) (t : Option Target) (
   }
 
 -- the text of the leaf where the key leads is the one that its step commits
-pub leaf_commits : (table : List Definition) (p : List ℕ) (k : ℕ) (l : LeafId) (text : List ℕ) → target_of table p k ≡ Some (Leaf l) → leaf_text table l.0 ≡ Some text → text ≡ unwrap_or (text_at table (p ++ k ∷ [])) []
+pub leaf_commits : (table : List Definition) (p : List ℕ) (k : ℕ) (l : LeafId) (text : List ℕ) → target_of table p k ≡ Some (Leaf l) → leaf_text table l.0 ≡ Some text
+    → text ≡ unwrap_or (text_at table (p ++ k ∷ [])) []
 leaf_commits table p k l text e f = ap (λ o. unwrap_or o []) (sym f ∙ (to_leaf table p k l e).text)
 
 pub node_room : (table : List Definition) (p : List ℕ) (k : ℕ) (n : NodeId) → is_table table ≡ true → target_of table p k ≡ Some (Node n) → length p < 31
@@ -75,7 +78,8 @@ module _ (table : List Definition) (s : Session) (k : ℕ) (accepted : is_ignore
       answered table s k None accepted nowhere s refl names answer e (f ∙ same_status (is_empty s.pending)) (g ∙ same_text (is_empty s.pending))
       (subst (λ x. ComesFrom x answer.text) (same_effect (is_empty s.pending)) from)
     where
-      same_status : (b : Bool) → (let x : Session = if b then record { pending = []; status = Nothing } else record { pending = []; status = Cancelled } in x).status ≡ status_by (effect_at b None) s.status
+      same_status : (b : Bool)
+          → (let x : Session = if b then record { pending = []; status = Nothing } else record { pending = []; status = Cancelled } in x).status ≡ status_by (effect_at b None) s.status
       same_status true = refl
       same_status false = refl
 
@@ -88,14 +92,18 @@ module _ (table : List Definition) (s : Session) (k : ℕ) (accepted : is_ignore
       same_text false = refl
 
 -- a key that leads somewhere, where typing again what is pending leaves it pending: refeeding first makes no difference
-module _ (table : List Definition) (s : Session) (k : ℕ) (t : Target) (accepted : is_ignored k ≡ false) (leads : target_of table s.pending k ≡ Some t) (again : pending table s.pending ≡ s.pending) where
+module _ (table : List Definition) (s : Session) (k : ℕ) (t : Target) (accepted : is_ignored k ≡ false) (leads : target_of table s.pending k ≡ Some t)
+    (again : pending table s.pending ≡ s.pending) where
   refed_effect : effect table (loaded table s).pending k ≡ effect_at (is_empty s.pending) (Some t)
   refed_effect = ap (λ p. effect table p k) again ∙ effect_is_by table s.pending k (Some t) accepted leads
 
   same_after : (u : List ℕ) (x y : Status) (t : Target) → u ≡ s.pending
       → (let after : Session = record { pending = pending_by (effect_at (is_empty s.pending) (Some t)) s.pending k; status = status_by (effect_at (is_empty s.pending) (Some t)) x } in after)
       ≡ (let after : Session = record { pending = pending_by (effect_at (is_empty s.pending) (Some t)) u k; status = status_by (effect_at (is_empty s.pending) (Some t)) y } in after)
-  same_after u x y (Node n) e = ap (λ v. let after : Session = record { pending = pending_by (effect_at (is_empty s.pending) (Some (Node n))) v k; status = status_by (effect_at (is_empty s.pending) (Some (Node n))) x } in after) (sym e)
+  same_after u x y (Node n) e =
+      ap
+      (λ v. let after : Session = record { pending = pending_by (effect_at (is_empty s.pending) (Some (Node n))) v k; status = status_by (effect_at (is_empty s.pending) (Some (Node n))) x } in after)
+      (sym e)
   same_after u x y (Leaf l) e = refl
 
   pub refed_fed : fed table s k ≡ fed table (loaded table s) k

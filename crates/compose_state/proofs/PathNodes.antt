@@ -112,7 +112,8 @@ pub at_next : (table : List Definition) (keys : List ℕ) (count number k d : �
 at_next table keys count number k d next at less is e =
     go (is_node table (take (count + 1) keys)) refl (sym (ap (node_id table) (ap (λ p. p ++ k ∷ []) (at_prefix table keys count number at) ∙ longer_by keys count k d less is)) ∙ e)
   where
-    go : (b : Bool) → is_node table (take (count + 1) keys) ≡ b → cond b (Some (let n : NodeId = record { 0 = number_of table (take (count + 1) keys) } in n)) None ≡ Some next → IsAt table keys (count + 1) next.0
+    go : (b : Bool) → is_node table (take (count + 1) keys) ≡ b → cond b (Some (let n : NodeId = record { 0 = number_of table (take (count + 1) keys) } in n)) None ≡ Some next
+        → IsAt table keys (count + 1) next.0
     go true f e = record { is_node = f; numbered = some-number e }
       where
         some-number : Some (let n : NodeId = record { 0 = number_of table (take (count + 1) keys) } in n) ≡ Some next → number_of table (take (count + 1) keys) ≡ next.0
@@ -123,7 +124,8 @@ at_next table keys count number k d next at less is e =
 pub at_stop : (table : List Definition) (keys : List ℕ) (count number k d : ℕ) → IsAt table keys count number → count < length keys → k ≡ get_or keys count d
     → node_id table (node table number ++ k ∷ []) ≡ None → node_id table keys ≡ None
 at_stop table keys count number k d at less is e =
-    go (is_node table (take (count + 1) keys)) refl (is_node table keys) refl (sym (ap (node_id table) (ap (λ p. p ++ k ∷ []) (at_prefix table keys count number at) ∙ longer_by keys count k d less is)) ∙ e)
+    go (is_node table (take (count + 1) keys)) refl (is_node table keys) refl
+    (sym (ap (node_id table) (ap (λ p. p ++ k ∷ []) (at_prefix table keys count number at) ∙ longer_by keys count k d less is)) ∙ e)
   where
     go : (a : Bool) → is_node table (take (count + 1) keys) ≡ a → (b : Bool) → is_node table keys ≡ b
         → cond a (Some (let n : NodeId = record { 0 = number_of table (take (count + 1) keys) } in n)) None ≡ None

@@ -106,8 +106,10 @@ impl ComposeState {
         names: &Names,
         keysym: Keysym,
     ) -> Fed<'t>
-        ensures state { self.new ≡ fed (T.definitions table.now) (loaded (T.definitions table.now) self.old) keysym }
-        ensures told { IsFed names.now (T.definitions table.now) (loaded (T.definitions table.now) self.old) keysym result }
+        ensures state { self.new
+            ≡ fed (T.definitions table.now) (loaded (T.definitions table.now) self.old) keysym }
+        ensures told { IsFed names.now (T.definitions table.now)
+            (loaded (T.definitions table.now) self.old) keysym result }
     {
         if !self.pending.is_empty() && !keysym.is_ignored() {
             if let Some((edge_index, target)) = target(
@@ -162,9 +164,11 @@ impl ComposeState {
         requires accepted { IsFalse (is_ignored keysym) }
         requires leads { target_of (T.definitions table.now) self.old.pending keysym ≡ Some target }
         requires room { (node : _) → target ≡ Target.Node node → length self.old.pending < 31 }
-        requires leaf { (leaf : _) → target ≡ Target.Leaf leaf → leaf.0 < length (leaves (T.definitions table.now)) }
+        requires leaf { (leaf : _) → target ≡ Target.Leaf leaf
+            → leaf.0 < length (leaves (T.definitions table.now)) }
         ensures state { self.new ≡ fed (T.definitions table.now) self.old keysym }
-        ensures told { (names : KeysymNames) → IsFed names (T.definitions table.now) self.old keysym result }
+        ensures told { (names : KeysymNames)
+            → IsFed names (T.definitions table.now) self.old keysym result }
     {
         match target {
             Target::Node(_) => {
@@ -192,11 +196,18 @@ impl ComposeState {
     /// Feeds a key that no sequence has behind what is pending: it passes where nothing is pending, and else cancels.
     #[inline(always)]
     fn feed_apart(&mut self, names: &Names, keysym: Keysym) -> Fed<'static>
-        ensures state { self.new ≡ (if is_empty self.old.pending then record { pending = []; status = Nothing } else record { pending = []; status = Cancelled }) }
+        ensures state { self.new
+            ≡ (if is_empty self.old.pending then record {
+              pending = [];
+              status =
+                  Nothing;
+            } else record { pending = []; status = Cancelled }) }
         ensures accepted { result.accepted ≡ true }
         ensures status { result.status ≡ self.new.status }
-        ensures text { text_bytes result.text ≡ (if is_empty self.old.pending then names_text names.now keysym else []) }
-        ensures source { ComesFrom (if is_empty self.old.pending then passes else cancels) result.text }
+        ensures text { text_bytes result.text
+            ≡ (if is_empty self.old.pending then names_text names.now keysym else []) }
+        ensures source { ComesFrom
+            (if is_empty self.old.pending then passes else cancels) result.text }
     {
         if self.pending.is_empty() {
             self.status = Status::Nothing;
@@ -242,7 +253,9 @@ fn plain_text(names: &Names, keysym: Keysym) -> FedText<'static>
 /// The node behind the keysym, if a sequence goes on there.
 fn child<T: ComposeTable>(table: &T, node: NodeId, keysym: Keysym) -> Option<NodeId>
     requires { node.0 < length (nodes (T.definitions table.now)) }
-    ensures { result ≡ node_id (T.definitions table.now) (words.node (T.definitions table.now) node.0 ++ keysym ∷ []) }
+    ensures { result
+        ≡ node_id (T.definitions table.now)
+        (words.node (T.definitions table.now) node.0 ++ keysym ∷ []) }
 {
     match table.step(node, keysym) {
         Some(Target::Node(next)) => Some(next),
@@ -259,7 +272,9 @@ fn child_at<T: ComposeTable>(
     edge_index: u32,
 ) -> Option<NodeId>
     requires { node.0 < length (nodes (T.definitions table.now)) }
-    ensures { result ≡ node_id (T.definitions table.now) (words.node (T.definitions table.now) node.0 ++ keysym ∷ []) }
+    ensures { result
+        ≡ node_id (T.definitions table.now)
+        (words.node (T.definitions table.now) node.0 ++ keysym ∷ []) }
 {
     if edge_index < table.edge_count(node) {
         let (there, target) = table.edge(node, edge_index);
@@ -302,10 +317,14 @@ fn target<T: ComposeTable>(
     keysym: Keysym,
 ) -> Option<(u32, Target)>
     requires { length pending.now ≤ 31 }
-    ensures value { option_map (λ found. found.1) result ≡ target_of (T.definitions table.now) pending.now keysym }
-    ensures room { (edge_index : _) → (node : _) → result ≡ Some (edge_index, Target.Node node) → length pending.now < 31 }
-    ensures leaf { (edge_index : _) → (leaf : _) → result ≡ Some (edge_index, Target.Leaf leaf) → leaf.0 < length (leaves (T.definitions table.now)) }
-    ensures again { IsSome result → steps.pending (T.definitions table.now) pending.now ≡ pending.now }
+    ensures value { option_map (λ found. found.1) result
+        ≡ target_of (T.definitions table.now) pending.now keysym }
+    ensures room { (edge_index : _) → (node : _) → result ≡ Some (edge_index, Target.Node node)
+        → length pending.now < 31 }
+    ensures leaf { (edge_index : _) → (leaf : _) → result ≡ Some (edge_index, Target.Leaf leaf)
+        → leaf.0 < length (leaves (T.definitions table.now)) }
+    ensures again { IsSome result
+        → steps.pending (T.definitions table.now) pending.now ≡ pending.now }
 {
     // every table is settled, which its count of nodes tells
     let _nodes = table.node_count();

@@ -25,7 +25,8 @@ each_byte f p all [] fits = refl
 each_byte f p all (x ∷ xs) fits = ap₂ (λ b bs. b ∷ bs) (agree_below_at (λ y. top 7 (f y)) p 256 x all fits.0.fits) (each_byte f p all xs fits.1)
 
 -- its bits are those of p, if they are so for each of the 256 bytes
-pub masked : (f : ℕ → ℕ) (p : ℕ → Bool) (v z : List ℕ) → length v ≤ 64 → Each1 (Fits w8) v → z ≡ map f v → agree_below (λ x. top 7 (f x)) p 256 ≡ true → mask_l (map (top 7) z) % 2 ^ 64 ≡ mask_l (map p v)
+pub masked : (f : ℕ → ℕ) (p : ℕ → Bool) (v z : List ℕ) → length v ≤ 64 → Each1 (Fits w8) v → z ≡ map f v → agree_below (λ x. top 7 (f x)) p 256 ≡ true
+    → mask_l (map (top 7) z) % 2 ^ 64 ≡ mask_l (map p v)
 masked f p v z few fits lanes all =
     ap (λ l. mask_l l % 2 ^ 64) (ap (map (top 7)) lanes ∙ each_byte f p all v fits) ∙ mask_l-mod (map p v) 64 (omega (arith, length-map v p))
 
@@ -39,7 +40,8 @@ module _ (q : ℕ → Bool) where
   all_of_it [] rest none = omega arith
   all_of_it (x ∷ xs) rest none = go (q x) none (all_of_it xs rest)
     where
-      go : (b : Bool) → cond (not b) 1 0 + 2 * others xs ≡ 0 → (others xs ≡ 0 → prefix_len q (xs ++ rest) ≡ length xs + prefix_len q rest) → cond b (1 + prefix_len q (xs ++ rest)) 0 ≡ length (x ∷ xs) + prefix_len q rest
+      go : (b : Bool) → cond (not b) 1 0 + 2 * others xs ≡ 0 → (others xs ≡ 0 → prefix_len q (xs ++ rest) ≡ length xs + prefix_len q rest)
+          → cond b (1 + prefix_len q (xs ++ rest)) 0 ≡ length (x ∷ xs) + prefix_len q rest
       go true none again = let more = again (omega arith) in omega (arith, more)
       go false none again = let no : ⊥ = omega arith in absurd no
 
@@ -47,7 +49,8 @@ module _ (q : ℕ → Bool) where
   part_of_it [] rest some = absurd (omega arith)
   part_of_it (x ∷ xs) rest some = go (q x) some (part_of_it xs rest)
     where
-      go : (b : Bool) → 0 < cond (not b) 1 0 + 2 * others xs → (0 < others xs → prefix_len (λ b. not (not (q b))) xs ≡ prefix_len q (xs ++ rest)) → cond (not (not b)) (1 + prefix_len (λ b. not (not (q b))) xs) 0 ≡ cond b (1 + prefix_len q (xs ++ rest)) 0
+      go : (b : Bool) → 0 < cond (not b) 1 0 + 2 * others xs → (0 < others xs → prefix_len (λ b. not (not (q b))) xs ≡ prefix_len q (xs ++ rest))
+          → cond (not (not b)) (1 + prefix_len (λ b. not (not (q b))) xs) 0 ≡ cond b (1 + prefix_len q (xs ++ rest)) 0
       go true some again = ap (λ n. 1 + n) (again (omega arith))
       go false some again = refl
 
@@ -59,4 +62,5 @@ module _ (q : ℕ → Bool) where
   -- the lowest bit is the first other byte
   pub stopped : (d : List ℕ) (i n : ℕ) → i + n ≤ length d → n ≤ 64 → 0 < others (chunk i n d) → prefix_len q (drop i d) ≡ count_trailing_zeros 64 (others (chunk i n d))
   stopped d i n room few some =
-      ap (prefix_len q) (chunk-drop i n d) ∙ sym (part_of_it (chunk i n d) (drop (i + n) d) some) ∙ sym (trailing_mask_l (λ b. not (q b)) 64 (chunk i n d) (omega (arith, length-chunk i n d room)) some)
+      ap (prefix_len q) (chunk-drop i n d) ∙ sym (part_of_it (chunk i n d) (drop (i + n) d) some)
+      ∙ sym (trailing_mask_l (λ b. not (q b)) 64 (chunk i n d) (omega (arith, length-chunk i n d room)) some)

@@ -25,9 +25,12 @@ impl ByteClass for InLine {
 /// The first line of the bytes, without its newline, and what follows it; none where there are no bytes.
 /// O(bytes of the line).
 pub fn first_line(bytes: &[u8]) -> Option<(&[u8], &[u8])>
-    ensures lines { MatchOption result (lines_of bytes.now ≡ []) (λ parts. lines_of bytes.now ≡ parts.0.now ∷ lines_of parts.1.now) }
-    ensures rest { MatchOption result (bytes.now ≡ []) (λ parts. parts.1.now ≡ drop (1 + length parts.0.now) bytes.now) }
-    ensures shorter { MatchOption result (bytes.now ≡ []) (λ parts. length parts.1.now < length bytes.now) }
+    ensures lines { MatchOption result (lines_of bytes.now ≡ [])
+        (λ parts. lines_of bytes.now ≡ parts.0.now ∷ lines_of parts.1.now) }
+    ensures rest { MatchOption result (bytes.now ≡ [])
+        (λ parts. parts.1.now ≡ drop (1 + length parts.0.now) bytes.now) }
+    ensures shorter { MatchOption result (bytes.now ≡ [])
+        (λ parts. length parts.1.now < length bytes.now) }
 {
     if bytes.is_empty() {
         return None;

@@ -9,7 +9,9 @@ ghost use Rattle.compose_text.specs.Numbers as words;
 #[inline(never)]
 pub fn hexadecimal_number(low: usize, high: usize, digits: &[u8]) -> Option<u32>
     requires { high ≤ 8 }
-    ensures { result ≡ (if words.is_hexadecimal low high digits.now then Some (words.hexadecimal digits.now) else None) }
+    ensures { result
+        ≡ (if words.is_hexadecimal low high digits.now then Some
+        (words.hexadecimal digits.now) else None) }
 {
     if digits.len() < low || high < digits.len() {
         return None;
@@ -54,7 +56,9 @@ fn digit_value(byte: u8) -> Option<u32>
 /// The number that at most eight hexadecimal digits write; none where one isn't a digit.
 fn hexadecimal(digits: &[u8]) -> Option<u32>
     requires { length digits.now ≤ 8 }
-    ensures { result ≡ (if list_all words.is_hexadecimal_digit digits.now then Some (words.hexadecimal digits.now) else None) }
+    ensures { result
+        ≡ (if list_all words.is_hexadecimal_digit digits.now then Some
+        (words.hexadecimal digits.now) else None) }
 {
     let mut number = 0;
     for digit in digits {

@@ -33,6 +33,8 @@ same_keys xs ys to from k =
 pub rising_is : (keys sorted fresh : List ℕ) → IsPermutation keys sorted → IsSorted nat_cmp sorted → fresh ≡ dedup nat_eq sorted → fresh ≡ rising nat_cmp keys
 rising_is keys sorted fresh moved in_order is =
     let strict : IsStrictlySortedBy nat_cmp (dedup nat_eq sorted) = sorted_from_strictly_increasing (dedup nat_eq sorted) (IsStrictlyIncreasing-dedup sorted in_order) in
-    let same = same_keys keys fresh (λ x h. rw is (Contains-dedup_nat sorted x (Contains-permutation keys sorted x moved h))) (λ x h. Contains-permutation sorted keys x (IsPermutation-sym keys sorted moved) (Contains-from_dedup nat_eq sorted x (rw is at h))) in
+    let same =
+    same_keys keys fresh (λ x h. rw is (Contains-dedup_nat sorted x (Contains-permutation keys sorted x moved h)))
+    (λ x h. Contains-permutation sorted keys x (IsPermutation-sym keys sorted moved) (Contains-from_dedup nat_eq sorted x (rw is at h))) in
     one_rising_keys fresh (rising nat_cmp keys) (subst (IsStrictlySortedBy nat_cmp) (sym is) strict) (rising_sorted nat_cmp_total keys)
     (λ q. same q ∙ sym (list_any-rising nat_cmp exact_unsigned (λ j. q == j) keys))

@@ -47,7 +47,8 @@ step_refused refusals.TooManyFresh r f h = ap (λ r. r >>= f) h
 step_refused refusals.NoMemory r f h = tt
 
 -- an answer that is this refusal gives what the refusal gives
-pub refusal_gives : {P A : Type 0} (answers : P → A → Type 0) (r : Result A Refusal) (refusal : Refusal) (said : Result P NoAnswer) → IsErrAnd r (λ e. e ≡ refusal) → IsRefused refusal said → Gives answers r said
+pub refusal_gives : {P A : Type 0} (answers : P → A → Type 0) (r : Result A Refusal) (refusal : Refusal) (said : Result P NoAnswer) → IsErrAnd r (λ e. e ≡ refusal) → IsRefused refusal said
+    → Gives answers r said
 refusal_gives answers (Ok x) refusal said h g = absurd h
 refusal_gives answers (Err e) refusal said h g = subst (λ (x : Refusal). IsRefused x said) (sym h) g
 
@@ -68,9 +69,12 @@ module _ (header : List ℕ) (key_names : List (List ℕ)) (given : TableSources
     after_named = ap (λ r. r >>= with_named) (is_read (given_key_names header key_names) n n_read)
 
     pub table_refused : (refusal : Refusal) → IsRefused refusal (or_because no_only_table (first_table n.names given.sources given.rule)) → IsRefused refusal (type_parts header key_names given)
-    table_refused refusal h = subst (λ (s : Result TypedParts NoAnswer). IsRefused refusal s) (sym after_named) (step_refused refusal (or_because no_only_table (first_table n.names given.sources given.rule)) (with_table n) h)
+    table_refused refusal h =
+        subst (λ (s : Result TypedParts NoAnswer). IsRefused refusal s) (sym after_named)
+        (step_refused refusal (or_because no_only_table (first_table n.names given.sources given.rule)) (with_table n) h)
 
-    pub typed_read : (table : List Definition) → IsRead (or_because no_only_table (first_table n.names given.sources given.rule)) table → type_parts header key_names given ≡ Ok (record { names = n.names; keys = n.keys; table = table })
+    pub typed_read : (table : List Definition) → IsRead (or_because no_only_table (first_table n.names given.sources given.rule)) table
+        → type_parts header key_names given ≡ Ok (record { names = n.names; keys = n.keys; table = table })
     typed_read table table_read = after_named ∙ ap (λ r. r >>= with_table n) (is_read (or_because no_only_table (first_table n.names given.sources given.rule)) table table_read)
 
 -- ---- check, with the keysyms that may be fresh
@@ -107,7 +111,8 @@ module _ (key_names : List (List ℕ)) (input : checks.Input) where
   abbrev with_key_names : NamedParts → Result AllowedParts NoAnswer
   with_key_names n = or_because unread (parts_of input) >>= with_parts n
 
-  pub allowed_read : (n : NamedParts) → IsRead (given_key_names input.migration.header key_names) n → (p : checks.Parts) → or_because unread (parts_of input) ≡ Ok p → allowed_parts key_names input ≡ with_parts n p
+  pub allowed_read : (n : NamedParts) → IsRead (given_key_names input.migration.header key_names) n → (p : checks.Parts) → or_because unread (parts_of input) ≡ Ok p
+      → allowed_parts key_names input ≡ with_parts n p
   allowed_read n n_read p p_read = ap (λ r. r >>= with_key_names) (is_read (given_key_names input.migration.header key_names) n n_read) ∙ ap (λ r. r >>= with_parts n) p_read
 
 -- an answer of the check that is not yes stays as it is
@@ -145,7 +150,11 @@ module _ (given : GivenMigration) where
       after_move = ap (λ r. r >>= with_move bytes) (is_read (migration_parts given) move move_read)
 
       pub repertoire_refused : (refusal : Refusal) → IsRefused refusal (or_because (λ why. unread (no_repertoire why)) (repertoire_of bytes)) → IsRefused refusal (make_parts given bytes)
-      repertoire_refused refusal h = subst (λ (s : Result Needs NoAnswer). IsRefused refusal s) (sym after_move) (step_refused refusal (or_because (λ why. unread (no_repertoire why)) (repertoire_of bytes)) (with_repertoire bytes move) h)
+      repertoire_refused refusal h =
+          subst (λ (s : Result Needs NoAnswer). IsRefused refusal s) (sym after_move)
+          (step_refused refusal (or_because (λ why. unread (no_repertoire why)) (repertoire_of bytes)) (with_repertoire bytes move) h)
 
-      pub make_read : (r : Repertoire) → IsRead (or_because (λ why. unread (no_repertoire why)) (repertoire_of bytes)) r → (fresh : List ℕ) → fresh ≡ rising nat_cmp move.keys → make_parts given bytes ≡ makeable move r fresh
-      make_read r r_read fresh is = after_move ∙ ap (λ x. x >>= with_repertoire bytes move) (is_read (or_because (λ why. unread (no_repertoire why)) (repertoire_of bytes)) r r_read) ∙ ap (makeable move r) (sym is)
+      pub make_read : (r : Repertoire) → IsRead (or_because (λ why. unread (no_repertoire why)) (repertoire_of bytes)) r → (fresh : List ℕ) → fresh ≡ rising nat_cmp move.keys
+          → make_parts given bytes ≡ makeable move r fresh
+      make_read r r_read fresh is =
+          after_move ∙ ap (λ x. x >>= with_repertoire bytes move) (is_read (or_because (λ why. unread (no_repertoire why)) (repertoire_of bytes)) r r_read) ∙ ap (makeable move r) (sym is)

@@ -40,7 +40,8 @@ pub fn check_allowed<T: ComposeTable>(
     input: &CheckInput<'_>,
     key_names: &[&str],
 ) -> Result<Answer, Refusal>
-    ensures { Gives IsCheckedFor result (allowed_parts (map (λ word. word.now) key_names.now) (input_of input.entry.now)) }
+    ensures { Gives IsCheckedFor result
+        (allowed_parts (map (λ word. word.now) key_names.now) (input_of input.entry.now)) }
 {
     let named = read_named(alloc, input.header, key_names)?;
     match check_migration::<T>(alloc, input)? {
@@ -57,7 +58,8 @@ pub fn check_allowed<T: ComposeTable>(
 
 /// The certificate of a text.
 fn read_certificate(alloc: Global, bytes: &[u8]) -> Result<Certificate, Refusal>
-    ensures { Gives (λ said read. said ≡ read) result (or_because (λ why. unread (no_certificate why)) (certificate_of bytes.now)) }
+    ensures { Gives (λ said read. said ≡ read) result
+        (or_because (λ why. unread (no_certificate why)) (certificate_of bytes.now)) }
 {
     match Certificate::read(alloc, bytes) {
         Ok(certificate) => Ok(certificate),

@@ -65,7 +65,8 @@ fn explain_all_tables<T: ComposeTable>(
     migration: &Migration<T>,
     fresh: &[Keysym],
 ) -> Result<Answer, Refusal>
-    ensures { Gives IsAllExplained result (explainable (parts T.definitions migration.now) fresh.now) }
+    ensures { Gives IsAllExplained result
+        (explainable (parts T.definitions migration.now) fresh.now) }
 {
     let names = &migration.names;
     let found = differences(alloc, &migration.old, &migration.new, names, fresh)?;

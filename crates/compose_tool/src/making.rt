@@ -43,7 +43,8 @@ fn tell_made<T: ComposeTable>(
     repertoire: &Repertoire,
     fresh: &[Keysym],
 ) -> Result<Answer, Refusal>
-    ensures { Gives IsMadeText result (makeable (parts T.definitions migration.now) repertoire.now fresh.now) }
+    ensures { Gives IsMadeText result
+        (makeable (parts T.definitions migration.now) repertoire.now fresh.now) }
 {
     let names = &migration.names;
     let made = make(

@@ -43,7 +43,8 @@ fn tell_all_made<T: ComposeTable>(
     repertoire: &Repertoire,
     fresh: &[Keysym],
 ) -> Result<Answer, Refusal>
-    ensures { Gives IsAllMadeText result (makeable (parts T.definitions migration.now) repertoire.now fresh.now) }
+    ensures { Gives IsAllMadeText result
+        (makeable (parts T.definitions migration.now) repertoire.now fresh.now) }
 {
     let names = &migration.names;
     let made = make(
@@ -67,7 +68,9 @@ fn tell_untypable<T: ComposeTable>(
     migration: &Migration<T>,
     repertoire: &Repertoire,
 ) -> Result<String, AllocError>
-    ensures { IfOk result (λ text. IsUntypableText (parts T.definitions migration.now) repertoire.now (string_bytes text)) }
+    ensures { IfOk result
+        (λ text. IsUntypableText (parts T.definitions migration.now) repertoire.now
+        (string_bytes text)) }
 {
     let before = untypable_by(alloc, &migration.old, &migration.names, repertoire)?;
     let after = untypable_by(alloc, &migration.new, &migration.names, repertoire)?;
@@ -81,7 +84,9 @@ fn untypable_by<T: ComposeTable>(
     names: &Names,
     repertoire: &Repertoire,
 ) -> Result<Vec<char>, AllocError>
-    ensures { IfOk result (λ characters. AreUntypable names.now (T.definitions table.now) repertoire.now characters.items) }
+    ensures { IfOk result
+        (λ characters. AreUntypable names.now
+        (T.definitions table.now) repertoire.now characters.items) }
 {
     match untypable(alloc, table, names, repertoire) {
         Ok(characters) => Ok(characters),
@@ -101,7 +106,8 @@ fn untypable_lines(alloc: Global, old: &[char], new: &[char]) -> Result<String, 
 
 /// Appends the line of each of the new table's characters to the text.
 fn push_each(text: &mut String, old: &[char], new: &[char]) -> Result<(), AllocError>
-    ensures { IfOk result (λ _. string_bytes text.new ≡ string_bytes text.old ++ each_untypable old.now new.now) }
+    ensures { IfOk result
+        (λ _. string_bytes text.new ≡ string_bytes text.old ++ each_untypable old.now new.now) }
 {
     for character in new {
         push_untypable(text, old, *character)?;
@@ -111,7 +117,8 @@ fn push_each(text: &mut String, old: &[char], new: &[char]) -> Result<(), AllocE
 
 /// Appends the line of a character to the text.
 fn push_untypable(text: &mut String, old: &[char], character: char) -> Result<(), AllocError>
-    ensures { IfOk result (λ _. string_bytes text.new ≡ string_bytes text.old ++ untypable_line old.now character) }
+    ensures { IfOk result
+        (λ _. string_bytes text.new ≡ string_bytes text.old ++ untypable_line old.now character) }
 {
     let shown = ShownChar(character);
     let tables = tables_words(old, character);
@@ -132,7 +139,8 @@ fn tables_words(old: &[char], character: char) -> &'static str
 
 /// Appends the line that counts the new table's characters to the text.
 fn push_count(text: &mut String, old: &[char], new: &[char]) -> Result<(), AllocError>
-    ensures { IfOk result (λ _. string_bytes text.new ≡ string_bytes text.old ++ untypable_count old.now new.now) }
+    ensures { IfOk result
+        (λ _. string_bytes text.new ≡ string_bytes text.old ++ untypable_count old.now new.now) }
 {
     let count = new.len();
     let alone = count_alone(old, new);

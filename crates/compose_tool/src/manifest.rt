@@ -76,7 +76,12 @@ impl Model for Manifest {
 
     ghost Value = { Listing };
 
-    ghost view = { λ m. record { rule = m.rule; paths_here = m.paths_here; entries = m.entries.items } };
+    ghost view = { λ m. record {
+      rule = m.rule;
+      paths_here = m.paths_here;
+      entries =
+          m.entries.items;
+    } };
 }
 
 impl Manifest {
@@ -96,7 +101,8 @@ impl Manifest {
 
     /// The name of the source at this index. O(1).
     pub fn name(&self, index: usize) -> Option<&str>
-        ensures { option_copied result ≡ option_map (λ e. e.name) (slice_get self.now.entries index) }
+        ensures { option_copied result
+            ≡ option_map (λ e. e.name) (slice_get self.now.entries index) }
     {
         let entry = self.entries.get(index)?;
         Some(entry.name.as_str())
@@ -104,7 +110,8 @@ impl Manifest {
 
     /// The path of the file at this index. O(1).
     pub fn path(&self, index: usize) -> Option<&str>
-        ensures { option_copied result ≡ option_map (λ e. e.path) (slice_get self.now.entries index) }
+        ensures { option_copied result
+            ≡ option_map (λ e. e.path) (slice_get self.now.entries index) }
     {
         let entry = self.entries.get(index)?;
         Some(entry.path.as_str())
@@ -205,7 +212,12 @@ impl Manifest {
 
     /// Adds an entry behind the others.
     fn add_entry(&mut self, alloc: Global, name: &str, path: &str) -> Result<(), ManifestFault>
-        ensures ok { OnOk result (self.new ≡ record self.old { entries = self.old.entries ++ record { name = name.now; path = path.now } ∷ [] }) }
+        ensures ok { OnOk result
+            (self.new
+            ≡ record self.old {
+              entries =
+                  self.old.entries ++ record { name = name.now; path = path.now } ∷ [];
+            }) }
         ensures err { IfErr result (λ fault. fault ≡ ManifestFault.NoMemory) }
     {
         let name = String::from_str(alloc, name)?;

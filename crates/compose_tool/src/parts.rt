@@ -19,7 +19,8 @@ use std::alloc::{AllocError, Global};
 
 /// The names of a header, and the keysyms of key names.
 pub fn read_named(alloc: Global, header: &[u8], key_names: &[&str]) -> Result<Named, Refusal>
-    ensures { Gives (λ said read. said ≡ named_parts read) result (given_key_names header.now (map (λ word. word.now) key_names.now)) }
+    ensures { Gives (λ said read. said ≡ named_parts read) result
+        (given_key_names header.now (map (λ word. word.now) key_names.now)) }
 {
     match Named::read(alloc, header, key_names) {
         Ok(named) => Ok(named),
@@ -33,7 +34,9 @@ pub fn read_only_table<T: ComposeTable>(
     names: &Names,
     input: &TableInput<'_>,
 ) -> Result<T, Refusal>
-    ensures { Gives (λ said table. said ≡ T.definitions table) result (or_because no_only_table (first_table names.now input.entry.now.sources.now input.entry.now.rule)) }
+    ensures { Gives (λ said table. said ≡ T.definitions table) result
+        (or_because no_only_table
+        (first_table names.now input.entry.now.sources.now input.entry.now.rule)) }
 {
     match read_first_table(alloc, names, input.sources, input.rule) {
         Ok(table) => Ok(table),
@@ -47,7 +50,8 @@ pub fn read_migration<T: ComposeTable>(
     alloc: Global,
     input: &MigrationInput<'_, '_>,
 ) -> Result<Migration<T>, Refusal>
-    ensures { Gives (λ said read. said ≡ parts T.definitions read) result (migration_parts (given_of input.entry.now)) }
+    ensures { Gives (λ said read. said ≡ parts T.definitions read) result
+        (migration_parts (given_of input.entry.now)) }
 {
     match Migration::read(alloc, input) {
         Ok(migration) => Ok(migration),
@@ -57,7 +61,8 @@ pub fn read_migration<T: ComposeTable>(
 
 /// The characters that people need, and the keys that they have.
 pub fn read_repertoire(alloc: Global, bytes: &[u8]) -> Result<Repertoire, Refusal>
-    ensures { Gives (λ said repertoire. said ≡ repertoire) result (or_because (λ why. unread (no_repertoire why)) (repertoire_of bytes.now)) }
+    ensures { Gives (λ said repertoire. said ≡ repertoire) result
+        (or_because (λ why. unread (no_repertoire why)) (repertoire_of bytes.now)) }
 {
     match Repertoire::read(alloc, bytes) {
         Ok(repertoire) => Ok(repertoire),

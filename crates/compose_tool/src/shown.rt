@@ -21,7 +21,8 @@ impl fmt::Display for Shown<'_> {
 
 /// Writes each character of the text.
 fn write_shown<W: fmt::Write>(text: &str, f: &mut fmt::Formatter<W>) -> fmt::Result
-    ensures { IsPlainFormatter f.old → IsOk result → HasWritten W.write_str_gives f.old (shown_text text.now) f.new }
+    ensures { IsPlainFormatter f.old → IsOk result
+        → HasWritten W.write_str_gives f.old (shown_text text.now) f.new }
 {
     for character in text.chars() {
         let shown = ShownCharacter(character);
@@ -44,7 +45,8 @@ impl fmt::Display for ShownLines<'_> {
 
 /// Writes each character of the lines.
 fn write_lines<W: fmt::Write>(text: &str, f: &mut fmt::Formatter<W>) -> fmt::Result
-    ensures { IsPlainFormatter f.old → IsOk result → HasWritten W.write_str_gives f.old (shown_lines text.now) f.new }
+    ensures { IsPlainFormatter f.old → IsOk result
+        → HasWritten W.write_str_gives f.old (shown_lines text.now) f.new }
 {
     for character in text.chars() {
         let shown = ShownInLines(character);

@@ -56,8 +56,12 @@ pub fn type_lines<T: ComposeTable>(
     keys: &[Keysym],
     rule: Rule,
 ) -> Result<String, TypeFault>
-    ensures exact { TypeGives names.now keys.now result (table_of names.now sources.now root.now rule) }
-    ensures as_read { IfOk result (λ text. (read : List Definition) → definitions_of names.now sources.now root.now ≡ Ok read → string_bytes text ≡ typed_lines names.now read keys.now) }
+    ensures exact { TypeGives names.now keys.now result
+        (table_of names.now sources.now root.now rule) }
+    ensures as_read { IfOk result
+        (λ text. (read : List Definition)
+        → definitions_of names.now sources.now root.now ≡ Ok read
+        → string_bytes text ≡ typed_lines names.now read keys.now) }
 {
     match read_table::<T>(alloc, names, sources, root, rule) {
         Ok(table) => {
@@ -77,7 +81,9 @@ pub fn type_keys<T: ComposeTable>(
     key_names: &[&str],
     table: &TableInput<'_>,
 ) -> Result<Answer, Refusal>
-    ensures { Gives IsTyped result (type_parts header.now (map (λ word. word.now) key_names.now) (table_given table.entry.now)) }
+    ensures { Gives IsTyped result
+        (type_parts header.now (map (λ word. word.now) key_names.now)
+        (table_given table.entry.now)) }
 {
     let named = read_named(alloc, header, key_names)?;
     let table: T = read_only_table(alloc, &named.names, table)?;
@@ -92,7 +98,8 @@ fn lines_of_keys<T: ComposeTable>(
     table: &T,
     keys: &[Keysym],
 ) -> Result<String, AllocError>
-    ensures { IfOk result (λ text. string_bytes text ≡ typed_lines names.now (T.definitions table.now) keys.now) }
+    ensures { IfOk result
+        (λ text. string_bytes text ≡ typed_lines names.now (T.definitions table.now) keys.now) }
 {
     let mut lines = String::new(alloc);
     let mut state = ComposeState::new();

@@ -58,7 +58,8 @@ pub record Adds (rows : List NodeRow) (path s : List ℕ) (i c : ℕ) (longer : 
   pub way : c < length path
   pub parent : get_or path c 0 < length rows
   pub nodes_count : length (nodes longer) ≡ length rows + (length s - (c + 1))
-  pub more_rows : rows_of longer ≡ with_edge rows (get_or path c 0) (record { keysym = get_or s c 0; target = next_target (length rows) i (drop (c + 1) s) }) ++ new_rows (length rows) i (c + 1) (drop (c + 1) s)
+  pub more_rows : rows_of longer
+      ≡ with_edge rows (get_or path c 0) (record { keysym = get_or s c 0; target = next_target (length rows) i (drop (c + 1) s) }) ++ new_rows (length rows) i (c + 1) (drop (c + 1) s)
   pub more_path : path_of longer ≡ take (c + 1) path ++ counted (length rows) (drop (c + 1) s)
 
 module _ (table : List Definition) (d : Definition) (i : ℕ) (n : Next table d) (leaf : length (leaves table) ≡ i) where
@@ -83,7 +84,8 @@ module _ (table : List Definition) (d : Definition) (i : ℕ) (n : Next table d)
       omega (arith, length-take (length n.prefix + 1) (path_of table))
 
   parent_is : number_of table n.prefix ≡ get_or (path_of table) (length n.prefix) 0
-  parent_is = sym (sym (get_or-take (length n.prefix + 1) (path_of table) (length n.prefix) 0 (omega arith)) ∙ ap (λ xs. get_or xs (length n.prefix) 0) way_at ∙ number_on (number_of table) n.prefix n.key)
+  parent_is =
+      sym (sym (get_or-take (length n.prefix + 1) (path_of table) (length n.prefix) 0 (omega arith)) ∙ ap (λ xs. get_or xs (length n.prefix) 0) way_at ∙ number_on (number_of table) n.prefix n.key)
 
   rows_count : length (nodes table) ≡ length (rows_of table)
   rows_count = sym (length-map (nodes table) (row_of table))
@@ -118,7 +120,8 @@ leaf_count all i s h =
     ap length (leaves_are (take i all) t.rise) ∙ length-map (take i all) (λ (d : Definition). d.sequence) ∙ length-take-le i all h
 
 -- what the definition at an index of a settled table adds to those before it
-pub adds_at : (all : List Definition) (i : ℕ) → IsSettled all → i < length all → Adds (rows_of (take i all)) (path_of (take i all)) (sequence_at all i) i (shared_with_last (take i all) (sequence_at all i)) (take (i + 1) all)
+pub adds_at : (all : List Definition) (i : ℕ) → IsSettled all → i < length all
+    → Adds (rows_of (take i all)) (path_of (take i all)) (sequence_at all i) i (shared_with_last (take i all) (sequence_at all i)) (take (i + 1) all)
 adds_at all i s h =
     let d = get_or all i (record { sequence = []; text = [] }) in
     let table = take i all in
@@ -163,7 +166,8 @@ next_is_node node leaf (k ∷ rest) h = refl
 
 -- the rows and the way as they are once the edge is put and the nodes are opened
 module _ (rows : List NodeRow) (path s : List ℕ) (i c : ℕ) (longer : List Definition) (a : Adds rows path s i c longer) where
-  edge_put : (key node m : ℕ) (target : Target) (rows' : List NodeRow) → key ≡ get_or s c key → node ≡ get_or path c node → m ≡ length rows → target ≡ next_target m i (drop (c + 1) s) → rows' ≡ with_edge rows node (record { keysym = key; target = target })
+  edge_put : (key node m : ℕ) (target : Target) (rows' : List NodeRow) → key ≡ get_or s c key → node ≡ get_or path c node → m ≡ length rows → target ≡ next_target m i (drop (c + 1) s)
+      → rows' ≡ with_edge rows node (record { keysym = key; target = target })
       → rows' ≡ with_edge rows (get_or path c 0) (record { keysym = get_or s c 0; target = next_target (length rows) i (drop (c + 1) s) })
   edge_put key node m target rows' key_is node_is count_is target_is put_is =
       let key' : key ≡ get_or s c 0 = key_is ∙ get_or_default s c key 0 a.within in
@@ -175,14 +179,17 @@ module _ (rows : List NodeRow) (path s : List ℕ) (i c : ℕ) (longer : List De
   edge_put_count : (rows' : List NodeRow) (edge : Edge) → rows' ≡ with_edge rows (get_or path c 0) edge → length rows' ≡ length rows
   edge_put_count rows' edge e = ap length e ∙ length-set rows (get_or path c 0) (record { depth = (row_at rows (get_or path c 0)).depth; edges = (row_at rows (get_or path c 0)).edges ++ edge ∷ [] })
 
-  pub rows_after : (key node m : ℕ) (target : Target) (rows' later : List NodeRow) → key ≡ get_or s c key → node ≡ get_or path c node → m ≡ length rows → target ≡ next_target m i (drop (c + 1) s) → rows' ≡ with_edge rows node (record { keysym = key; target = target })
+  pub rows_after : (key node m : ℕ) (target : Target) (rows' later : List NodeRow) → key ≡ get_or s c key → node ≡ get_or path c node → m ≡ length rows → target ≡ next_target m i (drop (c + 1) s)
+      → rows' ≡ with_edge rows node (record { keysym = key; target = target })
       → later ≡ rows' ++ new_rows (length rows') i (c + 1) (drop (c + 1) s) → later ≡ rows_of longer
   rows_after key node m target rows' later key_is node_is count_is target_is put_is opened =
       let edge : Edge = record { keysym = get_or s c 0; target = next_target (length rows) i (drop (c + 1) s) } in
       let put' : rows' ≡ with_edge rows (get_or path c 0) edge = edge_put key node m target rows' key_is node_is count_is target_is put_is in
-      opened ∙ ap (λ x. x ++ new_rows (length rows') i (c + 1) (drop (c + 1) s)) put' ∙ ap (λ n. with_edge rows (get_or path c 0) edge ++ new_rows n i (c + 1) (drop (c + 1) s)) (edge_put_count rows' edge put') ∙ sym a.more_rows
+      opened ∙ ap (λ x. x ++ new_rows (length rows') i (c + 1) (drop (c + 1) s)) put'
+      ∙ ap (λ n. with_edge rows (get_or path c 0) edge ++ new_rows n i (c + 1) (drop (c + 1) s)) (edge_put_count rows' edge put') ∙ sym a.more_rows
 
-  pub path_after : (node : ℕ) (edge : Edge) (rows' : List NodeRow) (path' onward : List ℕ) → rows' ≡ with_edge rows node edge → path' ≡ take (c + 1) path → onward ≡ path' ++ counted (length rows') (drop (c + 1) s) → onward ≡ path_of longer
+  pub path_after : (node : ℕ) (edge : Edge) (rows' : List NodeRow) (path' onward : List ℕ) → rows' ≡ with_edge rows node edge → path' ≡ take (c + 1) path
+      → onward ≡ path' ++ counted (length rows') (drop (c + 1) s) → onward ≡ path_of longer
   path_after node edge rows' path' onward put_is cut opened =
       let n : length rows' ≡ length rows = ap length put_is ∙ length-set rows node (record { depth = (row_at rows node).depth; edges = (row_at rows node).edges ++ edge ∷ [] }) in
       opened ∙ ap (λ x. x ++ counted (length rows') (drop (c + 1) s)) cut ∙ ap (λ x. take (c + 1) path ++ counted x (drop (c + 1) s)) n ∙ sym a.more_path

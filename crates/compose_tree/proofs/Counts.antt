@@ -40,10 +40,13 @@ of_node_and_behind i [] = omega arith
 of_node_and_behind i (e ∷ es) =
     let rest = of_node_and_behind i es in
     elim (cases_lt e.node i) [
-      | inl below ↦ (let own = ap length (other_first i e es (λ at. omega (arith, at, below))) in let here = none_from i e es below in let behind = none_from (i + 1) e es (omega (arith, below)) in omega (arith, rest, own, here, behind))
+      | inl below ↦
+          (let own = ap length (other_first i e es (λ at. omega (arith, at, below))) in let here = none_from i e es below in let behind = none_from (i + 1) e es (omega (arith, below)) in omega (arith, rest, own, here, behind))
       | inr from ↦ elim (cases_lt e.node (i + 1)) [
-        | inl at ↦ (let own = ap length (own_first i e es (omega (arith, from, at))) in let here = one_from i e es from in let behind = none_from (i + 1) e es at in omega (arith, rest, own, here, behind))
-        | inr later ↦ (let own = ap length (other_first i e es (λ at. omega (arith, at, later))) in let here = one_from i e es from in let behind = one_from (i + 1) e es later in omega (arith, rest, own, here, behind))
+        | inl at ↦
+            (let own = ap length (own_first i e es (omega (arith, from, at))) in let here = one_from i e es from in let behind = none_from (i + 1) e es at in omega (arith, rest, own, here, behind))
+        | inr later ↦
+            (let own = ap length (other_first i e es (λ at. omega (arith, at, later))) in let here = one_from i e es from in let behind = one_from (i + 1) e es later in omega (arith, rest, own, here, behind))
       ]
     ]
 
@@ -158,7 +161,8 @@ row_gathered i zero (c ∷ ds) es d h = ap (λ m. edges_at m es) (sym (add-zero 
 row_gathered i (suc n) (c ∷ ds) es d h = let e : 1 + i + n ≡ i + suc n = omega arith in row_gathered (1 + i) n ds es d (omega arith) ∙ ap (λ m. edges_at m es) e
 
 -- each edge of the rows leads to one of the nodes or leaves
-pub numbers_few : (table : List Definition) (ds : List ℕ) (es : List NodeEdge) (end : ℕ) → length (nodes table) < end → length (leaves table) < end → AreAtNodes (length ds) es → gathered 0 ds es ≡ rows_of table → HaveNumbersBelow end es
+pub numbers_few : (table : List Definition) (ds : List ℕ) (es : List NodeEdge) (end : ℕ) → length (nodes table) < end → length (leaves table) < end → AreAtNodes (length ds) es
+    → gathered 0 ds es ≡ rows_of table → HaveNumbersBelow end es
 numbers_few table ds es end n l at_nodes is k d h =
     let node = (get_or es k d).node in
     let none : NodeRow = record { depth = 0; edges = [] } in

@@ -8,6 +8,7 @@ use Rattle.compose_read.specs.Lines.{Source}
 use Rattle.compose_tree.specs.TableGives.{first_table, table_of}
 
 -- the first source has the root's name
-pub root_named : (names : KeysymNames) (sources : List Source) (root : List ℕ) (rule : Rule) → Some root ≡ option_map (λ (s : Source). s.name) (slice_get sources 0) → table_of names sources root rule ≡ first_table names sources rule
+pub root_named : (names : KeysymNames) (sources : List Source) (root : List ℕ) (rule : Rule) → Some root ≡ option_map (λ (s : Source). s.name) (slice_get sources 0)
+    → table_of names sources root rule ≡ first_table names sources rule
 root_named names [] root rule e = cc
 root_named names (s ∷ sources) root rule e = let is : root ≡ s.name = cc in ap (λ r. table_of names (s ∷ sources) r rule) is

@@ -13,7 +13,9 @@ use Rattle.compose_tree.specs.Rows.{NodeRow, row_at, with_edge, counts_of, edges
 -- ---- the edges of one node
 
 pub edges_join : (i : ℕ) (es fs : List NodeEdge) → edges_at i (es ++ fs) ≡ edges_at i es ++ edges_at i fs
-edges_join i es fs = ap (map (λ (e : NodeEdge). e.edge)) (filter-append (λ (e : NodeEdge). nat_eq e.node i) es fs) ∙ map-append (λ (e : NodeEdge). e.edge) (filter (λ (e : NodeEdge). nat_eq e.node i) es) (filter (λ (e : NodeEdge). nat_eq e.node i) fs)
+edges_join i es fs =
+    ap (map (λ (e : NodeEdge). e.edge)) (filter-append (λ (e : NodeEdge). nat_eq e.node i) es fs)
+    ∙ map-append (λ (e : NodeEdge). e.edge) (filter (λ (e : NodeEdge). nat_eq e.node i) es) (filter (λ (e : NodeEdge). nat_eq e.node i) fs)
 
 first_if : ℕ → NodeEdge → List NodeEdge → Bool → List Edge
 first_if i e es b = map (λ (x : NodeEdge). x.edge) (cond b (e ∷ filter (λ (x : NodeEdge). nat_eq x.node i) es) (filter (λ (x : NodeEdge). nat_eq x.node i) es))
@@ -79,7 +81,8 @@ gathered_row i (c ∷ ds) d es =
     ap (λ rows. row ∷ rows) (gathered_row (1 + i) ds d es ∙ (λ t. gathered (1 + i) ds es ++ record { depth = d; edges = edges_at (e t) es } ∷ []))
 
 -- a row with one edge
-pub row_opened : (ds ds' : List ℕ) (es es' : List NodeEdge) (depth node : ℕ) (edge : Edge) → AreAtNodes (length ds) es → node ≡ length ds → ds' ≡ ds ++ depth ∷ [] → es' ≡ es ++ record { node = node; edge = edge } ∷ []
+pub row_opened : (ds ds' : List ℕ) (es es' : List NodeEdge) (depth node : ℕ) (edge : Edge) → AreAtNodes (length ds) es → node ≡ length ds → ds' ≡ ds ++ depth ∷ []
+    → es' ≡ es ++ record { node = node; edge = edge } ∷ []
     → gathered 0 ds' es' ≡ gathered 0 ds es ++ record { depth = depth; edges = edge ∷ [] } ∷ []
 row_opened ds ds' es es' depth node edge below last longer more =
     let e : NodeEdge = record { node = node; edge = edge } in
@@ -104,7 +107,8 @@ pub node_there : (ds : List ℕ) (es : List NodeEdge) (k : ℕ) (e : NodeEdge) �
 node_there ds es k e at_nodes h is = let n : e.node ≡ (get_or es k e).node = ap (λ (x : NodeEdge). x.node) is in omega (arith, n, at_nodes k e h)
 
 -- the rows with the edges up to and with the one at an index
-pub next_gathered : (ds : List ℕ) (es : List NodeEdge) (k : ℕ) (e : NodeEdge) → AreAtNodes (length ds) es → k < length es → e ≡ get_or es k e → gathered 0 ds (take (k + 1) es) ≡ with_edge (gathered 0 ds (take k es)) e.node e.edge
+pub next_gathered : (ds : List ℕ) (es : List NodeEdge) (k : ℕ) (e : NodeEdge) → AreAtNodes (length ds) es → k < length es → e ≡ get_or es k e
+    → gathered 0 ds (take (k + 1) es) ≡ with_edge (gathered 0 ds (take k es)) e.node e.edge
 next_gathered ds es k e at_nodes h is = ap (gathered 0 ds) (one_more_edge es k e h is) ∙ edge_gathered ds (take k es) e (node_there ds es k e at_nodes h is)
 
 -- ---- counts

@@ -64,13 +64,15 @@ lead_by false false n l = refl
 
 -- an edge leads to the node or leaf behind it
 pub target_is : (table : List Definition) (p : List ℕ) (k : ℕ) → target_of table p k ≡ cond (has_edge table p k) (Some (where_to table (p ++ k ∷ []))) None
-target_is table p k = lead_by (is_node table (p ++ k ∷ [])) (is_sequence table (p ++ k ∷ [])) (Node (record { 0 = number_of table (p ++ k ∷ []) })) (Leaf (record { 0 = leaf_number table (p ++ k ∷ []) }))
+target_is table p k =
+    lead_by (is_node table (p ++ k ∷ [])) (is_sequence table (p ++ k ∷ [])) (Node (record { 0 = number_of table (p ++ k ∷ []) })) (Leaf (record { 0 = leaf_number table (p ++ k ∷ []) }))
 
 pub target_at_edge : (table : List Definition) (p : List ℕ) (k : ℕ) → has_edge table p k ≡ true → target_of table p k ≡ Some (where_to table (p ++ k ∷ []))
 target_at_edge table p k h = target_is table p k ∙ ap (λ b. cond {A = Option Target} b (Some (where_to table (p ++ k ∷ []))) None) h
 
 -- the edge at an index leads where its keysym does
-pub target_found : (table : List Definition) (p : List ℕ) (i : ℕ) (edge : Edge) → i < length (edges table p) → edge ≡ get_or (map (edge_of table p) (edges table p)) i edge → target_of table p edge.keysym ≡ Some edge.target
+pub target_found : (table : List Definition) (p : List ℕ) (i : ℕ) (edge : Edge) → i < length (edges table p) → edge ≡ get_or (map (edge_of table p) (edges table p)) i edge
+    → target_of table p edge.keysym ≡ Some edge.target
 target_found table p i edge h at =
     let k = get_or (edges table p) i 0 in
     let is : edge ≡ edge_of table p k = at ∙ get_or-map (edge_of table p) (edges table p) i 0 edge h in
@@ -116,7 +118,8 @@ keysym_at es i e h at = get_or-map (λ (e : Edge). e.keysym) es i e 0 h ∙ ap (
 keysyms_counted : (es : List Edge) → length (keysyms_of es) ≡ length es
 keysyms_counted es = length-map es (λ (e : Edge). e.keysym)
 
-pub scan_none : (table : List Definition) (p : List ℕ) (k : ℕ) (es : List Edge) → es ≡ map (edge_of table p) (edges table p) → ((m : ℕ) → m < length es → get_or (keysyms_of es) m 0 ≡ k → ⊥) → None ≡ target_of table p k
+pub scan_none : (table : List Definition) (p : List ℕ) (k : ℕ) (es : List Edge) → es ≡ map (edge_of table p) (edges table p) → ((m : ℕ) → m < length es → get_or (keysyms_of es) m 0 ≡ k → ⊥)
+    → None ≡ target_of table p k
 scan_none table p k es e none =
     let n = keysyms_counted es in
     leads_nowhere table p k (keysyms_of es) (scanned_keysyms table p es e) (λ m h. none m (omega arith))
@@ -138,15 +141,19 @@ scanned : (table : List Definition) (p : List ℕ) (k : ℕ) (ks : List ℕ)
 scanned table p k [] = refl
 scanned table p k (j ∷ ks) = go (k == j) refl (scanned table p k ks)
   where
-    go : (b : Bool) → (k == j) ≡ b → option_map (λ (e : Edge). e.target) (find (λ (e : Edge). nat_eq e.keysym k) (map (edge_of table p) ks)) ≡ cond (list_any (λ i. k == i) ks) (Some (where_to table (p ++ k ∷ []))) None
-        → option_map (λ (e : Edge). e.target) (cond (nat_eq j k) (Some (edge_of table p j)) (find (λ (e : Edge). nat_eq e.keysym k) (map (edge_of table p) ks))) ≡ cond (b || list_any (λ i. k == i) ks) (Some (where_to table (p ++ k ∷ []))) None
+    go : (b : Bool) → (k == j) ≡ b
+        → option_map (λ (e : Edge). e.target) (find (λ (e : Edge). nat_eq e.keysym k) (map (edge_of table p) ks)) ≡ cond (list_any (λ i. k == i) ks) (Some (where_to table (p ++ k ∷ []))) None
+        → option_map (λ (e : Edge). e.target) (cond (nat_eq j k) (Some (edge_of table p j)) (find (λ (e : Edge). nat_eq e.keysym k) (map (edge_of table p) ks)))
+        ≡ cond (b || list_any (λ i. k == i) ks) (Some (where_to table (p ++ k ∷ []))) None
     go true e later =
         let is : k ≡ j = eqb-true k j e in
-        ap (λ t. option_map (λ (e : Edge). e.target) (cond t (Some (edge_of table p j)) (find (λ (e : Edge). nat_eq e.keysym k) (map (edge_of table p) ks)))) (eq-eqb j k (sym is)) ∙ ap (λ i. Some (where_to table (p ++ i ∷ []))) (sym is)
+        ap (λ t. option_map (λ (e : Edge). e.target) (cond t (Some (edge_of table p j)) (find (λ (e : Edge). nat_eq e.keysym k) (map (edge_of table p) ks)))) (eq-eqb j k (sym is))
+        ∙ ap (λ i. Some (where_to table (p ++ i ∷ []))) (sym is)
     go false e later = ap (λ t. option_map (λ (e : Edge). e.target) (cond t (Some (edge_of table p j)) (find (λ (e : Edge). nat_eq e.keysym k) (map (edge_of table p) ks)))) (flipped j k e) ∙ later
 
 -- a scan of a node's edges finds where a keysym leads
-pub target_scanned : (table : List Definition) (p : List ℕ) (k : ℕ) → option_map (λ (e : Edge). e.target) (find (λ (e : Edge). nat_eq e.keysym k) (map (edge_of table p) (edges table p))) ≡ target_of table p k
+pub target_scanned : (table : List Definition) (p : List ℕ) (k : ℕ)
+    → option_map (λ (e : Edge). e.target) (find (λ (e : Edge). nat_eq e.keysym k) (map (edge_of table p) (edges table p))) ≡ target_of table p k
 target_scanned table p k = scanned table p k (edges table p) ∙ ap (λ b. cond {A = Option Target} b (Some (where_to table (p ++ k ∷ []))) None) (edge_is_listed table p k) ∙ sym (target_is table p k)
 
 keysym_fits : (k j : ℕ) → k ≡ j → is_keysym j ≡ true → k < 536870912
@@ -216,7 +223,8 @@ text_few_at table i t s within e =
     let few = text_few (get_or table i d) (definition_at table i d s.definitions within) in
     let n = ap length (text_read table i t d within e) in omega arith
 
-pub text_is : (table : List Definition) (i : ℕ) (t : List ℕ) → IsSettled table → i < length (leaves table) → option_map (λ (e : Definition). e.text) (slice_get table i) ≡ Some t → (leaf_text table i ≡ Some t) × (length t ≤ 255)
+pub text_is : (table : List Definition) (i : ℕ) (t : List ℕ) → IsSettled table → i < length (leaves table) → option_map (λ (e : Definition). e.text) (slice_get table i) ≡ Some t
+    → (leaf_text table i ≡ Some t) × (length t ≤ 255)
 text_is table i t s h e =
     let d : Definition = record { sequence = []; text = [] } in
     let within : i < length table = let n = leaves_count table s in omega arith in

@@ -61,7 +61,9 @@ changed_at {Y = Y} f g p (x ∷ xs) s h found = go (same p x) refl found (change
   where
     others : (zs : List (List ℕ)) → AllByRecursion (λ y. slice_cmp nat_cmp x y ≡ Less) zs → ((y : List ℕ) → list_any (same y) zs ≡ true → same y p ≡ false → g y ≡ f y) → x ≡ p → map g zs ≡ map f zs
     others [] a k e = refl
-    others (z ∷ zs) a k e = ap (λ y. y ∷ map g zs) (k z (or_left (same z z) (list_any (same z) zs) (same_from z z refl)) (apart z a.0 e)) ∙ ap (λ ys. f z ∷ ys) (others zs a.1 (λ y m. k y (or_right (same y z) (list_any (same y) zs) m)) e)
+    others (z ∷ zs) a k e =
+        ap (λ y. y ∷ map g zs) (k z (or_left (same z z) (list_any (same z) zs) (same_from z z refl)) (apart z a.0 e))
+        ∙ ap (λ ys. f z ∷ ys) (others zs a.1 (λ y m. k y (or_right (same y z) (list_any (same y) zs) m)) e)
       where
         apart : (z : List ℕ) → slice_cmp nat_cmp x z ≡ Less → x ≡ p → same z p ≡ false
         apart z a e = elim (cases_Bool (same z p)) [
@@ -104,7 +106,9 @@ module _ (table : List Definition) (d : Definition) (p : List ℕ) (k : ℕ) (re
 
   parent_row : row_of (table ++ d ∷ []) p
       ≡ record { depth = length p; edges = map (edge_of table p) (edges table p) ++ record { keysym = k; target = next_target (length (nodes table)) (length (leaves table)) rest } ∷ [] }
-  parent_row = with_edges (length p) (map (edge_of (table ++ d ∷ []) p) (edges (table ++ d ∷ []) p)) (map (edge_of table p) (edges table p) ++ record { keysym = k; target = next_target (length (nodes table)) (length (leaves table)) rest } ∷ [])
+  parent_row =
+      with_edges (length p) (map (edge_of (table ++ d ∷ []) p) (edges (table ++ d ∷ []) p))
+      (map (edge_of table p) (edges table p) ++ record { keysym = k; target = next_target (length (nodes table)) (length (leaves table)) rest } ∷ [])
       (ap (map (edge_of (table ++ d ∷ []) p)) (edges_at_parent table d p k rest n) ∙ map-append (edge_of (table ++ d ∷ []) p) (edges table p) (k ∷ [])
       ∙ ap (λ es. es ++ edge_of (table ++ d ∷ []) p k ∷ []) (leads_stay p)
       ∙ ap (λ t. map (edge_of table p) (edges table p) ++ record { keysym = k; target = t } ∷ []) first_lead)
@@ -118,7 +122,8 @@ module _ (table : List Definition) (d : Definition) (p : List ℕ) (k : ℕ) (re
       let number : length (nodes table) + length (y ++ j ∷ []) ≡ 1 + i = omega arith in
       let depth : length (q ++ y) ≡ m = length-append q y ∙ sym deep in
       let lead : where_to (table ++ d ∷ []) ((q ++ y) ++ j ∷ []) ≡ next_target (1 + i) (length (leaves table)) r =
-      ap (where_to (table ++ d ∷ [])) (append_assoc q y (j ∷ [])) ∙ new_lead table d p k rest n (y ++ j ∷ []) r (e ∙ sym (append_assoc y (j ∷ []) r)) ∙ ap (λ x. next_target x (length (leaves table)) r) number in
+      ap (where_to (table ++ d ∷ [])) (append_assoc q y (j ∷ [])) ∙ new_lead table d p k rest n (y ++ j ∷ []) r (e ∙ sym (append_assoc y (j ∷ []) r))
+      ∙ ap (λ x. next_target x (length (leaves table)) r) number in
       let one : map (edge_of (table ++ d ∷ []) (q ++ y)) (edges (table ++ d ∷ []) (q ++ y)) ≡ record { keysym = j; target = next_target (1 + i) (length (leaves table)) r } ∷ [] =
       ap (map (edge_of (table ++ d ∷ []) (q ++ y))) (edges_at_new table d p k rest n y j r e) ∙ ap (λ t. record { keysym = j; target = t } ∷ []) lead in
       λ t. record { depth = depth t; edges = one t }
@@ -132,7 +137,8 @@ module _ (table : List Definition) (d : Definition) (p : List ℕ) (k : ℕ) (re
       let more : length (y ++ j ∷ []) ≡ length y + 1 = length-append y (j ∷ []) in
       let head = ap (λ z. row_of (table ++ d ∷ []) (q ++ z)) (append-nil y) ∙ new_row y j r i m e at deep in
       let tail = map_of_map (λ z. row_of (table ++ d ∷ []) (q ++ (y ++ z))) (λ z. j ∷ z) (proper_prefixes r)
-      ∙ map_same (λ z. row_of (table ++ d ∷ []) (q ++ (y ++ j ∷ z))) (λ z. row_of (table ++ d ∷ []) (q ++ ((y ++ j ∷ []) ++ z))) (λ z. ap (λ x. row_of (table ++ d ∷ []) (q ++ x)) (sym (append_assoc y (j ∷ []) z))) (proper_prefixes r)
+      ∙ map_same (λ z. row_of (table ++ d ∷ []) (q ++ (y ++ j ∷ z))) (λ z. row_of (table ++ d ∷ []) (q ++ ((y ++ j ∷ []) ++ z)))
+      (λ z. ap (λ x. row_of (table ++ d ∷ []) (q ++ x)) (sym (append_assoc y (j ∷ []) z))) (proper_prefixes r)
       ∙ rows_from (y ++ j ∷ []) r (1 + i) (1 + m) (e ∙ sym (append_assoc y (j ∷ []) r)) (omega arith) (omega arith) in
       ap (λ row. row ∷ map (λ z. row_of (table ++ d ∷ []) (q ++ (y ++ z))) (map (λ z. j ∷ z) (proper_prefixes r))) head
       ∙ ap (λ rows. record { depth = m; edges = record { keysym = j; target = next_target (1 + i) (length (leaves table)) r } ∷ [] } ∷ rows) tail
@@ -171,7 +177,8 @@ module _ (table : List Definition) (d : Definition) (p : List ℕ) (k : ℕ) (re
       let more : length (y ++ j ∷ []) ≡ length y + 1 = length-append y (j ∷ []) in
       let head = ap (λ z. number_of (table ++ d ∷ []) (q ++ z)) (append-nil y) ∙ new_number table d p k rest n y j r e ∙ sym at in
       let tail = map_of_map (λ z. number_of (table ++ d ∷ []) (q ++ (y ++ z))) (λ z. j ∷ z) (proper_prefixes r)
-      ∙ map_same (λ z. number_of (table ++ d ∷ []) (q ++ (y ++ j ∷ z))) (λ z. number_of (table ++ d ∷ []) (q ++ ((y ++ j ∷ []) ++ z))) (λ z. ap (λ x. number_of (table ++ d ∷ []) (q ++ x)) (sym (append_assoc y (j ∷ []) z))) (proper_prefixes r)
+      ∙ map_same (λ z. number_of (table ++ d ∷ []) (q ++ (y ++ j ∷ z))) (λ z. number_of (table ++ d ∷ []) (q ++ ((y ++ j ∷ []) ++ z)))
+      (λ z. ap (λ x. number_of (table ++ d ∷ []) (q ++ x)) (sym (append_assoc y (j ∷ []) z))) (proper_prefixes r)
       ∙ numbers_from (y ++ j ∷ []) r (1 + i) (e ∙ sym (append_assoc y (j ∷ []) r)) (omega arith) in
       ap (λ x. x ∷ map (λ z. number_of (table ++ d ∷ []) (q ++ (y ++ z))) (map (λ z. j ∷ z) (proper_prefixes r))) head ∙ ap (λ xs. i ∷ xs) tail
 

@@ -47,7 +47,19 @@ parts (j ∷ a) [] h f = cc
 parts (j ∷ a) (k ∷ b) h f = go (nat_cmp j k) refl h (λ l g. parts a b l g)
   where
     go : (o : Ordering) → nat_cmp j k ≡ o → ordering_then o (slice_cmp nat_cmp a b) ≡ Less → (Before a b → is_proper_prefix a b ≡ false → Parts a b) → Parts (j ∷ a) (k ∷ b)
-    go Less e l later = record { prefix = []; first = j; first_rest = a; second = k; second_rest = b; first_is = refl; second_is = refl; less = e; count = ap (λ t. cond t (1 + shared a b) 0) (apart j k (ranked j k Less (sym e))) }
+    go Less e l later =
+        record {
+          prefix = [];
+          first = j;
+          first_rest = a;
+          second = k;
+          second_rest = b;
+          first_is = refl;
+          second_is = refl;
+          less = e;
+          count =
+              ap (λ t. cond t (1 + shared a b) 0) (apart j k (ranked j k Less (sym e)));
+        }
     go Equal e l later =
         let is : j ≡ k = ranked j k Equal (sym e) in
         let q = later l (ap (λ t. t && is_proper_prefix a b) (sym (eq-eqb j k is)) ∙ f) in
@@ -93,7 +105,8 @@ rise_before (c ∷ []) d t r h = elim (or_cases (same t c.sequence) false h) [
 ]
 rise_before (c ∷ e ∷ table) d t r h = elim (or_cases (same t c.sequence) (is_sequence (e ∷ table) t) h) [
   | inl f ↦ ap (λ y. slice_cmp nat_cmp y d.sequence) (same_is t c.sequence f)
-      ∙ nat_list_cmp_total.trans c.sequence e.sequence d.sequence (head_before c e (table ++ d ∷ []) r) (rise_before (e ∷ table) d e.sequence (tail_rises c e (table ++ d ∷ []) r) (own_sequence e table))
+      ∙ nat_list_cmp_total.trans c.sequence e.sequence d.sequence (head_before c e (table ++ d ∷ []) r)
+      (rise_before (e ∷ table) d e.sequence (tail_rises c e (table ++ d ∷ []) r) (own_sequence e table))
   | inr f ↦ rise_before (e ∷ table) d t (tail_rises c e (table ++ d ∷ []) r) f
 ]
 
@@ -120,7 +133,8 @@ rise_prefix : (xs ys : List Definition) → sequences_rise (xs ++ ys) ≡ true �
 rise_prefix [] ys h = refl
 rise_prefix (c ∷ []) ys h = refl
 rise_prefix (c ∷ e ∷ xs) ys h =
-    and_from (is_lt (slice_cmp nat_cmp c.sequence e.sequence)) (sequences_rise (e ∷ xs)) (and_parts (is_lt (slice_cmp nat_cmp c.sequence e.sequence)) (sequences_rise (e ∷ xs ++ ys)) h).0 (rise_prefix (e ∷ xs) ys (tail_rises c e (xs ++ ys) h))
+    and_from (is_lt (slice_cmp nat_cmp c.sequence e.sequence)) (sequences_rise (e ∷ xs)) (and_parts (is_lt (slice_cmp nat_cmp c.sequence e.sequence)) (sequences_rise (e ∷ xs ++ ys)) h).0
+    (rise_prefix (e ∷ xs) ys (tail_rises c e (xs ++ ys) h))
 
 all_prefix : (p q : Definition → Bool) → ((d : Definition) → p d ≡ true → q d ≡ true) → (xs ys : List Definition) → list_all p (xs ++ ys) ≡ true → list_all q xs ≡ true
 all_prefix p q f [] ys h = refl
@@ -131,7 +145,8 @@ free_prefix xs ys h = all_prefix (λ d. not (is_extended (xs ++ ys) d.sequence))
   where
     weaker : (d : Definition) → not (is_extended (xs ++ ys) d.sequence) ≡ true → not (is_extended xs d.sequence) ≡ true
     weaker d e = not_from_false (is_extended xs d.sequence)
-        (or_parts (is_extended xs d.sequence) (is_extended ys d.sequence) (sym (list_any-append (λ (c : Definition). is_proper_prefix d.sequence c.sequence) xs ys) ∙ not-true (is_extended (xs ++ ys) d.sequence) e)).0
+        (or_parts (is_extended xs d.sequence) (is_extended ys d.sequence)
+        (sym (list_any-append (λ (c : Definition). is_proper_prefix d.sequence c.sequence) xs ys) ∙ not-true (is_extended (xs ++ ys) d.sequence) e)).0
 
 -- the prefix of a settled table is settled
 pub settled_prefix : (xs ys : List Definition) → IsSettled (xs ++ ys) → IsSettled xs
@@ -185,7 +200,8 @@ module _ (c : Definition) (rows : List Definition) (d : Definition) (rise : sequ
   module _ (q : Parts (last_sequence (c ∷ rows)) d.sequence) where
     last_before : Before (last_sequence (c ∷ rows)) (q.prefix ++ q.second ∷ [])
     last_before =
-        ap (λ y. slice_cmp nat_cmp y (q.prefix ++ q.second ∷ [])) q.first_is ∙ behind_prefix q.prefix (q.first ∷ q.first_rest) (q.second ∷ []) ∙ ap (λ o. ordering_then o (slice_cmp nat_cmp q.first_rest [])) q.less
+        ap (λ y. slice_cmp nat_cmp y (q.prefix ++ q.second ∷ [])) q.first_is ∙ behind_prefix q.prefix (q.first ∷ q.first_rest) (q.second ∷ [])
+        ∙ ap (λ o. ordering_then o (slice_cmp nat_cmp q.first_rest [])) q.less
 
     all_before : (t : List ℕ) → is_sequence (c ∷ rows) t ≡ true → Before t (q.prefix ++ q.second ∷ [])
     all_before t h = elim (before_last (c ∷ rows) t (rise_prefix (c ∷ rows) (d ∷ []) rise) h) [

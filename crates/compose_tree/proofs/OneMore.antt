@@ -79,7 +79,8 @@ pub index_in_prefix : {X : Type 0} (q : X → Bool) (xs ys : List X) → list_an
 index_in_prefix q [] ys h = cc
 index_in_prefix q (x ∷ xs) ys h = go (q x) h (index_in_prefix q xs ys)
   where
-    go : (b : Bool) → b || list_any q xs ≡ true → (list_any q xs ≡ true → position_or_len q (xs ++ ys) ≡ position_or_len q xs) → cond (not b) (1 + position_or_len q (xs ++ ys)) 0 ≡ cond (not b) (1 + position_or_len q xs) 0
+    go : (b : Bool) → b || list_any q xs ≡ true → (list_any q xs ≡ true → position_or_len q (xs ++ ys) ≡ position_or_len q xs)
+        → cond (not b) (1 + position_or_len q (xs ++ ys)) 0 ≡ cond (not b) (1 + position_or_len q xs) 0
     go true h f = refl
     go false h f = ap (λ n. 1 + n) (f h)
 
@@ -87,7 +88,8 @@ pub index_behind : {X : Type 0} (q : X → Bool) (xs ys : List X) → list_any q
 index_behind q [] ys h = omega arith
 index_behind q (x ∷ xs) ys h = go (q x) h (index_behind q xs ys)
   where
-    go : (b : Bool) → b || list_any q xs ≡ false → (list_any q xs ≡ false → position_or_len q (xs ++ ys) ≡ length xs + position_or_len q ys) → cond (not b) (1 + position_or_len q (xs ++ ys)) 0 ≡ length (x ∷ xs) + position_or_len q ys
+    go : (b : Bool) → b || list_any q xs ≡ false → (list_any q xs ≡ false → position_or_len q (xs ++ ys) ≡ length xs + position_or_len q ys)
+        → cond (not b) (1 + position_or_len q (xs ++ ys)) 0 ≡ length (x ∷ xs) + position_or_len q ys
     go true h f = cc
     go false h f = let e : position_or_len q (xs ++ ys) ≡ length xs + position_or_len q ys = f h in omega arith
 
@@ -233,11 +235,13 @@ module _ (table : List Definition) (d : Definition) (p : List ℕ) (k : ℕ) (re
   edge_along x j h e =
       let q = p ++ k ∷ [] in
       elim (or_cases (is_proper_prefix (x ++ j ∷ []) d.sequence) (same (x ++ j ∷ []) d.sequence) e) [
-        | inl f ↦ elim (or_cases (is_proper_prefix (x ++ j ∷ []) q) (list_any (λ y. same (x ++ j ∷ []) (q ++ y)) (proper_prefixes rest)) (sym (ap (is_proper_prefix (x ++ j ∷ [])) n.sequence ∙ prefix_of_joined (x ++ j ∷ []) q rest) ∙ f)) [
-          | inl g ↦ or_left (has_edge table x j) (same x p && j == k) (or_left (is_node table (x ++ j ∷ [])) (is_sequence table (x ++ j ∷ [])) (n.opened (x ++ j ∷ []) g))
-          | inr g ↦ (let y = found (λ y. same (x ++ j ∷ []) (q ++ y)) (proper_prefixes rest) g in
-              or_right (has_edge table x j) (same x p && j == k) (last_is x j p k y.0 (same_is (x ++ j ∷ []) (q ++ y.0) y.1) (node_before x h)))
-        ]
+        | inl f ↦ elim
+            (or_cases (is_proper_prefix (x ++ j ∷ []) q) (list_any (λ y. same (x ++ j ∷ []) (q ++ y)) (proper_prefixes rest))
+            (sym (ap (is_proper_prefix (x ++ j ∷ [])) n.sequence ∙ prefix_of_joined (x ++ j ∷ []) q rest) ∙ f)) [
+              | inl g ↦ or_left (has_edge table x j) (same x p && j == k) (or_left (is_node table (x ++ j ∷ [])) (is_sequence table (x ++ j ∷ [])) (n.opened (x ++ j ∷ []) g))
+              | inr g ↦ (let y = found (λ y. same (x ++ j ∷ []) (q ++ y)) (proper_prefixes rest) g in
+                  or_right (has_edge table x j) (same x p && j == k) (last_is x j p k y.0 (same_is (x ++ j ∷ []) (q ++ y.0) y.1) (node_before x h)))
+            ]
         | inr f ↦ or_right (has_edge table x j) (same x p && j == k) (last_is x j p k rest (same_is (x ++ j ∷ []) d.sequence f ∙ n.sequence) (node_before x h))
       ]
 

@@ -28,24 +28,28 @@ use Rattle.compose_tree.proofs.Spelling.{spelled_all}
 -- ---- making the pool
 
 -- the texts from an index on
-pub texts_on : (all : List Definition) (i : ℕ) (t : List ℕ) → i < length all → option_map (λ (d : Definition). d.text) (slice_get all i) ≡ Some t → texts_of (drop i all) ≡ t ∷ texts_of (drop (i + 1) all)
+pub texts_on : (all : List Definition) (i : ℕ) (t : List ℕ) → i < length all → option_map (λ (d : Definition). d.text) (slice_get all i) ≡ Some t
+    → texts_of (drop i all) ≡ t ∷ texts_of (drop (i + 1) all)
 texts_on all i t h e =
     let d : Definition = record { sequence = []; text = [] } in
     rw add-one (ap texts_of (drop-cons all i d h) ∙ ap (λ x. x ∷ texts_of (drop (suc i) all)) (sym (text_read all i t d h e)))
 
-pub offsets_step : (all : List Definition) (i offset next : ℕ) (whole offsets more t : List ℕ) → whole ≡ offsets ++ packed_offsets offset (texts_of (drop i all)) → texts_of (drop i all) ≡ t ∷ texts_of (drop (i + 1) all)
+pub offsets_step : (all : List Definition) (i offset next : ℕ) (whole offsets more t : List ℕ) → whole ≡ offsets ++ packed_offsets offset (texts_of (drop i all))
+    → texts_of (drop i all) ≡ t ∷ texts_of (drop (i + 1) all)
     → more ≡ offsets ++ offset ∷ [] → next ≡ offset + length t → whole ≡ more ++ packed_offsets next (texts_of (drop (i + 1) all))
 offsets_step all i offset next whole offsets more t e f g h =
     let rest = texts_of (drop (i + 1) all) in
     e ∙ ap (λ ts. offsets ++ packed_offsets offset ts) f ∙ sym (append_assoc offsets (offset ∷ []) (packed_offsets (offset + length t) rest))
     ∙ ap (λ x. x ++ packed_offsets (offset + length t) rest) (sym g) ∙ ap (λ n. more ++ packed_offsets n rest) (sym h)
 
-pub pool_step : (all : List Definition) (i : ℕ) (whole bytes more t : List ℕ) → whole ≡ bytes ++ pool (texts_of (drop i all)) → texts_of (drop i all) ≡ t ∷ texts_of (drop (i + 1) all) → more ≡ bytes ++ t → whole ≡ more ++ pool (texts_of (drop (i + 1) all))
+pub pool_step : (all : List Definition) (i : ℕ) (whole bytes more t : List ℕ) → whole ≡ bytes ++ pool (texts_of (drop i all)) → texts_of (drop i all) ≡ t ∷ texts_of (drop (i + 1) all)
+    → more ≡ bytes ++ t → whole ≡ more ++ pool (texts_of (drop (i + 1) all))
 pool_step all i whole bytes more t e f g =
     let rest = texts_of (drop (i + 1) all) in
     e ∙ ap (λ ts. bytes ++ pool ts) f ∙ sym (append_assoc bytes t (pool rest)) ∙ ap (λ x. x ++ pool rest) (sym g)
 
-pub utf8_step : (all : List Definition) (i : ℕ) (t : List ℕ) → texts_of (drop i all) ≡ t ∷ texts_of (drop (i + 1) all) → IsUtf8 t → list_all is_utf8 (texts_of (drop (i + 1) all)) ≡ true → list_all is_utf8 (texts_of (drop i all)) ≡ true
+pub utf8_step : (all : List Definition) (i : ℕ) (t : List ℕ) → texts_of (drop i all) ≡ t ∷ texts_of (drop (i + 1) all) → IsUtf8 t → list_all is_utf8 (texts_of (drop (i + 1) all)) ≡ true
+    → list_all is_utf8 (texts_of (drop i all)) ≡ true
 utf8_step all i t f u h = ap (list_all is_utf8) f ∙ and_from (is_utf8 t) (list_all is_utf8 (texts_of (drop (i + 1) all))) (is_utf8-from_IsUtf8 t u) h
 
 -- ---- the search among rising keysyms
@@ -57,22 +61,26 @@ keys_length : (edges : List PackedEdge) → length (keys_of edges) ≡ length ed
 keys_length edges = length-map edges (λ (e : PackedEdge). e.keysym)
 
 -- where the keysym at m is no greater, each below m is less
-pub less_below : (edges : List PackedEdge) (key m : ℕ) → IsStrictlyIncreasing (keys_of edges) → m < length edges → slice_index (keys_of edges) m ≤ key → (k : ℕ) → k < m → slice_index (keys_of edges) k < key
+pub less_below : (edges : List PackedEdge) (key m : ℕ) → IsStrictlyIncreasing (keys_of edges) → m < length edges → slice_index (keys_of edges) m ≤ key → (k : ℕ) → k < m
+    → slice_index (keys_of edges) k < key
 less_below edges key m rise h less k lower =
     let n = keys_length edges in
     let l : slice_index (keys_of edges) k < slice_index (keys_of edges) m = below_from_sorted (keys_of edges) k m 0 (sorted_from_strictly_increasing (keys_of edges) rise) lower (omega arith) in
     omega arith
 
 -- where the keysym at m is greater, each from m on is greater
-pub greater_from : (edges : List PackedEdge) (key m : ℕ) → IsStrictlyIncreasing (keys_of edges) → key < slice_index (keys_of edges) m → (k : ℕ) → m ≤ k → k < length edges → key < slice_index (keys_of edges) k
+pub greater_from : (edges : List PackedEdge) (key m : ℕ) → IsStrictlyIncreasing (keys_of edges) → key < slice_index (keys_of edges) m → (k : ℕ) → m ≤ k → k < length edges
+    → key < slice_index (keys_of edges) k
 greater_from edges key m rise greater k le h = go (eq-or-lt_of_le le)
   where
     go : (m ≡ k) ⊎ (m < k) → key < slice_index (keys_of edges) k
     go (inl same) = let P : ℕ → Type 0 = λ n. key < slice_index (keys_of edges) n in subst P same greater
-    go (inr lower) = (let n = keys_length edges in let l : slice_index (keys_of edges) m < slice_index (keys_of edges) k = below_from_sorted (keys_of edges) m k 0 (sorted_from_strictly_increasing (keys_of edges) rise) lower (omega arith) in omega arith)
+    go (inr lower) =
+        (let n = keys_length edges in let l : slice_index (keys_of edges) m < slice_index (keys_of edges) k = below_from_sorted (keys_of edges) m k 0 (sorted_from_strictly_increasing (keys_of edges) rise) lower (omega arith) in omega arith)
 
 -- where the keysym can be at one index alone and is not there, it is nowhere
-pub nowhere_else : (edges : List PackedEdge) (key first count : ℕ) → count ≤ 1 → ((k : ℕ) → k < first → slice_index (keys_of edges) k < key) → ((k : ℕ) → first + count ≤ k → k < length edges → key < slice_index (keys_of edges) k)
+pub nowhere_else : (edges : List PackedEdge) (key first count : ℕ) → count ≤ 1 → ((k : ℕ) → k < first → slice_index (keys_of edges) k < key)
+    → ((k : ℕ) → first + count ≤ k → k < length edges → key < slice_index (keys_of edges) k)
     → (count ≡ 1 → slice_index (keys_of edges) first ≡ key → ⊥) → (k : ℕ) → k < length edges → slice_index (keys_of edges) k ≡ key → ⊥
 nowhere_else edges key first count few below above not_there k h same = elim (cases_lt k first) [
   | inl lower ↦ (let l = below k lower in omega arith)
@@ -163,7 +171,8 @@ module _ (nodes' : List PackedNode) (edges' : List PackedEdge) (offsets bytes : 
       let n : length es ≡ length (row_of table (node table i)).edges = length-map (row_of table (node table i)).edges packed_edge in
       let from : first ≡ length q.prefix = f ∙ ap (λ (x : PackedNode). x.first) at ∙ q.first a ∙ zero-add (length q.prefix) in
       let to : end ≡ 0 + length q.prefix + length (row_of table (node table i)).edges = g ∙ ap (λ (x : PackedNode). x.first) (behind ∙ ap (λ j. get_or nodes' j b) (add-one i)) ∙ q.end b in
-      let all : length edges' ≡ length q.prefix + (length es + length q.back) = ap length q.edges_are ∙ length-append q.prefix (es ++ q.back) ∙ ap (λ m. length q.prefix + m) (length-append es q.back) in
+      let all : length edges' ≡ length q.prefix + (length es + length q.back) =
+      ap length q.edges_are ∙ length-append q.prefix (es ++ q.back) ∙ ap (λ m. length q.prefix + m) (length-append es q.back) in
       (omega arith, omega arith, ap (λ x. take (end - first) (drop first x)) q.edges_are ∙ piece first end q.prefix es q.back (sym from) (omega arith))
 
 -- ---- what a search of a node's edges tells
@@ -176,7 +185,8 @@ pub keys_rise : (table : List Definition) (x : List ℕ) (es : List PackedEdge) 
 keys_rise table x es e = subst IsStrictlyIncreasing (sym (ap keys_of e ∙ packed_keys table x (edges table x))) (IsStrictlyIncreasing-from_sorted (edges table x) (edges_sorted table x))
 
 -- where no edge has the keysym, it leads nowhere
-pub step_none : (table : List Definition) (x : List ℕ) (k : ℕ) (es : List PackedEdge) → es ≡ map packed_edge (map (edge_of table x) (edges table x)) → ((m : ℕ) → m < length es → slice_index (keys_of es) m ≡ k → ⊥) → None ≡ target_of table x k
+pub step_none : (table : List Definition) (x : List ℕ) (k : ℕ) (es : List PackedEdge) → es ≡ map packed_edge (map (edge_of table x) (edges table x))
+    → ((m : ℕ) → m < length es → slice_index (keys_of es) m ≡ k → ⊥) → None ≡ target_of table x k
 step_none table x k es e none =
     let n : length (keys_of es) ≡ length es = keys_length es in
     leads_nowhere table x k (keys_of es) (ap keys_of e ∙ packed_keys table x (edges table x)) (λ m h. none m (omega arith))
@@ -189,14 +199,16 @@ index_read table x k i es e h is =
     key_read (edges table x) (keys_of es) k i (ap keys_of e ∙ packed_keys table x (edges table x)) (omega arith) is
 
 -- an edge that is packed is the table's edge of its keysym
-packed_edge_is : (table : List Definition) (x : List ℕ) (i : ℕ) (es : List PackedEdge) (e : PackedEdge) → es ≡ map packed_edge (map (edge_of table x) (edges table x)) → i < length es → e ≡ get_or es i e → e ≡ packed_edge (edge_of table x (get_or (edges table x) i 0))
+packed_edge_is : (table : List Definition) (x : List ℕ) (i : ℕ) (es : List PackedEdge) (e : PackedEdge) → es ≡ map packed_edge (map (edge_of table x) (edges table x)) → i < length es
+    → e ≡ get_or es i e → e ≡ packed_edge (edge_of table x (get_or (edges table x) i 0))
 packed_edge_is table x i es e es_are h at =
     let n : length es ≡ length (edges table x) = ap length es_are ∙ length-map (map (edge_of table x) (edges table x)) packed_edge ∙ length-map (edges table x) (edge_of table x) in
     let m : length (map (edge_of table x) (edges table x)) ≡ length (edges table x) = length-map (edges table x) (edge_of table x) in
     at ∙ ap (λ y. get_or y i e) es_are ∙ get_or-map packed_edge (map (edge_of table x) (edges table x)) i (edge_of table x 0) e (omega arith)
     ∙ ap packed_edge (get_or-map (edge_of table x) (edges table x) i 0 (edge_of table x 0) (omega arith))
 
-pub edge_read : (table : List Definition) (x : List ℕ) (i : ℕ) (es : List PackedEdge) (e : PackedEdge) (t : Target) → es ≡ map packed_edge (map (edge_of table x) (edges table x)) → i < length es → e ≡ get_or es i e → t ≡ unpacked_target e.target
+pub edge_read : (table : List Definition) (x : List ℕ) (i : ℕ) (es : List PackedEdge) (e : PackedEdge) (t : Target) → es ≡ map packed_edge (map (edge_of table x) (edges table x)) → i < length es
+    → e ≡ get_or es i e → t ≡ unpacked_target e.target
     → (slice_get (edges table x) i ≡ Some e.keysym) × (target_of table x e.keysym ≡ Some t)
 edge_read table x i es e t es_are h at unpacked_is =
     let k = get_or (edges table x) i 0 in
@@ -212,11 +224,13 @@ pub edges_counted : (table : List Definition) (x : List ℕ) (es : List PackedEd
 edges_counted table x es e = ap length e ∙ length-map (map (edge_of table x) (edges table x)) packed_edge ∙ length-map (edges table x) (edge_of table x)
 
 -- arrays that are those of what they spell are those of what this is
-pub packed_as : (nodes' : List PackedNode) (edges' : List PackedEdge) (offsets bytes : List ℕ) (table : List Definition) → IsPacked nodes' edges' offsets bytes (unpacked nodes' edges' offsets bytes) → unpacked nodes' edges' offsets bytes ≡ table → IsPacked nodes' edges' offsets bytes table
+pub packed_as : (nodes' : List PackedNode) (edges' : List PackedEdge) (offsets bytes : List ℕ) (table : List Definition) → IsPacked nodes' edges' offsets bytes (unpacked nodes' edges' offsets bytes)
+    → unpacked nodes' edges' offsets bytes ≡ table → IsPacked nodes' edges' offsets bytes table
 packed_as nodes' edges' offsets bytes table p e = subst (IsPacked nodes' edges' offsets bytes) e p
 
 -- the arrays of a table spell it
-pub unpack_packed : (nodes' : List PackedNode) (edges' : List PackedEdge) (offsets bytes : List ℕ) (table : List Definition) → IsPacked nodes' edges' offsets bytes table → unpacked nodes' edges' offsets bytes ≡ table
+pub unpack_packed : (nodes' : List PackedNode) (edges' : List PackedEdge) (offsets bytes : List ℕ) (table : List Definition) → IsPacked nodes' edges' offsets bytes table
+    → unpacked nodes' edges' offsets bytes ≡ table
 unpack_packed nodes' edges' offsets bytes table p =
     ap (λ x. unpacked x edges' offsets bytes) p.nodes_are ∙ ap (λ x. unpacked (packed_nodes 0 (rows_of table)) x offsets bytes) p.edges_are
     ∙ ap (λ x. unpacked (packed_nodes 0 (rows_of table)) (packed_edges (rows_of table)) x bytes) p.offsets_are

@@ -86,7 +86,8 @@ module _ (nodes' : List PackedNode) (edges' : List PackedEdge) (offsets bytes : 
   pub offsets_counted : length offsets ≡ length (leaves table) + 1
   offsets_counted = ap length p.offsets_are ∙ offsets_count (texts_of table) 0 ∙ ap (λ n. n + 1) (length-map table (λ (d : Definition). d.text) ∙ sym (leaves_count table p.settled))
 
-  pub text_between : (i first end : ℕ) (a b : ℕ) → i < length (leaves table) → a ≡ get_or offsets i a → b ≡ get_or offsets (i + 1) b → first ≡ a → end ≡ b → TextBetween bytes first end (get_or (texts_of table) i [])
+  pub text_between : (i first end : ℕ) (a b : ℕ) → i < length (leaves table) → a ≡ get_or offsets i a → b ≡ get_or offsets (i + 1) b → first ≡ a → end ≡ b
+      → TextBetween bytes first end (get_or (texts_of table) i [])
   text_between i first end a b h at behind f g =
       let q = leaf_entries i h in
       let t = get_or (texts_of table) i [] in
@@ -108,5 +109,8 @@ module _ (nodes' : List PackedNode) (edges' : List PackedEdge) (offsets bytes : 
   leaf_text_found i t h e =
       let d : Definition = record { sequence = []; text = [] } in
       let within : i < length table = let n = leaves_count table p.settled in omega arith in
-      let is : t ≡ (get_or table i d).text = e ∙ get_or-map (λ (x : Definition). x.text) table i d [] within in
-      (leaf_text_is table i d p.settled within ∙ ap (λ x. Some x) (sym is), (let few = text_few (get_or table i d) (definition_at table i d p.settled.definitions within) in let n : length t ≡ length (get_or table i d).text = ap length is in omega arith))
+      let is : t ≡ (get_or table i d).text = e ∙ get_or-map (λ (x : Definition). x.text) table i d [] within in (
+        leaf_text_is table i d p.settled within
+            ∙ ap (λ x. Some x) (sym is),
+        (let few = text_few (get_or table i d) (definition_at table i d p.settled.definitions within) in let n : length t ≡ length (get_or table i d).text = ap length is in omega arith),
+      )

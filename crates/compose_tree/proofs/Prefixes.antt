@@ -165,7 +165,8 @@ pub behind_sorted : (q : List ℕ) (xs : List (List ℕ)) → IsStrictlySortedBy
 unfolding IsStrictlySortedBy
 behind_sorted q [] s = tt
 behind_sorted q (x ∷ xs) s = (
-  all_map (λ y. slice_cmp nat_cmp (q ++ x) y ≡ Less) (λ y. q ++ y) xs (all_weaker (λ y. slice_cmp nat_cmp x y ≡ Less) (λ y. slice_cmp nat_cmp (q ++ x) (q ++ y) ≡ Less) (λ y h. behind_prefix q x y ∙ h) xs s.0),
+  all_map (λ y. slice_cmp nat_cmp (q ++ x) y ≡ Less) (λ y. q ++ y) xs
+      (all_weaker (λ y. slice_cmp nat_cmp x y ≡ Less) (λ y. slice_cmp nat_cmp (q ++ x) (q ++ y) ≡ Less) (λ y h. behind_prefix q x y ∙ h) xs s.0),
   behind_sorted q xs s.1,
 )
 
@@ -179,7 +180,8 @@ prefixes_sorted (k ∷ s) = (first (proper_prefixes s), behind_sorted (k ∷ [])
     first (x ∷ xs) = (refl, first xs)
 
 -- two sorted lists are one sorted list where each element of the first comes before each of the second
-pub joined_sorted : {X : Type 0} (cmp : X → X → Ordering) (xs ys : List X) → IsStrictlySortedBy cmp xs → IsStrictlySortedBy cmp ys → AllByRecursion (λ x. AllByRecursion (λ y. cmp x y ≡ Less) ys) xs → IsStrictlySortedBy cmp (xs ++ ys)
+pub joined_sorted : {X : Type 0} (cmp : X → X → Ordering) (xs ys : List X) → IsStrictlySortedBy cmp xs → IsStrictlySortedBy cmp ys → AllByRecursion (λ x. AllByRecursion (λ y. cmp x y ≡ Less) ys) xs
+    → IsStrictlySortedBy cmp (xs ++ ys)
 unfolding IsStrictlySortedBy
 joined_sorted {X = X} cmp [] ys s t a = t
 joined_sorted {X = X} cmp (x ∷ xs) ys s t a = (both xs s.0, joined_sorted cmp xs ys s.1 t a.1)

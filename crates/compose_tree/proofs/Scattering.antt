@@ -106,7 +106,8 @@ pub record Put (ds : List ℕ) (es : List NodeEdge) (k : ℕ) (e : NodeEdge) (no
   pub packed_is : set packed q (packed_edge e.edge) ≡ laid 0 ds (take (k + 1) es) (drop (k + 1) es)
   pub counts_are : (c : ℕ) → c ≡ get_or counts e.node c → set counts e.node (c + 1) ≡ counts_of (gathered 0 ds (take (k + 1) es))
 
-pub put_at : (ds : List ℕ) (es : List NodeEdge) (k : ℕ) (e : NodeEdge) (nodes : List PackedNode) (packed : List PackedEdge) (counts : List ℕ) → AreAtNodes (length ds) es → k < length es → e ≡ get_or es k e → nodes ≡ packed_nodes 0 (gathered 0 ds es)
+pub put_at : (ds : List ℕ) (es : List NodeEdge) (k : ℕ) (e : NodeEdge) (nodes : List PackedNode) (packed : List PackedEdge) (counts : List ℕ) → AreAtNodes (length ds) es → k < length es
+    → e ≡ get_or es k e → nodes ≡ packed_nodes 0 (gathered 0 ds es)
     → packed ≡ laid 0 ds (take k es) (drop k es) → counts ≡ counts_of (gathered 0 ds (take k es)) → Put ds es k e nodes packed counts
 put_at ds es k e nodes packed counts at_nodes h is nodes_are packed_is counts_are =
     let put = take k es in
@@ -120,15 +121,21 @@ put_at ds es k e nodes packed counts at_nodes h is nodes_are packed_is counts_ar
     let before : packed ≡ laid 0 ds put (e ∷ left) = packed_is ∙ ap (laid 0 ds put) here in
     let n : length (gathered 0 ds es) ≡ length ds = rows_count 0 ds es in
     let m : length rows ≡ length ds = rows_count 0 ds put in
-    let of_node : (c : ℕ) → get_or counts e.node c ≡ length (edges_at e.node put) = λ c. ap (λ x. get_or x e.node c) counts_are ∙ count_at 0 e.node c ds put there ∙ ap (λ j. length (edges_at j put)) (zero-add e.node) in
+    let of_node : (c : ℕ)
+    → get_or counts e.node c ≡ length (edges_at e.node put) =
+    λ c. ap (λ x. get_or x e.node c) counts_are ∙ count_at 0 e.node c ds put there ∙ ap (λ j. length (edges_at j put)) (zero-add e.node) in
     record {
       q = p.q;
       at_node = omega (arith, ap length nodes_are, packed_count (gathered 0 ds es) 0, n, there);
       counted = omega (arith, ap length counts_are, length-map rows (λ (row : NodeRow). length row.edges), m, there);
-      next = λ d c. (λ t. (get_or (nodes_are t) e.node d).first + of_node c t) ∙ ap (λ x. (get_or (packed_nodes 0 (gathered 0 ds x)) e.node d).first + length (edges_at e.node put)) all ∙ p.next d ∙ zero-add p.q;
+      next =
+          λ d c. (λ t. (get_or (nodes_are t) e.node d).first + of_node c t) ∙ ap (λ x. (get_or (packed_nodes 0 (gathered 0 ds x)) e.node d).first + length (edges_at e.node put)) all ∙ p.next d
+          ∙ zero-add p.q;
       within = omega (arith, p.within, ap length before);
       packed_is = ap (λ x. set x p.q (packed_edge e.edge)) before ∙ sym p.laid_is ∙ ap (λ x. laid 0 ds x left) (sym more);
-      counts_are = λ c count. ap (λ x. set x e.node (c + 1)) counts_are ∙ sym (one_counted rows e.node c e.edge (omega (arith, m, there)) (count ∙ ap (λ x. get_or x e.node c) counts_are)) ∙ ap counts_of (sym (next_gathered ds es k e at_nodes h is));
+      counts_are =
+          λ c count. ap (λ x. set x e.node (c + 1)) counts_are ∙ sym (one_counted rows e.node c e.edge (omega (arith, m, there)) (count ∙ ap (λ x. get_or x e.node c) counts_are))
+          ∙ ap counts_of (sym (next_gathered ds es k e at_nodes h is));
     }
 
 -- ---- none is put, and all are
@@ -161,7 +168,8 @@ end_offset (r ∷ rows) offset d =
 -- ---- the nodes
 
 -- one node more
-pub nodes_step : (ds : List ℕ) (es : List NodeEdge) (k offset next d : ℕ) (whole nodes more : List PackedNode) → k < length ds → d ≡ get_or ds k d → next ≡ offset + length (edges_at k es) → more ≡ nodes ++ record { depth = d; first = offset } ∷ []
+pub nodes_step : (ds : List ℕ) (es : List NodeEdge) (k offset next d : ℕ) (whole nodes more : List PackedNode) → k < length ds → d ≡ get_or ds k d → next ≡ offset + length (edges_at k es)
+    → more ≡ nodes ++ record { depth = d; first = offset } ∷ []
     → whole ≡ nodes ++ packed_nodes offset (gathered k (drop k ds) es) → whole ≡ more ++ packed_nodes next (gathered (k + 1) (drop (k + 1) ds) es)
 nodes_step ds es k offset next d whole nodes more h is next_is more_is e =
     let node : PackedNode = record { depth = d; first = offset } in

@@ -53,7 +53,8 @@ any_at k g (j ∷ ks) = go (k == j) refl (any_at k g ks)
 in_group : (k : ℕ) (w : List ℕ) (g : ℕ → List (List ℕ)) (ks : List ℕ) → list_any (same (k ∷ w)) (flat_map (λ j. map (λ v. j ∷ v) (g j)) ks) ≡ list_any (λ j. k == j) ks && list_any (same w) (g k)
 in_group k w g ks =
     list_any-flat_map (same (k ∷ w)) (λ j. map (λ v. j ∷ v) (g j)) ks
-    ∙ list_any-same (λ j. list_any (same (k ∷ w)) (map (λ v. j ∷ v) (g j))) (λ j. k == j && list_any (same w) (g j)) (λ j. list_any-map (same (k ∷ w)) (λ v. j ∷ v) (g j) ∙ list_any-and (k == j) (same w) (g j)) ks
+    ∙ list_any-same (λ j. list_any (same (k ∷ w)) (map (λ v. j ∷ v) (g j))) (λ j. k == j && list_any (same w) (g j))
+    (λ j. list_any-map (same (k ∷ w)) (λ v. j ∷ v) (g j) ∙ list_any-and (k == j) (same w) (g j)) ks
     ∙ any_at k (λ j. list_any (same w) (g j)) ks
 
 all_append : {X : Type 0} (P : X → Type 0) (xs ys : List X) → AllByRecursion P xs → AllByRecursion P ys → AllByRecursion P (xs ++ ys)
@@ -64,7 +65,8 @@ all_behind_key : (x : List ℕ) (k j : ℕ) (vs : List (List ℕ)) → nat_cmp k
 all_behind_key x k j [] h = tt
 all_behind_key x k j (v ∷ vs) h = (ap (λ o. ordering_then o (slice_cmp nat_cmp x v)) h, all_behind_key x k j vs h)
 
-all_behind_keys : (x : List ℕ) (k : ℕ) (g : ℕ → List (List ℕ)) (ks : List ℕ) → AllByRecursion (λ j. nat_cmp k j ≡ Less) ks → AllByRecursion (λ y. slice_cmp nat_cmp (k ∷ x) y ≡ Less) (flat_map (λ j. map (λ v. j ∷ v) (g j)) ks)
+all_behind_keys : (x : List ℕ) (k : ℕ) (g : ℕ → List (List ℕ)) (ks : List ℕ) → AllByRecursion (λ j. nat_cmp k j ≡ Less) ks
+    → AllByRecursion (λ y. slice_cmp nat_cmp (k ∷ x) y ≡ Less) (flat_map (λ j. map (λ v. j ∷ v) (g j)) ks)
 all_behind_keys x k g [] a = tt
 all_behind_keys x k g (j ∷ ks) a =
     all_append (λ y. slice_cmp nat_cmp (k ∷ x) y ≡ Less) (map (λ v. j ∷ v) (g j)) (flat_map (λ j. map (λ v. j ∷ v) (g j)) ks) (all_behind_key x k j (g j) a.0) (all_behind_keys x k g ks a.1)
@@ -75,11 +77,13 @@ each_behind k g ks [] a = tt
 each_behind k g ks (x ∷ xs) a = (all_behind_keys x k g ks a, each_behind k g ks xs a)
 
 -- sorted groups behind rising keysyms are sorted
-groups_sorted : (g : ℕ → List (List ℕ)) (ks : List ℕ) → IsStrictlySortedBy nat_cmp ks → ((k : ℕ) → IsStrictlySortedBy (slice_cmp nat_cmp) (g k)) → IsStrictlySortedBy (slice_cmp nat_cmp) (flat_map (λ j. map (λ v. j ∷ v) (g j)) ks)
+groups_sorted : (g : ℕ → List (List ℕ)) (ks : List ℕ) → IsStrictlySortedBy nat_cmp ks → ((k : ℕ) → IsStrictlySortedBy (slice_cmp nat_cmp) (g k))
+    → IsStrictlySortedBy (slice_cmp nat_cmp) (flat_map (λ j. map (λ v. j ∷ v) (g j)) ks)
 unfolding IsStrictlySortedBy
 groups_sorted g [] s h = tt
 groups_sorted g (k ∷ ks) s h =
-    joined_sorted (slice_cmp nat_cmp) (map (λ v. k ∷ v) (g k)) (flat_map (λ j. map (λ v. j ∷ v) (g j)) ks) (behind_sorted (k ∷ []) (g k) (h k)) (groups_sorted g ks s.1 h) (each_behind k g ks (g k) s.0)
+    joined_sorted (slice_cmp nat_cmp) (map (λ v. k ∷ v) (g k)) (flat_map (λ j. map (λ v. j ∷ v) (g j)) ks) (behind_sorted (k ∷ []) (g k) (h k)) (groups_sorted g ks s.1 h)
+    (each_behind k g ks (g k) s.0)
 
 nothing_sorted : IsStrictlySortedBy (slice_cmp nat_cmp) []
 unfolding IsStrictlySortedBy
@@ -99,7 +103,8 @@ module _ (table : List Definition) (s : IsSettled table) where
   unfolding behind
   spelled_at f p h =
       let g : Edge → List (List ℕ) = λ e. map (λ w. e.keysym ∷ w) (spelled_behind e.target (λ n. spelled (rows_of table) f n)) in
-      ap (λ (r : NodeRow). flat_map g r.edges) (get_or-map (row_of table) (nodes table) (number_of table p) [] (record { depth = 0; edges = [] }) (number_below table p h) ∙ ap (row_of table) (node_at_number table p h))
+      ap (λ (r : NodeRow). flat_map g r.edges)
+      (get_or-map (row_of table) (nodes table) (number_of table p) [] (record { depth = 0; edges = [] }) (number_below table p h) ∙ ap (row_of table) (node_at_number table p h))
       ∙ flat_map_of_map g (edge_of table p) (edges table p)
 
   node_no_sequence : (q : List ℕ) → is_extended table q ≡ true → is_sequence table q ≡ false
@@ -142,7 +147,8 @@ module _ (table : List Definition) (s : IsSettled table) where
       none (inr e) = e
 
   -- what is spelled from p goes on to a sequence, and all that goes on is spelled
-  spelled_means : (f : ℕ) (p w : List ℕ) → is_node table p ≡ true → 32 ≤ f + length p → list_any (same w) (spelled (rows_of table) f (number_of table p)) ≡ not (same w []) && is_sequence table (p ++ w)
+  spelled_means : (f : ℕ) (p w : List ℕ) → is_node table p ≡ true → 32 ≤ f + length p
+      → list_any (same w) (spelled (rows_of table) f (number_of table p)) ≡ not (same w []) && is_sequence table (p ++ w)
   spelled_means zero p w h few = absurd (let m = node_few table p s.definitions h in omega arith)
   spelled_means (suc f) p [] h few =
       ap (list_any (same [])) (spelled_at f p h) ∙ list_any-flat_map (same []) (λ k. map (λ w. k ∷ w) (behind f p k)) (edges table p) ∙ no_group_empty (behind f p) (edges table p)
@@ -159,9 +165,11 @@ module _ (table : List Definition) (s : IsSettled table) where
 
   spelled_sorted : (f : ℕ) (p : List ℕ) → is_node table p ≡ true → IsStrictlySortedBy (slice_cmp nat_cmp) (spelled (rows_of table) f (number_of table p))
   spelled_sorted zero p h = nothing_sorted
-  spelled_sorted (suc f) p h = subst (IsStrictlySortedBy (slice_cmp nat_cmp)) (sym (spelled_at f p h)) (groups_sorted (behind f p) (edges table p) (edges_sorted table p) (λ k. group k (λ q e. spelled_sorted f q e)))
+  spelled_sorted (suc f) p h =
+      subst (IsStrictlySortedBy (slice_cmp nat_cmp)) (sym (spelled_at f p h)) (groups_sorted (behind f p) (edges table p) (edges_sorted table p) (λ k. group k (λ q e. spelled_sorted f q e)))
     where
-      group : (k : ℕ) → ((q : List ℕ) → is_node table q ≡ true → IsStrictlySortedBy (slice_cmp nat_cmp) (spelled (rows_of table) f (number_of table q))) → IsStrictlySortedBy (slice_cmp nat_cmp) (behind f p k)
+      group : (k : ℕ) → ((q : List ℕ) → is_node table q ≡ true → IsStrictlySortedBy (slice_cmp nat_cmp) (spelled (rows_of table) f (number_of table q)))
+          → IsStrictlySortedBy (slice_cmp nat_cmp) (behind f p k)
       group k later = elim (cases_Bool (is_node table (p ++ k ∷ []))) [
         | inl e ↦ subst (IsStrictlySortedBy (slice_cmp nat_cmp)) (sym (node_behind f p k e)) (later (p ++ k ∷ []) e)
         | inr e ↦ subst (IsStrictlySortedBy (slice_cmp nat_cmp)) (sym (leaf_behind f p k e)) (one_list_sorted [])

@@ -24,8 +24,12 @@ odd_code n = elim (cases_Bool ((n * 2 + 1) % 2 == 0)) [
 ]
 
 pub unpack_target : (t : Target) → unpacked_target (packed_target t) ≡ t
-unpack_target (Node n) = ap (λ b. cond {A = Target} b (Node (record { 0 = (n.0 * 2) / 2 })) (Leaf (record { 0 = (n.0 * 2) / 2 }))) (even_code n.0) ∙ (let e : (n.0 * 2) / 2 ≡ n.0 = omega arith in ap (λ i. Node (record { 0 = i })) e)
-unpack_target (Leaf l) = ap (λ b. cond {A = Target} b (Node (record { 0 = (l.0 * 2 + 1) / 2 })) (Leaf (record { 0 = (l.0 * 2 + 1) / 2 }))) (odd_code l.0) ∙ (let e : (l.0 * 2 + 1) / 2 ≡ l.0 = omega arith in ap (λ i. Leaf (record { 0 = i })) e)
+unpack_target (Node n) =
+    ap (λ b. cond {A = Target} b (Node (record { 0 = (n.0 * 2) / 2 })) (Leaf (record { 0 = (n.0 * 2) / 2 }))) (even_code n.0)
+    ∙ (let e : (n.0 * 2) / 2 ≡ n.0 = omega arith in ap (λ i. Node (record { 0 = i })) e)
+unpack_target (Leaf l) =
+    ap (λ b. cond {A = Target} b (Node (record { 0 = (l.0 * 2 + 1) / 2 })) (Leaf (record { 0 = (l.0 * 2 + 1) / 2 }))) (odd_code l.0)
+    ∙ (let e : (l.0 * 2 + 1) / 2 ≡ l.0 = omega arith in ap (λ i. Leaf (record { 0 = i })) e)
 
 pub unpack_edge : (e : Edge) → unpacked_edge (packed_edge e) ≡ e
 unpack_edge e = λ i. record { keysym = e.keysym; target = unpack_target e.target i }
@@ -59,7 +63,8 @@ rows_unpack (row ∷ rows) offset prefix e =
     let here : map unpacked_edge (take (offset + length row.edges - offset) (drop offset (prefix ++ (es ++ packed_edges rows)))) ≡ row.edges =
     ap (map unpacked_edge) (piece offset (offset + length row.edges) prefix es (packed_edges rows) e (omega arith)) ∙ unpack_edges row.edges in
     let later : unpacked_rows (packed_nodes (offset + length row.edges) rows) (prefix ++ (es ++ packed_edges rows)) ≡ rows =
-    ap (unpacked_rows (packed_nodes (offset + length row.edges) rows)) (sym (append_assoc prefix es (packed_edges rows))) ∙ rows_unpack rows (offset + length row.edges) (prefix ++ es) (let m = length-append prefix es in omega arith) in
+    ap (unpacked_rows (packed_nodes (offset + length row.edges) rows)) (sym (append_assoc prefix es (packed_edges rows)))
+    ∙ rows_unpack rows (offset + length row.edges) (prefix ++ es) (let m = length-append prefix es in omega arith) in
     two offset row rows (prefix ++ (es ++ packed_edges rows)) here later
   where
     two : (offset : ℕ) (row : NodeRow) (rows : List NodeRow) (edges : List PackedEdge) → map unpacked_edge (take (offset + length row.edges - offset) (drop offset edges)) ≡ row.edges
@@ -78,7 +83,8 @@ texts_unpack [] offset prefix e = refl
 texts_unpack (t ∷ texts) offset prefix e =
     let here : take (offset + length t - offset) (drop offset (prefix ++ (t ++ pool texts))) ≡ t = piece offset (offset + length t) prefix t (pool texts) e refl in
     let later : unpacked_texts (packed_offsets (offset + length t) texts) (prefix ++ (t ++ pool texts)) ≡ texts =
-    ap (unpacked_texts (packed_offsets (offset + length t) texts)) (sym (append_assoc prefix t (pool texts))) ∙ texts_unpack texts (offset + length t) (prefix ++ t) (let m = length-append prefix t in omega arith) in
+    ap (unpacked_texts (packed_offsets (offset + length t) texts)) (sym (append_assoc prefix t (pool texts)))
+    ∙ texts_unpack texts (offset + length t) (prefix ++ t) (let m = length-append prefix t in omega arith) in
     two offset t texts (prefix ++ (t ++ pool texts)) here later
   where
     two : (offset : ℕ) (t : List ℕ) (texts : List (List ℕ)) (bytes : List ℕ) → take (offset + length t - offset) (drop offset bytes) ≡ t

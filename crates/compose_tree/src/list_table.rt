@@ -42,7 +42,8 @@ impl Row {
     }
 
     fn push(&mut self, edge: Edge) -> Result<(), AllocError>
-        ensures ok { OnOk result (self.new ≡ record { depth = self.old.depth; edges = self.old.edges ++ edge ∷ [] }) }
+        ensures ok { OnOk result
+            (self.new ≡ record { depth = self.old.depth; edges = self.old.edges ++ edge ∷ [] }) }
     {
         self.edges.push(edge)?;
         Ok(())
@@ -69,7 +70,8 @@ impl Model for ListTable {
 
     ghost view = { λ t. t.sequences };
 
-    ghost invariant = { λ t. IsSettled t.sequences × (t.rows.items ≡ rows_of t.sequences) × (length (nodes t.sequences) ≤ max_nodes) × (length t.sequences ≤ max_definitions) };
+    ghost invariant = { λ t. IsSettled t.sequences × (t.rows.items ≡ rows_of t.sequences)
+        × (length (nodes t.sequences) ≤ max_nodes) × (length t.sequences ≤ max_definitions) };
 }
 
 /// A row without edges for each depth.
@@ -120,7 +122,9 @@ fn target_in(edges: &[Edge], keysym: Keysym) -> Option<Target>
 
 /// Where a keysym stands among a node's edges. O(edges).
 fn index_in(edges: &[Edge], keysym: Keysym) -> Option<usize>
-    ensures { MatchOption result ((k : ℕ) → k < length edges.now → slice_index (keysyms_of edges.now) k ≡ keysym → ⊥) (λ i. (i < length edges.now) × (slice_index (keysyms_of edges.now) i ≡ keysym)) }
+    ensures { MatchOption result
+        ((k : ℕ) → k < length edges.now → slice_index (keysyms_of edges.now) k ≡ keysym → ⊥)
+        (λ i. (i < length edges.now) × (slice_index (keysyms_of edges.now) i ≡ keysym)) }
 {
     for (index, edge) in edges.iter().enumerate() {
         if edge.keysym == keysym {

@@ -59,9 +59,12 @@ impl Model for PackedTable {
 
     ghost Value = { List Definition };
 
-    ghost view = { λ t. unpacked t.nodes.items t.edges.items t.offsets.items (string_bytes t.texts) };
+    ghost view = { λ t. unpacked t.nodes.items t.edges.items t.offsets.items
+        (string_bytes t.texts) };
 
-    ghost invariant = { λ t. IsPacked t.nodes.items t.edges.items t.offsets.items (string_bytes t.texts) (unpacked t.nodes.items t.edges.items t.offsets.items (string_bytes t.texts)) };
+    ghost invariant = { λ t. IsPacked t.nodes.items t.edges.items t.offsets.items
+        (string_bytes t.texts)
+        (unpacked t.nodes.items t.edges.items t.offsets.items (string_bytes t.texts)) };
 }
 
 /// The code of a target. Both kinds of target take one way, since a branch on the kind is often mispredicted.
@@ -109,7 +112,8 @@ fn pack_nodes(
 ) -> Result<Vec<PackedNode>, AllocError>
     requires at_nodes { AreAtNodes (length depths.now) edges.now }
     requires few { length edges.now < 4294967296 }
-    ensures { IfOk result (λ nodes. nodes.items ≡ packed_nodes 0 (gathered 0 depths.now edges.now)) }
+    ensures { IfOk result
+        (λ nodes. nodes.items ≡ packed_nodes 0 (gathered 0 depths.now edges.now)) }
 {
     let counts = count_edges(alloc, depths, edges)?;
     let mut nodes = Vec::with_capacity(alloc, depths.len().saturating_add(1))?;
@@ -150,7 +154,8 @@ fn pack_edges(
     requires at_nodes { AreAtNodes (length depths.now) edges.now }
     requires numbers { HaveNumbersBelow 2147483648 edges.now }
     requires nodes { nodes.now ≡ packed_nodes 0 (gathered 0 depths.now edges.now) }
-    ensures { IfOk result (λ packed. packed.items ≡ packed_edges (gathered 0 depths.now edges.now)) }
+    ensures { IfOk result
+        (λ packed. packed.items ≡ packed_edges (gathered 0 depths.now edges.now)) }
 {
     let blank = PackedEdge {
         keysym: Keysym::default(),
@@ -171,7 +176,8 @@ fn pack_edges(
 
 /// For each text its offset in the pool, and behind them the end of the pool; and the pool, all texts one behind another.
 fn pack_texts(alloc: Global, sequences: &Sequences) -> Result<(Vec<u32>, String), AllocError>
-    ensures offsets { IfOk result (λ packed. packed.0.items ≡ packed_offsets 0 (texts_of sequences.now)) }
+    ensures offsets { IfOk result
+        (λ packed. packed.0.items ≡ packed_offsets 0 (texts_of sequences.now)) }
     ensures bytes { IfOk result (λ packed. string_bytes packed.1 ≡ pool (texts_of sequences.now)) }
     ensures utf8 { IfOk result (λ _. IsTrue (list_all is_utf8 (texts_of sequences.now))) }
 {
@@ -201,7 +207,9 @@ fn at_most(keysym: Keysym, other: Keysym) -> usize
 /// Where a keysym stands among rising edges. O(log edges).
 fn index_of(edges: &[PackedEdge], keysym: Keysym) -> Option<usize>
     requires { IsStrictlyIncreasing (keys_of edges.now) }
-    ensures { MatchOption result ((k : ℕ) → k < length edges.now → slice_index (keys_of edges.now) k ≡ keysym → ⊥) (λ i. (i < length edges.now) × (slice_index (keys_of edges.now) i ≡ keysym)) }
+    ensures { MatchOption result
+        ((k : ℕ) → k < length edges.now → slice_index (keys_of edges.now) k ≡ keysym → ⊥)
+        (λ i. (i < length edges.now) × (slice_index (keys_of edges.now) i ≡ keysym)) }
 {
     let mut first = 0;
     let mut count = edges.len();
@@ -220,7 +228,9 @@ fn index_of(edges: &[PackedEdge], keysym: Keysym) -> Option<usize>
 /// Where a keysym stands among rising edges. O(1) where the hint is right, and else O(log edges).
 fn index_by_hint(edges: &[PackedEdge], keysym: Keysym, hint: usize) -> Option<usize>
     requires { IsStrictlyIncreasing (keys_of edges.now) }
-    ensures { MatchOption result ((k : ℕ) → k < length edges.now → slice_index (keys_of edges.now) k ≡ keysym → ⊥) (λ i. (i < length edges.now) × (slice_index (keys_of edges.now) i ≡ keysym)) }
+    ensures { MatchOption result
+        ((k : ℕ) → k < length edges.now → slice_index (keys_of edges.now) k ≡ keysym → ⊥)
+        (λ i. (i < length edges.now) × (slice_index (keys_of edges.now) i ≡ keysym)) }
 {
     if hint < edges.len() && edges[hint].keysym == keysym {
         return Some(hint);
@@ -237,7 +247,8 @@ fn from_arrays(
     texts: String,
     hints: Hints,
 ) -> PackedTable
-    requires { words.IsPacked nodes.items edges.items offsets.items (string_bytes texts) sequences.now }
+    requires { words.IsPacked nodes.items edges.items offsets.items
+        (string_bytes texts) sequences.now }
     ensures { result ≡ sequences.now }
 {
     // The contract alone speaks of them.
@@ -260,7 +271,8 @@ impl PackedTable {
     /// The edges of a node. O(1).
     fn edges_of(&self, node: NodeId) -> &[PackedEdge]
         requires { node.0 < length (model.nodes self.now) }
-        ensures value { result.now ≡ map packed_edge (row_of self.now (model.node self.now node.0)).edges }
+        ensures value { result.now
+            ≡ map packed_edge (row_of self.now (model.node self.now node.0)).edges }
         ensures settled { IsSettled self.now }
     {
         let number = node.0 as usize;

@@ -72,7 +72,8 @@ impl Rows {
     /// Puts a row with one edge behind the others.
     fn open(&mut self, depth: u32, edge: Edge) -> Result<(), AllocError>
         requires { length self.old < 4294967296 }
-        ensures { OnOk result (self.new ≡ self.old ++ record { depth = depth; edges = edge ∷ [] } ∷ []) }
+        ensures { OnOk result
+            (self.new ≡ self.old ++ record { depth = depth; edges = edge ∷ [] } ∷ []) }
     {
         let node = self.depths.len() as u32;
         self.depths.push(depth)?;
@@ -130,8 +131,10 @@ fn open_nodes(
     leaf: u32,
 ) -> Result<(), AllocError>
     requires few { length rows.old + length sequence.now < 2147483648 }
-    ensures rows { OnOk result (rows.new ≡ rows.old ++ new_rows (length rows.old) leaf from (drop from sequence.now)) }
-    ensures path { OnOk result (path.new.items ≡ path.old.items ++ counted (length rows.old) (drop from sequence.now)) }
+    ensures rows { OnOk result
+        (rows.new ≡ rows.old ++ new_rows (length rows.old) leaf from (drop from sequence.now)) }
+    ensures path { OnOk result
+        (path.new.items ≡ path.old.items ++ counted (length rows.old) (drop from sequence.now)) }
 {
     for depth in from..sequence.len() {
         let node = rows.len() as u32;
@@ -160,13 +163,15 @@ fn add_sequence(
     requires rows { rows.old ≡ rows_of (take index sequences.now) }
     requires path { path.old.items ≡ path_of (take index sequences.now) }
     requires sequence { sequence.now ≡ sequence_at sequences.now index }
-    requires shared { shared ≡ shared_with_last (take index sequences.now) (sequence_at sequences.now index) }
+    requires shared { shared
+        ≡ shared_with_last (take index sequences.now) (sequence_at sequences.now index) }
     requires below { shared < length sequence.now }
     requires few { length rows.old ≤ max_nodes }
     ensures rows { OnOk result (rows.new ≡ rows_of (take (index + 1) sequences.now)) }
     ensures path { OnOk result (path.new.items ≡ path_of (take (index + 1) sequences.now)) }
     ensures few { OnOk result (length rows.new ≤ max_nodes) }
-    ensures many { IfErr result (λ fault. fault ≡ BuildFault.TooManyNodes → max_nodes < length (nodes sequences.now)) }
+    ensures many { IfErr result
+        (λ fault. fault ≡ BuildFault.TooManyNodes → max_nodes < length (nodes sequences.now)) }
 {
     let _ = sequences;
     let opened = sequence.len() - (shared + 1);
@@ -189,7 +194,8 @@ pub fn build_rows(alloc: Global, sequences: &Sequences) -> Result<Rows, BuildFau
     ensures few { IfOk result (λ _. length (nodes sequences.now) ≤ max_nodes) }
     ensures leaves { length sequences.now ≤ max_definitions }
     ensures settled { IsSettled sequences.now }
-    ensures many { IfErr result (λ fault. fault ≡ BuildFault.TooManyNodes → max_nodes < length (nodes sequences.now)) }
+    ensures many { IfErr result
+        (λ fault. fault ≡ BuildFault.TooManyNodes → max_nodes < length (nodes sequences.now)) }
 {
     let count = sequences.len();
     let mut rows = Rows::root(alloc, count)?;

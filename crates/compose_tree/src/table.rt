@@ -74,7 +74,8 @@ pub trait ComposeTable: Sized + Drop {
     fn build(alloc: Global, sequences: Sequences) -> Result<Self, BuildFault>
         ensures ok { IfOk result (λ table. definitions table ≡ sequences) }
         ensures few { IfOk result (λ _. length (nodes sequences) ≤ max_nodes) }
-        ensures many { IfErr result (λ fault. fault ≡ BuildFault.TooManyNodes → max_nodes < length (nodes sequences)) };
+        ensures many { IfErr result
+            (λ fault. fault ≡ BuildFault.TooManyNodes → max_nodes < length (nodes sequences)) };
 
     /// How many nodes there are, at least 1 and at most 1,048,576. O(1).
     fn node_count(&self) -> u32
@@ -96,24 +97,40 @@ pub trait ComposeTable: Sized + Drop {
     /// How many edges the node has. O(1).
     fn edge_count(&self, node: NodeId) -> u32
         requires { node.0 < length (nodes (definitions self.now)) }
-        ensures { result ≡ length (edges (definitions self.now) (words.node (definitions self.now) node.0)) };
+        ensures { result
+            ≡ length (edges (definitions self.now) (words.node (definitions self.now) node.0)) };
 
     /// The edge at this index among the node's edges, which rise by their keysyms, and where it leads. O(1).
     fn edge(&self, node: NodeId, index: u32) -> (Keysym, Target)
         requires node_in_range { node.0 < length (nodes (definitions self.now)) }
-        requires edge_in_range { index < length (edges (definitions self.now) (words.node (definitions self.now) node.0)) }
-        ensures keysym { slice_get (edges (definitions self.now) (words.node (definitions self.now) node.0)) index ≡ Some result.0 }
-        ensures target { target_of (definitions self.now) (words.node (definitions self.now) node.0) result.0 ≡ Some result.1 };
+        requires edge_in_range { index
+            < length (edges (definitions self.now) (words.node (definitions self.now) node.0)) }
+        ensures keysym { slice_get
+            (edges (definitions self.now) (words.node (definitions self.now) node.0)) index
+            ≡ Some result.0 }
+        ensures target { target_of (definitions self.now)
+            (words.node (definitions self.now) node.0) result.0 ≡ Some result.1 };
 
     /// The index of the edge of this keysym among the node's edges, if the node has it. O(log edges of the node).
     fn find(&self, node: NodeId, keysym: Keysym) -> Option<u32>
         requires { node.0 < length (nodes (definitions self.now)) }
-        ensures { MatchOption result (target_of (definitions self.now) (words.node (definitions self.now) node.0) keysym ≡ None) (λ index. (index < length (edges (definitions self.now) (words.node (definitions self.now) node.0))) × (slice_get (edges (definitions self.now) (words.node (definitions self.now) node.0)) index ≡ Some keysym)) };
+        ensures { MatchOption result
+            (target_of (definitions self.now) (words.node (definitions self.now) node.0) keysym
+            ≡ None)
+            (λ index.
+            (index
+            < length
+            (edges (definitions self.now)
+            (words.node (definitions self.now) node.0)))
+            × (slice_get
+            (edges (definitions self.now)
+            (words.node (definitions self.now) node.0)) index ≡ Some keysym)) };
 
     /// Where the edge of this keysym leads, if the node has it. O(log edges of the node).
     fn step(&self, node: NodeId, keysym: Keysym) -> Option<Target>
         requires { node.0 < length (nodes (definitions self.now)) }
-        ensures { result ≡ target_of (definitions self.now) (words.node (definitions self.now) node.0) keysym };
+        ensures { result
+            ≡ target_of (definitions self.now) (words.node (definitions self.now) node.0) keysym };
 
     /// The text of the leaf, at most 255 bytes. O(1).
     fn text(&self, leaf: LeafId) -> &str

@@ -108,7 +108,8 @@ module _ (names : KeysymNames) (fresh : List ℕ) (old new : List Definition) wh
 
   -- ---- without a candidate the new table follows
 
-  agrees_on : ((q : List ℕ) (k : ℕ) → Candidate names fresh old new q k → ⊥) → (p w : List ℕ) → Clear names fresh old new p → avoids fresh w ≡ true → uncancelled_from old p w ≡ true → AgreeAlong names old new p (pending new p) w
+  agrees_on : ((q : List ℕ) (k : ℕ) → Candidate names fresh old new q k → ⊥) → (p w : List ℕ) → Clear names fresh old new p → avoids fresh w ≡ true → uncancelled_from old p w ≡ true
+      → AgreeAlong names old new p (pending new p) w
   agrees_on none p [] c f u = tt
   agrees_on none p (j ∷ w) c f u =
       (here, go (λ q cq uq. agrees_on none q w cq (and_parts (not (has_key fresh j)) (avoids fresh w) f).1 uq) (effect old p j) refl)
@@ -118,10 +119,12 @@ module _ (names : KeysymNames) (fresh : List ℕ) (old new : List Definition) wh
         where
           by : (o : Option Kind) → difference (step names old p j) (step names new (pending new p) j) ≡ o → Agrees (step names old p j) (step names new (pending new p) j)
           by None e = agreement (step names old p j) (step names new (pending new p) j) e
-          by (Some kind) e = absurd (none p j (candidate_at names fresh old new p j kind c (not-true (has_key fresh j) (and_parts (not (has_key fresh j)) (avoids fresh w) f).0) (uncancelled_head old p j w u) e))
+          by (Some kind) e =
+              absurd (none p j (candidate_at names fresh old new p j kind c (not-true (has_key fresh j) (and_parts (not (has_key fresh j)) (avoids fresh w) f).0) (uncancelled_head old p j w u) e))
 
       from : ((q : List ℕ) → Clear names fresh old new q → uncancelled_from old q w ≡ true → AgreeAlong names old new q (pending new q) w)
-          → (q : List ℕ) → pending_after old p j ≡ q → pending_after new (pending new p) j ≡ pending new q → Clear names fresh old new q → AgreeAlong names old new (pending_after old p j) (pending_after new (pending new p) j) w
+          → (q : List ℕ) → pending_after old p j ≡ q → pending_after new (pending new p) j ≡ pending new q → Clear names fresh old new q
+          → AgreeAlong names old new (pending_after old p j) (pending_after new (pending new p) j) w
       from again q eo en cq =
           subst (λ (y : List ℕ). AgreeAlong names old new y (pending_after new (pending new p) j) w) (sym eo)
           (subst (λ (y : List ℕ). AgreeAlong names old new q y w) (sym en) (again q cq (subst (λ (y : List ℕ). uncancelled_from old y w ≡ true) eo (uncancelled_rest old p j w u))))
@@ -162,7 +165,8 @@ module _ (names : KeysymNames) (fresh : List ℕ) (old new : List Definition) wh
         by (inr s) = let told = (effect_tells old p k cancels e).3 in let clash : true ≡ false = sym (ap is_empty s.0) ∙ told in cc
 
     -- a candidate is a counterexample
-    pub candidate_shows : (p : List ℕ) (k : ℕ) (kind : Kind) → Candidate names fresh old new p k → difference_at names old new p k ≡ Some kind → Shows names fresh old new (evidence names old new p k kind)
+    pub candidate_shows : (p : List ℕ) (k : ℕ) (kind : Kind) → Candidate names fresh old new p k → difference_at names old new p k ≡ Some kind
+        → Shows names fresh old new (evidence names old new p k kind)
     candidate_shows p k kind c d =
         let r = c.clear.reached in
         let at : pending old p ≡ p = r.again in
@@ -181,11 +185,13 @@ module _ (names : KeysymNames) (fresh : List ℕ) (old new : List Definition) wh
         }
 
     -- without detours
-    pub candidate_is : (p : List ℕ) (k : ℕ) (kind : Kind) → Candidate names fresh old new p k → difference_at names old new p k ≡ Some kind → IsDifference names fresh old new (evidence names old new p k kind)
+    pub candidate_is : (p : List ℕ) (k : ℕ) (kind : Kind) → Candidate names fresh old new p k → difference_at names old new p k ≡ Some kind
+        → IsDifference names fresh old new (evidence names old new p k kind)
     candidate_is p k kind c d = record {
       shows = candidate_shows p k kind c d;
       none_ignored =
-          list_all-append (λ j. not (is_ignored j)) p (k ∷ []) ∙ and_from (list_all (λ j. not (is_ignored j)) p) (list_all (λ j. not (is_ignored j)) (k ∷ [])) (node_fed old p t_old c.clear.reached.node)
+          list_all-append (λ j. not (is_ignored j)) p (k ∷ [])
+          ∙ and_from (list_all (λ j. not (is_ignored j)) p) (list_all (λ j. not (is_ignored j)) (k ∷ [])) (node_fed old p t_old c.clear.reached.node)
           (and_from (not (is_ignored k)) true (not_from_false (is_ignored k) (candidate_fed p k c)) refl);
       never_rests = λ v w e nv nw rests.
           (let r = prefix_of v w p k e nw in
@@ -194,7 +200,8 @@ module _ (names : KeysymNames) (fresh : List ℕ) (old new : List Definition) wh
     }
 
   -- and each difference is one
-  reached_on : (x : Evidence) → IsDifference names fresh old new x → (v w : List ℕ) (k : ℕ) → x.keys ≡ v ++ w ++ k ∷ [] → IsReached old v → uncancelled_from old v (w ++ k ∷ []) ≡ true → IsReached old (v ++ w)
+  reached_on : (x : Evidence) → IsDifference names fresh old new x → (v w : List ℕ) (k : ℕ) → x.keys ≡ v ++ w ++ k ∷ [] → IsReached old v → uncancelled_from old v (w ++ k ∷ []) ≡ true
+      → IsReached old (v ++ w)
   reached_on x d v [] k e r u = subst (λ (y : List ℕ). IsReached old y) (sym (append-nil v)) r
   reached_on x d v (j ∷ w) k e r u = go (λ rr uu. reached_on x d (v ++ j ∷ []) w k (e ∙ ap (λ y. y ++ k ∷ []) (sym (append_assoc v (j ∷ []) w))) rr uu) (effect old v j) refl
     where
@@ -216,11 +223,14 @@ module _ (names : KeysymNames) (fresh : List ℕ) (old new : List Definition) wh
       go again ignores h = absurd (
           let told = effect_tells old v j ignores h in
           let all : list_all (λ i. not (is_ignored i)) (v ++ ((j ∷ w) ++ k ∷ [])) ≡ true = ap (list_all (λ i. not (is_ignored i))) (sym (append_assoc v (j ∷ w) (k ∷ [])) ∙ sym e) ∙ d.none_ignored in
-          let behind = and_parts (list_all (λ i. not (is_ignored i)) v) (list_all (λ i. not (is_ignored i)) ((j ∷ w) ++ k ∷ [])) (sym (list_all-append (λ i. not (is_ignored i)) v ((j ∷ w) ++ k ∷ [])) ∙ all) in
+          let behind =
+          and_parts (list_all (λ i. not (is_ignored i)) v) (list_all (λ i. not (is_ignored i)) ((j ∷ w) ++ k ∷ []))
+          (sym (list_all-append (λ i. not (is_ignored i)) v ((j ∷ w) ++ k ∷ [])) ∙ all) in
           let head = not-true (is_ignored j) (and_parts (not (is_ignored j)) (list_all (λ i. not (is_ignored i)) (w ++ k ∷ [])) behind.1).0 in
           let clash : true ≡ false = sym told ∙ head in cc)
       go again extends h =
-          let uu : uncancelled_from old (v ++ j ∷ []) (w ++ k ∷ []) ≡ true = subst (λ (y : List ℕ). uncancelled_from old y (w ++ k ∷ []) ≡ true) (ap (λ z. pending_by z v j) h) (uncancelled_rest old v j (w ++ k ∷ []) u) in
+          let uu : uncancelled_from old (v ++ j ∷ []) (w ++ k ∷ []) ≡ true =
+          subst (λ (y : List ℕ). uncancelled_from old y (w ++ k ∷ []) ≡ true) (ap (λ z. pending_by z v j) h) (uncancelled_rest old v j (w ++ k ∷ []) u) in
           subst (λ (y : List ℕ). IsReached old y) (append_assoc v (j ∷ []) w) (again (reached_more old v j r h) uu)
       go again completes h = absurd (rest completes h refl)
       go again passes h = absurd (rest passes h refl)

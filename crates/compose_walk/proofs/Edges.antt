@@ -29,7 +29,8 @@ taken_more (y ∷ ys) (suc i) x h = rw add-one (ap (λ zs. y ∷ zs) (sym (rw ad
 
 module _ (names : KeysymNames) (old new : List Definition) (sound : is_table old ≡ true) (i j index k : ℕ) (t : Target)
     (in_range : i < length (nodes old)) (new_in_range : j < length (nodes new)) (at : slice_get (edges old (node old i)) index ≡ Some k) (to : target_of old (node old i) k ≡ Some t)
-    (agree : agrees names old new (node old i) ≡ true) (together : node new j ≡ pending new (node old i)) (before : List (Option Stand)) (stood : before ≡ stands_at names old new i (take index (edges old (node old i))))
+    (agree : agrees names old new (node old i) ≡ true) (together : node new j ≡ pending new (node old i)) (before : List (Option Stand))
+    (stood : before ≡ stands_at names old new i (take index (edges old (node old i))))
     (a b : KeyStep) (old_step : IsStep names old (node old i) k a) (new_step : IsStep names new (node new j) k b) where
   here : is_node old (node old i) ≡ true
   here = node_is_node old i in_range
@@ -80,7 +81,8 @@ module _ (names : KeysymNames) (old new : List Definition) (sound : is_table old
   same_key m h = let e : Some k ≡ Some m = sym at ∙ h in cc
 
   -- the key is found where the tables differ, and not where they agree
-  pub found_if_differs : is_some (difference_of a b) ≡ true → (xs : List Found) (f : Found) → f.depth ≡ length (node old i) → f.node ≡ i → f.keysym ≡ k → (m : ℕ) → slice_get (edges old (node old i)) index ≡ Some m
+  pub found_if_differs : is_some (difference_of a b) ≡ true → (xs : List Found) (f : Found) → f.depth ≡ length (node old i) → f.node ≡ i → f.keysym ≡ k → (m : ℕ)
+      → slice_get (edges old (node old i)) index ≡ Some m
       → xs ++ f ∷ [] ≡ xs ++ map (found_at old (node old i)) (filter (differs_at names old new (node old i)) (m ∷ []))
   found_if_differs d xs f ed en ek m h =
       ap (λ g. xs ++ g ∷ []) is_found
@@ -90,7 +92,8 @@ module _ (names : KeysymNames) (old new : List Definition) (sound : is_table old
       is_found : f ≡ found_at old (node old i) k
       is_found z = record { depth = ed z; node = (en ∙ sym (number_at_node old i in_range)) z; keysym = ek z }
 
-  pub found_unless_differs : is_some (difference_of a b) ≡ false → (xs : List Found) (m : ℕ) → slice_get (edges old (node old i)) index ≡ Some m → xs ≡ xs ++ map (found_at old (node old i)) (filter (differs_at names old new (node old i)) (m ∷ []))
+  pub found_unless_differs : is_some (difference_of a b) ≡ false → (xs : List Found) (m : ℕ) → slice_get (edges old (node old i)) index ≡ Some m
+      → xs ≡ xs ++ map (found_at old (node old i)) (filter (differs_at names old new (node old i)) (m ∷ []))
   found_unless_differs d xs m h =
       sym (append-nil xs) ∙ ap (λ c. xs ++ map (found_at old (node old i)) (cond c (k ∷ []) [])) (sym (sym differ ∙ d))
       ∙ ap (λ y. xs ++ map (found_at old (node old i)) (filter (differs_at names old new (node old i)) (y ∷ []))) (same_key m h)

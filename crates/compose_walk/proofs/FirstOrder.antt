@@ -12,7 +12,8 @@ pub first_by_length : (v w : List ℕ) → length v < length w → comes_first v
 first_by_length v w h = or_left (nat_lt (length v) (length w)) (length v == length w && comes_before v w) (lt-ltb (length v) (length w) h)
 
 pub first_by_order : (v w : List ℕ) → length v ≡ length w → slice_cmp nat_cmp v w ≡ Less → comes_first v w ≡ true
-first_by_order v w e h = or_right (nat_lt (length v) (length w)) (length v == length w && comes_before v w) (and_from (length v == length w) (comes_before v w) (eq-eqb (length v) (length w) e) (ap is_lt h))
+first_by_order v w e h =
+    or_right (nat_lt (length v) (length w)) (length v == length w && comes_before v w) (and_from (length v == length w) (comes_before v w) (eq-eqb (length v) (length w) e) (ap is_lt h))
 
 less_is : (o : Ordering) → is_lt o ≡ true → o ≡ Less
 less_is Less h = refl

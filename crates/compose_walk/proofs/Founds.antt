@@ -37,8 +37,11 @@ none_of (Some x) h = cc
 pub along_of : (names : KeysymNames) (old new : List Definition) (u v w : List ℕ) → agrees_from names old new u v w ≡ true → AgreeAlong names old new u v w
 along_of names old new u v [] h = tt
 along_of names old new u v (k ∷ w) h =
-    let parts = and_parts (not (is_some (difference (step names old u k) (step names new v k)))) (agrees_from names old new (pending_after old u k) (pending_after new v k) w) h in
-    (agreement (step names old u k) (step names new v k) (none_of (difference (step names old u k) (step names new v k)) parts.0), along_of names old new (pending_after old u k) (pending_after new v k) w parts.1)
+    let parts = and_parts (not (is_some (difference (step names old u k) (step names new v k)))) (agrees_from names old new (pending_after old u k) (pending_after new v k) w) h in (
+      agreement (step names old u k) (step names new v k) (none_of (difference (step names old u k) (step names new v k)) parts.0),
+      along_of names old new (pending_after old u k)
+          (pending_after new v k) w parts.1,
+    )
 
 pub agrees_of : (names : KeysymNames) (old new : List Definition) (u v w : List ℕ) → AgreeAlong names old new u v w → agrees_from names old new u v w ≡ true
 agrees_of names old new u v [] a = refl
@@ -98,7 +101,8 @@ all_filtered P f q (x ∷ xs) h = go (q x) refl (all_filtered P f q xs (λ k m n
 
 pub all_flat : {Y : Type 0} (P : Y → Type 0) (f : List ℕ → List Y) (ps : List (List ℕ)) → ((p : List ℕ) → list_any (same p) ps ≡ true → AllByRecursion P (f p)) → AllByRecursion P (flat_map f ps)
 all_flat P f [] h = tt
-all_flat P f (p ∷ ps) h = all_append P (f p) (flat_map f ps) (h p (or_left (same p p) (list_any (same p) ps) (same_from p p refl))) (all_flat P f ps (λ q m. h q (or_right (same q p) (list_any (same q) ps) m)))
+all_flat P f (p ∷ ps) h =
+    all_append P (f p) (flat_map f ps) (h p (or_left (same p p) (list_any (same p) ps) (same_from p p refl))) (all_flat P f ps (λ q m. h q (or_right (same q p) (list_any (same q) ps) m)))
 
 pub all_index : {X : Type 0} (P : X → Type 0) (xs : List X) (i : ℕ) (x : X) → AllByRecursion P xs → i < length xs → x ≡ get_or xs i x → P x
 all_index P [] i x a h e = absurd (omega arith)
@@ -114,7 +118,8 @@ less_behind [] (k ∷ q) x y e h = absurd (omega arith)
 less_behind (j ∷ p) [] x y e h = absurd (omega arith)
 less_behind (j ∷ p) (k ∷ q) x y e h = go (nat_cmp j k) h (λ i. less_behind p q x y (omega arith) i)
   where
-    go : (o : Ordering) → ordering_then o (slice_cmp nat_cmp p q) ≡ Less → (slice_cmp nat_cmp p q ≡ Less → slice_cmp nat_cmp (p ++ x) (q ++ y) ≡ Less) → ordering_then o (slice_cmp nat_cmp (p ++ x) (q ++ y)) ≡ Less
+    go : (o : Ordering) → ordering_then o (slice_cmp nat_cmp p q) ≡ Less → (slice_cmp nat_cmp p q ≡ Less → slice_cmp nat_cmp (p ++ x) (q ++ y) ≡ Less)
+        → ordering_then o (slice_cmp nat_cmp (p ++ x) (q ++ y)) ≡ Less
     go Less i later = refl
     go Equal i later = later i
     go Greater i later = cc
@@ -127,7 +132,8 @@ first_shorter : (s t : List ℕ) → length s < length t → comes_first s t ≡
 first_shorter s t h = or_left (nat_lt (length s) (length t)) (length s == length t && comes_before s t) (lt-ltb (length s) (length t) h)
 
 first_before : (s t : List ℕ) → length s ≡ length t → slice_cmp nat_cmp s t ≡ Less → comes_first s t ≡ true
-first_before s t e h = or_right (nat_lt (length s) (length t)) (length s == length t && comes_before s t) (and_from (length s == length t) (comes_before s t) (eq-eqb (length s) (length t) e) (ap is_lt h))
+first_before s t e h =
+    or_right (nat_lt (length s) (length t)) (length s == length t && comes_before s t) (and_from (length s == length t) (comes_before s t) (eq-eqb (length s) (length t) e) (ap is_lt h))
 
 -- what does not come sooner comes later, or has the same keys
 pub in_order : (table : List Definition) (p q : List ℕ) (k j : ℕ) → is_node table p ≡ true → is_node table q ≡ true → comes_sooner (found_at table q j) (found_at table p k) ≡ false
@@ -146,7 +152,8 @@ in_order table p q k j hp hq n = by (length q == length p) refl n
       | inr l ↦ inl (let m1 = ltb-false j k m in let ks : k ≡ j = omega arith in ap₂ (λ r i. r ++ i ∷ []) is ks)
     ]
 
-    nodes_of : length q ≡ length p → (o : Ordering) → slice_cmp nat_cmp p q ≡ o → (c : Bool) → number_of table q == number_of table p ≡ c → cond c (nat_lt j k) (nat_lt (number_of table q) (number_of table p)) ≡ false
+    nodes_of : length q ≡ length p → (o : Ordering) → slice_cmp nat_cmp p q ≡ o → (c : Bool) → number_of table q == number_of table p ≡ c
+        → cond c (nat_lt j k) (nat_lt (number_of table q) (number_of table p)) ≡ false
         → (p ++ k ∷ [] ≡ q ++ j ∷ []) ⊎ (comes_first (p ++ k ∷ []) (q ++ j ∷ []) ≡ true)
     nodes_of e Less eo c ec m = inr (first_before (p ++ k ∷ []) (q ++ j ∷ []) (let l1 = a in let l2 = b in omega arith) (less_behind p q (k ∷ []) (j ∷ []) (sym e) eo))
     nodes_of e Equal eo true ec m = keys e (exact_bytes p q eo) m
@@ -158,7 +165,8 @@ in_order table p q k j hp hq n = by (length q == length p) refl n
         let at : nat_lt (number_of table q) (number_of table p) ≡ false = ap (λ d. cond d (nat_lt j k) (nat_lt (number_of table q) (number_of table p))) (sym (sym ec ∙ other)) ∙ m in
         let clash : true ≡ false = sym (lt-ltb (number_of table q) (number_of table p) less) ∙ at in cc)
 
-    by : (c : Bool) → length q == length p ≡ c → cond c (cond (number_of table q == number_of table p) (nat_lt j k) (nat_lt (number_of table q) (number_of table p))) (nat_lt (length q) (length p)) ≡ false
+    by : (c : Bool) → length q == length p ≡ c
+        → cond c (cond (number_of table q == number_of table p) (nat_lt j k) (nat_lt (number_of table q) (number_of table p))) (nat_lt (length q) (length p)) ≡ false
         → (p ++ k ∷ [] ≡ q ++ j ∷ []) ⊎ (comes_first (p ++ k ∷ []) (q ++ j ∷ []) ≡ true)
     by true e m = nodes_of (eqb-true (length q) (length p) e) (slice_cmp nat_cmp p q) refl (number_of table q == number_of table p) refl m
     by false e m = inr (first_shorter (p ++ k ∷ []) (q ++ j ∷ []) (
@@ -209,12 +217,15 @@ module _ (names : KeysymNames) (fresh : List ℕ) (old new : List Definition) (t
       }))
 
   pub all_are_found : AllByRecursion IsFound (all_found names fresh old new (nodes old))
-  all_are_found = all_append IsFound (map (found_at old []) (differing_starts names fresh old new)) (flat_map (found_behind names old new) (nodes old)) found_starts (all_flat IsFound (found_behind names old new) (nodes old) found_behind_node)
+  all_are_found =
+      all_append IsFound (map (found_at old []) (differing_starts names fresh old new)) (flat_map (found_behind names old new) (nodes old)) found_starts
+      (all_flat IsFound (found_behind names old new) (nodes old) found_behind_node)
 
   pub has_candidate : (p : List ℕ) (k : ℕ) → Candidate names fresh old new p k → Has (found_at old p k) (all_found names fresh old new (nodes old))
   has_candidate p k c = by c.key
     where
-      by : (has_edge old p k ≡ true) ⊎ ((p ≡ []) × (has_edge old [] k ≡ false) × (has_edge new [] k ≡ true) × (has_key fresh k ≡ false)) → Has (found_at old p k) (all_found names fresh old new (nodes old))
+      by : (has_edge old p k ≡ true) ⊎ ((p ≡ []) × (has_edge old [] k ≡ false) × (has_edge new [] k ≡ true) × (has_key fresh k ≡ false))
+          → Has (found_at old p k) (all_found names fresh old new (nodes old))
       by (inl e) =
           has_right (found_at old p k) (map (found_at old []) (differing_starts names fresh old new)) (flat_map (found_behind names old new) (nodes old))
           (has_flat (found_behind names old new) (found_at old p k) p (nodes old) c.clear.reached.node
@@ -245,7 +256,8 @@ module _ (names : KeysymNames) (fresh : List ℕ) (old new : List Definition) (t
   some_of (Some kind) h = (kind, refl)
 
   -- the evidence of one that was found is that of its candidate
-  pub evidence_of : (f : Found) (h : IsFound f) (x : Evidence) → ((kind : Kind) → difference_at names old new (node old f.node) f.keysym ≡ Some kind → x ≡ evidence names old new (node old f.node) f.keysym kind)
+  pub evidence_of : (f : Found) (h : IsFound f) (x : Evidence)
+      → ((kind : Kind) → difference_at names old new (node old f.node) f.keysym ≡ Some kind → x ≡ evidence names old new (node old f.node) f.keysym kind)
       → (kind : Kind) × (difference_at names old new h.before h.key ≡ Some kind) × (x ≡ evidence names old new h.before h.key kind)
   evidence_of f h x e =
       let at : node old f.node ≡ h.before = ap (node old) (ap (λ (g : Found). g.node) h.is) ∙ node_at_number old h.before h.candidate.clear.reached.node in
@@ -254,15 +266,18 @@ module _ (names : KeysymNames) (fresh : List ℕ) (old new : List Definition) (t
       (kind.0, kind.1, e kind.0 (ap₂ (difference_at names old new) at key ∙ kind.1) ∙ ap₂ (λ p k. evidence names old new p k kind.0) at key)
 
   -- the evidence of the first one is the least
-  pub first_is_least : (b : ℕ) (f : Found) → IsFirstBest comes_sooner (all_found names fresh old new (nodes old)) (length (all_found names fresh old new (nodes old))) b → f ≡ get_or (all_found names fresh old new (nodes old)) b f
+  pub first_is_least : (b : ℕ) (f : Found) → IsFirstBest comes_sooner (all_found names fresh old new (nodes old)) (length (all_found names fresh old new (nodes old))) b
+      → f ≡ get_or (all_found names fresh old new (nodes old)) b f
       → (h : IsFound f) (x : Evidence) → ((kind : Kind) → difference_at names old new (node old f.node) f.keysym ≡ Some kind → x ≡ evidence names old new (node old f.node) f.keysym kind)
       → (Follows names fresh old new → ⊥) × IsLeast names fresh old new x
   first_is_least b f best at h x e =
       let told = evidence_of f h x e in
-      let shown : Shows names fresh old new x = subst (λ (y : Evidence). Shows names fresh old new y) (sym told.2) (candidate_shows names fresh old new t_old t_new are h.before h.key told.0 h.candidate told.1) in
+      let shown : Shows names fresh old new x =
+      subst (λ (y : Evidence). Shows names fresh old new y) (sym told.2) (candidate_shows names fresh old new t_old t_new are h.before h.key told.0 h.candidate told.1) in
       (refutes names fresh old new x.keys x.kind x.old_text x.new_text shown, least_from names fresh old new x shown (λ q j c. first told.2 q j c))
     where
-      first : {kind : Kind} → x ≡ evidence names old new h.before h.key kind → (q : List ℕ) (j : ℕ) → Candidate names fresh old new q j → (x.keys ≡ q ++ j ∷ []) ⊎ (comes_first x.keys (q ++ j ∷ []) ≡ true)
+      first : {kind : Kind} → x ≡ evidence names old new h.before h.key kind → (q : List ℕ) (j : ℕ) → Candidate names fresh old new q j
+          → (x.keys ≡ q ++ j ∷ []) ⊎ (comes_first x.keys (q ++ j ∷ []) ≡ true)
       first is q j c =
           let i = has_index (found_at old q j) (all_found names fresh old new (nodes old)) (has_candidate q j c) in
           let later : comes_sooner (found_at old q j) (found_at old h.before h.key) ≡ false =
@@ -278,7 +293,8 @@ module _ (names : KeysymNames) (fresh : List ℕ) (old new : List Definition) (t
   follows_if_none : all_found names fresh old new (nodes old) ≡ [] → Follows names fresh old new
   follows_if_none e = follows_without names fresh old new (λ q j c. subst (λ (xs : List Found). Has (found_at old q j) xs) e (has_candidate q j c))
 
-  stands_paired : (f : Follows names fresh old new) (n : ℕ) (xs : List (List ℕ)) → ((i : ℕ) → i < length xs → number_of old (get_or xs i []) ≡ n + i) → ((p : List ℕ) → list_any (same p) xs ≡ true → agrees names old new p ≡ true)
+  stands_paired : (f : Follows names fresh old new) (n : ℕ) (xs : List (List ℕ)) → ((i : ℕ) → i < length xs → number_of old (get_or xs i []) ≡ n + i)
+      → ((p : List ℕ) → list_any (same p) xs ≡ true → agrees names old new p ≡ true)
       → stand_pairs n (map (stand names old new) xs) ≡ map (λ p. (number_of old p, number_of new (pending new p))) xs
   stands_paired f n [] at all = refl
   stands_paired f n (x ∷ xs) at all =
@@ -287,7 +303,9 @@ module _ (names : KeysymNames) (fresh : List ℕ) (old new : List Definition) (t
       go (agrees names old new x) (all x (or_left (same x x) (list_any (same x) xs) (same_from x x refl))) number later
     where
       go : (b : Bool) → b ≡ true → n ≡ number_of old x → stand_pairs (n + 1) (map (stand names old new) xs) ≡ map (λ p. (number_of old p, number_of new (pending new p))) xs
-          → stand_pairs n (cond b (Some (record { new_node = record { 0 = number_of new (pending new x) }; parent = record { 0 = number_of old (without_last x) }; keysym = last_key x })) None ∷ map (stand names old new) xs)
+          → stand_pairs n
+          (cond b (Some (record { new_node = record { 0 = number_of new (pending new x) }; parent = record { 0 = number_of old (without_last x) }; keysym = last_key x })) None
+          ∷ map (stand names old new) xs)
           ≡ (number_of old x, number_of new (pending new x)) ∷ map (λ p. (number_of old p, number_of new (pending new p))) xs
       go true e number later = ap₂ (λ m ps. (m, number_of new (pending new x)) ∷ ps) number later
       go false e number later = cc
@@ -305,7 +323,9 @@ module _ (names : KeysymNames) (fresh : List ℕ) (old new : List Definition) (t
       }
 
   -- the one that is chosen of what the pass found
-  pub chosen_found : (found ys : List Found) → found ≡ all_found names fresh old new (nodes old) → ys ≡ found → (b : ℕ) → IsFirstBest comes_sooner ys (length ys) b → (f : Found) → f ≡ get_or found b f → IsFound f
+  pub chosen_found : (found ys : List Found) → found ≡ all_found names fresh old new (nodes old) → ys ≡ found → (b : ℕ) → IsFirstBest comes_sooner ys (length ys) b → (f : Found) → f ≡ get_or found b f
+      → IsFound f
   chosen_found found ys e y b best f at =
-      let below : b < length (all_found names fresh old new (nodes old)) = (let l = best.0 in let n : length ys ≡ length (all_found names fresh old new (nodes old)) = ap length (y ∙ e) in omega arith) in
+      let below : b < length (all_found names fresh old new (nodes old)) =
+      (let l = best.0 in let n : length ys ≡ length (all_found names fresh old new (nodes old)) = ap length (y ∙ e) in omega arith) in
       all_index IsFound (all_found names fresh old new (nodes old)) b f all_are_found below (at ∙ ap (λ xs. get_or xs b f) e)

@@ -66,7 +66,8 @@ prefix_less : (p : List ℕ) (k : ℕ) → slice_cmp nat_cmp p (p ++ k ∷ []) �
 prefix_less [] k = refl
 prefix_less (x ∷ p) k = ap (λ o. ordering_then o (slice_cmp nat_cmp p (p ++ k ∷ []))) (tied_itself nat_cmp_total x) ∙ prefix_less p k
 
-index_below : (x y : List ℕ) (xs : List (List ℕ)) → IsStrictlySortedBy (slice_cmp nat_cmp) xs → list_any (same x) xs ≡ true → list_any (same y) xs ≡ true → slice_cmp nat_cmp x y ≡ Less → position_or_len (same x) xs < position_or_len (same y) xs
+index_below : (x y : List ℕ) (xs : List (List ℕ)) → IsStrictlySortedBy (slice_cmp nat_cmp) xs → list_any (same x) xs ≡ true → list_any (same y) xs ≡ true → slice_cmp nat_cmp x y ≡ Less
+    → position_or_len (same x) xs < position_or_len (same y) xs
 unfolding IsStrictlySortedBy
 index_below x y [] s hx hy l = cc
 index_below x y (z ∷ zs) s hx hy l = go (same x z) refl (same y z) refl hx hy (λ a b. index_below x y zs s.1 a b l)
@@ -114,7 +115,8 @@ unfolding IsStrictlySortedBy
 set_index f h q [] s i e = cc
 set_index f h q (x ∷ xs) s i e = go (same q x) refl i (λ j. set_index f h q xs s.1 j (λ r m n. e r (or_right (same r x) (list_any (same r) xs) m) n))
   where
-    tail_of : same q x ≡ true → (ws : List (List ℕ)) → AllByRecursion (λ y. slice_cmp nat_cmp x y ≡ Less) ws → ((r : List ℕ) → list_any (same r) ws ≡ true → list_any (same r) (x ∷ xs) ≡ true) → map f ws ≡ map h ws
+    tail_of : same q x ≡ true → (ws : List (List ℕ)) → AllByRecursion (λ y. slice_cmp nat_cmp x y ≡ Less) ws → ((r : List ℕ) → list_any (same r) ws ≡ true → list_any (same r) (x ∷ xs) ≡ true)
+        → map f ws ≡ map h ws
     tail_of at [] a inside = refl
     tail_of at (w ∷ ws) a inside =
         let here = inside w (or_left (same w w) (list_any (same w) ws) (same_from w w refl)) in

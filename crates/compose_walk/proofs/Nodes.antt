@@ -78,7 +78,8 @@ module _ (names : KeysymNames) (old new : List Definition) (sound : is_table old
   node_done i h = on_nodes old _ _ (λ q hq. ap (λ b. cond b (stand names old new q) None) (at q hq (is_empty q) refl))
     where
       at : (q : List ℕ) → is_node old q ≡ true → (e : Bool) → is_empty q ≡ e
-          → e || (nat_lt (number_of old (without_last q)) i || (number_of old (without_last q) == i && has_key (edges old (node old i)) (last_key q))) ≡ e || (nat_lt (number_of old (without_last q)) (i + 1) || (number_of old (without_last q) == (i + 1) && false))
+          → e || (nat_lt (number_of old (without_last q)) i || (number_of old (without_last q) == i && has_key (edges old (node old i)) (last_key q))) ≡ e
+          || (nat_lt (number_of old (without_last q)) (i + 1) || (number_of old (without_last q) == (i + 1) && false))
       at q hq true e = refl
       at q hq false e = tests_move (number_of old (without_last q)) i (has_key (edges old (node old i)) (last_key q))
           (λ m. edge_listed old (node old i) (last_key q) (ap (λ p. has_edge old p (last_key q)) (sym (prefix_is i q h hq m)) ∙ behind_prefix old q hq e))
@@ -98,15 +99,18 @@ module _ (names : KeysymNames) (old new : List Definition) (sound : is_table old
       at q hq false e true em =
           let d : agrees names old new q ≡ false =
           ap (agrees names old new) (pushed q e) ∙ agrees_push names old new sound (without_last q) (last_key q) (prefix_node old q hq)
-          ∙ ap (λ p. agrees names old new p && not (differs_at names old new (without_last q) (last_key q))) (prefix_is i q h hq em) ∙ ap (λ b. b && not (differs_at names old new (without_last q) (last_key q))) dark in
+          ∙ ap (λ p. agrees names old new p && not (differs_at names old new (without_last q) (last_key q))) (prefix_is i q h hq em)
+          ∙ ap (λ b. b && not (differs_at names old new (without_last q) (last_key q))) dark in
           none q d (is_done old i [] q) ∙ sym (none q d (is_done old (i + 1) [] q))
-      at q hq false e false em = ap (λ b. cond (is_empty q || b) (stand names old new q) None) (tests_move (number_of old (without_last q)) i false (λ x. (let clash : true ≡ false = sym x ∙ em in cc)))
+      at q hq false e false em =
+          ap (λ b. cond (is_empty q || b) (stand names old new q) None) (tests_move (number_of old (without_last q)) i false (λ x. (let clash : true ≡ false = sym x ∙ em in cc)))
 
   -- after the last node each has its stand
   pub nodes_done : stands_at names old new (length (nodes old)) [] ≡ map (stand names old new) (nodes old)
   nodes_done = on_nodes old _ _ (λ q hq. ap (λ b. cond b (stand names old new q) None)
       (or_right (is_empty q) (nat_lt (number_of old (without_last q)) (length (nodes old)) || (number_of old (without_last q) == length (nodes old) && false))
-      (or_left (nat_lt (number_of old (without_last q)) (length (nodes old))) (number_of old (without_last q) == length (nodes old) && false) (lt-ltb (number_of old (without_last q)) (length (nodes old)) (number_below old (without_last q) (prefix_node old q hq))))))
+      (or_left (nat_lt (number_of old (without_last q)) (length (nodes old))) (number_of old (without_last q) == length (nodes old) && false)
+      (lt-ltb (number_of old (without_last q)) (length (nodes old)) (number_below old (without_last q) (prefix_node old q hq))))))
 
   -- before the first one the root alone has its stand
   pub nodes_begun : (s : Stand) → s.new_node.0 ≡ 0 → s.parent.0 ≡ 0 → s.keysym ≡ 0 → set (replicate (length (nodes old)) None) 0 (Some s) ≡ stands_at names old new 0 []
@@ -129,7 +133,8 @@ module _ (names : KeysymNames) (old new : List Definition) (sound : is_table old
 
   -- what stands with a node is there when the node comes
   pub stand_there : (i : ℕ) → i < length (nodes old) → get_or (stands_at names old new i []) i None ≡ stand names old new (node old i)
-  stand_there i h = get_or-map (λ q. cond (is_done old i [] q) (stand names old new q) None) (nodes old) i [] None h ∙ ap (λ b. cond b (stand names old new (node old i)) None) (done (is_empty (node old i)) refl)
+  stand_there i h =
+      get_or-map (λ q. cond (is_done old i [] q) (stand names old new q) None) (nodes old) i [] None h ∙ ap (λ b. cond b (stand names old new (node old i)) None) (done (is_empty (node old i)) refl)
     where
       done : (e : Bool) → is_empty (node old i) ≡ e → is_done old i [] (node old i) ≡ true
       done true e = or_left (is_empty (node old i)) (nat_lt (number_of old (without_last (node old i))) i || (number_of old (without_last (node old i)) == i && false)) e
@@ -138,7 +143,8 @@ module _ (names : KeysymNames) (old new : List Definition) (sound : is_table old
           let before = parent_before old (without_last (node old i)) (last_key (node old i)) (prefix_node old (node old i) here) (ap (is_node old) (sym (pushed (node old i) e)) ∙ here) in
           let at : number_of old (without_last (node old i) ++ last_key (node old i) ∷ []) ≡ i = ap (number_of old) (sym (pushed (node old i) e)) ∙ number_at_node old i h in
           or_right (is_empty (node old i)) (nat_lt (number_of old (without_last (node old i))) i || (number_of old (without_last (node old i)) == i && false))
-          (or_left (nat_lt (number_of old (without_last (node old i))) i) (number_of old (without_last (node old i)) == i && false) (lt-ltb (number_of old (without_last (node old i))) i (omega arith)))
+          (or_left (nat_lt (number_of old (without_last (node old i))) i) (number_of old (without_last (node old i)) == i && false)
+          (lt-ltb (number_of old (without_last (node old i))) i (omega arith)))
 
   -- what a stand says of its node
   pub record Standing (p : List ℕ) (s : Stand) : Type 0 where
@@ -155,7 +161,8 @@ module _ (names : KeysymNames) (old new : List Definition) (sound : is_table old
       pending_node : is_node new (pending new p) ≡ true
       pending_node = pending_is_node new [] p (root_is_node new)
 
-      go : (b : Bool) → agrees names old new p ≡ b → cond b (Some (record { new_node = record { 0 = number_of new (pending new p) }; parent = record { 0 = number_of old (without_last p) }; keysym = last_key p })) None ≡ Some s → Standing p s
+      go : (b : Bool) → agrees names old new p ≡ b
+          → cond b (Some (record { new_node = record { 0 = number_of new (pending new p) }; parent = record { 0 = number_of old (without_last p) }; keysym = last_key p })) None ≡ Some s → Standing p s
       go true a h =
           let is : record { new_node = record { 0 = number_of new (pending new p) }; parent = record { 0 = number_of old (without_last p) }; keysym = last_key p } ≡ s = cc in
           let number : s.new_node.0 ≡ number_of new (pending new p) = sym (ap (λ (z : Stand). z.new_node.0) is) in
@@ -173,12 +180,15 @@ module _ (names : KeysymNames) (old new : List Definition) (sound : is_table old
   pub dark : (p : List ℕ) → stand names old new p ≡ None → agrees names old new p ≡ false
   dark p e = go (agrees names old new p) e
     where
-      go : (b : Bool) → cond {A = Option Stand} b (Some (record { new_node = record { 0 = number_of new (pending new p) }; parent = record { 0 = number_of old (without_last p) }; keysym = last_key p })) None ≡ None → b ≡ false
+      go : (b : Bool)
+          → cond {A = Option Stand} b (Some (record { new_node = record { 0 = number_of new (pending new p) }; parent = record { 0 = number_of old (without_last p) }; keysym = last_key p })) None
+          ≡ None → b ≡ false
       go true h = cc
       go false h = refl
 
 -- what is found, one node later
-pub found_next : (names : KeysymNames) (fresh : List ℕ) (old new : List Definition) (i : ℕ) (before after : List Found) → i < length (nodes old) → before ≡ all_found names fresh old new (take i (nodes old))
+pub found_next : (names : KeysymNames) (fresh : List ℕ) (old new : List Definition) (i : ℕ) (before after : List Found) → i < length (nodes old)
+    → before ≡ all_found names fresh old new (take i (nodes old))
     → after ≡ before ++ found_behind names old new (node old i) → after ≡ all_found names fresh old new (take (i + 1) (nodes old))
 found_next names fresh old new i before after h b a =
     a ∙ ap (λ xs. xs ++ found_behind names old new (node old i)) b
@@ -197,4 +207,5 @@ filled x xs before n m len e b l h = e ∙ ap (λ ys. take n ys ++ replicate (n 
 pub read_stand : (names : KeysymNames) (old new : List Definition) (sound : is_table old ≡ true) (i : ℕ) → i < length (nodes old) → (xs : List (Option Stand)) → xs ≡ stands_at names old new i []
     → (o : Option Stand) → o ≡ get_or xs i o → stand names old new (node old i) ≡ o
 read_stand names old new sound i h xs e o r =
-    sym (stand_there names old new sound i h) ∙ ap (λ ys. get_or ys i None) (sym e) ∙ get_or_default xs i None o (let n : length xs ≡ length (nodes old) = ap length e ∙ length-map (nodes old) _ in omega arith) ∙ sym r
+    sym (stand_there names old new sound i h) ∙ ap (λ ys. get_or ys i None) (sym e)
+    ∙ get_or_default xs i None o (let n : length xs ≡ length (nodes old) = ap length e ∙ length-map (nodes old) _ in omega arith) ∙ sym r

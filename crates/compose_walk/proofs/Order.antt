@@ -44,7 +44,8 @@ pub sooner_is : (a b : Found) → is_lt (ordering_then (ordering_then (nat_cmp a
 sooner_is a b =
     ap is_lt (regrouped (nat_cmp a.depth b.depth) (nat_cmp a.node b.node) (nat_cmp a.keysym b.keysym))
     ∙ lt_is a.depth b.depth (ordering_then (nat_cmp a.node b.node) (nat_cmp a.keysym b.keysym))
-    ∙ ap (λ x. cond (a.depth == b.depth) x (nat_lt a.depth b.depth)) (lt_is a.node b.node (nat_cmp a.keysym b.keysym) ∙ ap (λ x. cond (a.node == b.node) x (nat_lt a.node b.node)) (last (nat_lt a.keysym b.keysym) (a.keysym == b.keysym)))
+    ∙ ap (λ x. cond (a.depth == b.depth) x (nat_lt a.depth b.depth))
+    (lt_is a.node b.node (nat_cmp a.keysym b.keysym) ∙ ap (λ x. cond (a.node == b.node) x (nat_lt a.node b.node)) (last (nat_lt a.keysym b.keysym) (a.keysym == b.keysym)))
   where
     regrouped : (x y z : Ordering) → ordering_then (ordering_then x y) z ≡ ordering_then x (ordering_then y z)
     regrouped Less y z = refl
@@ -75,7 +76,8 @@ other_key a b n = ap (λ x. a.node == b.node && x) (ne_eqb a.keysym b.keysym n) 
     and_none true = refl
     and_none false = refl
 
-distinct_joined : (xs ys : List Found) → IsDistinct same_place xs → IsDistinct same_place ys → AllByRecursion (λ x. AllByRecursion (λ y. same_place x y ≡ false) ys) xs → IsDistinct same_place (xs ++ ys)
+distinct_joined : (xs ys : List Found) → IsDistinct same_place xs → IsDistinct same_place ys → AllByRecursion (λ x. AllByRecursion (λ y. same_place x y ≡ false) ys) xs
+    → IsDistinct same_place (xs ++ ys)
 unfolding IsDistinct
 distinct_joined [] ys a b c = b
 distinct_joined (x ∷ xs) ys a b c = (all_append (λ y. same_place x y ≡ false) xs ys a.0 c.0, distinct_joined xs ys a.1 b c.1)
@@ -118,7 +120,8 @@ module _ (names : KeysymNames) (fresh : List ℕ) (old new : List Definition) wh
       go true = all_filtered P (found_at old p) (differs_at names old new p) (edges old p) (λ k m d. h k (listed_edge old p k m))
       go false = tt
 
-  distinct_nodes : (ps : List (List ℕ)) → IsStrictlySortedBy (slice_cmp nat_cmp) ps → ((q : List ℕ) → list_any (same q) ps ≡ true → is_node old q ≡ true) → IsDistinct same_place (flat_map (found_behind names old new) ps)
+  distinct_nodes : (ps : List (List ℕ)) → IsStrictlySortedBy (slice_cmp nat_cmp) ps → ((q : List ℕ) → list_any (same q) ps ≡ true → is_node old q ≡ true)
+      → IsDistinct same_place (flat_map (found_behind names old new) ps)
   unfolding IsDistinct IsStrictlySortedBy
   distinct_nodes [] s inside = tt
   distinct_nodes (p ∷ ps) s inside =
@@ -134,12 +137,16 @@ module _ (names : KeysymNames) (fresh : List ℕ) (old new : List Definition) wh
 
   pub all_distinct : IsDistinct same_place (all_found names fresh old new (nodes old))
   all_distinct =
-      distinct_joined (map (found_at old []) (differing_starts names fresh old new)) (flat_map (found_behind names old new) (nodes old)) (distinct_filtered old [] new [] (is_differing_start names fresh old new))
+      distinct_joined (map (found_at old []) (differing_starts names fresh old new)) (flat_map (found_behind names old new) (nodes old))
+      (distinct_filtered old [] new [] (is_differing_start names fresh old new))
       (distinct_nodes (nodes old) (nodes_sorted old) (λ q m. m))
-      (all_filtered (λ x. AllByRecursion (λ y. same_place x y ≡ false) (flat_map (found_behind names old new) (nodes old))) (found_at old []) (is_differing_start names fresh old new) (edges new []) (λ k m d.
-      all_flat (λ y. same_place (found_at old [] k) y ≡ false) (found_behind names old new) (nodes old) (λ q n. each_behind (λ y. same_place (found_at old [] k) y ≡ false) q (λ j e. apart k q j d n e))))
+      (all_filtered (λ x. AllByRecursion (λ y. same_place x y ≡ false) (flat_map (found_behind names old new) (nodes old))) (found_at old []) (is_differing_start names fresh old new) (edges new [])
+      (λ k m d.
+      all_flat (λ y. same_place (found_at old [] k) y ≡ false) (found_behind names old new) (nodes old)
+      (λ q n. each_behind (λ y. same_place (found_at old [] k) y ≡ false) q (λ j e. apart k q j d n e))))
     where
-      apart : (k : ℕ) (q : List ℕ) (j : ℕ) → is_differing_start names fresh old new k ≡ true → is_node old q ≡ true → has_edge old q j ≡ true → same_place (found_at old [] k) (found_at old q j) ≡ false
+      apart : (k : ℕ) (q : List ℕ) (j : ℕ) → is_differing_start names fresh old new k ≡ true → is_node old q ≡ true → has_edge old q j ≡ true
+          → same_place (found_at old [] k) (found_at old q j) ≡ false
       apart k q j d n e = go (same_place (found_at old [] k) (found_at old q j)) refl
         where
           go : (b : Bool) → same_place (found_at old [] k) (found_at old q j) ≡ b → b ≡ false
@@ -178,14 +185,17 @@ module _ (names : KeysymNames) (fresh : List ℕ) (old new : List Definition) (t
 
   is_difference : (f : Found) → WasFound f → IsDifference names fresh old new (evidence_found names old new f)
   is_difference f h =
-      let told = evidence_of names fresh old new t_old t_new are f h (evidence_found names old new f) (λ kind e. ap (λ o. evidence names old new (node old f.node) f.keysym (unwrap_or o text_differs)) e) in
+      let told =
+      evidence_of names fresh old new t_old t_new are f h (evidence_found names old new f)
+      (λ kind e. ap (λ o. evidence names old new (node old f.node) f.keysym (unwrap_or o text_differs)) e) in
       subst (λ (x : Evidence). IsDifference names fresh old new x) (sym told.2) (candidate_is names fresh old new t_old t_new are h.before h.key told.0 h.candidate told.1)
 
   each_difference : (xs : List Found) → AllByRecursion WasFound xs → AllByRecursion (IsDifference names fresh old new) (map (evidence_found names old new) xs)
   each_difference [] a = tt
   each_difference (f ∷ xs) a = (is_difference f a.0, each_difference xs a.1)
 
-  comes_next : (f g : Found) → WasFound f → WasFound g → comes_sooner g f ≡ false → same_place f g ≡ false → comes_first (evidence_found names old new f).keys (evidence_found names old new g).keys ≡ true
+  comes_next : (f g : Found) → WasFound f → WasFound g → comes_sooner g f ≡ false → same_place f g ≡ false
+      → comes_first (evidence_found names old new f).keys (evidence_found names old new g).keys ≡ true
   comes_next f g hf hg later other =
       ap₂ comes_first (keys_are f hf) (keys_are g hg)
       ∙ elim (in_order old hf.before hg.before hf.key hg.key hf.candidate.clear.reached.node hg.candidate.clear.reached.node (ap₂ comes_sooner (sym hg.is) (sym hf.is) ∙ later)) [
@@ -210,13 +220,16 @@ module _ (names : KeysymNames) (fresh : List ℕ) (old new : List Definition) (t
       moved k = omega arith
 
   all_ordered : (xs : List Found) → IsPermutation (all_found names fresh old new (nodes old)) xs → All WasFound xs
-  all_ordered xs moved = All-permutation WasFound (all_found names fresh old new (nodes old)) xs moved (All-from_recursion WasFound (all_found names fresh old new (nodes old)) (all_are_found names fresh old new t_old t_new are))
+  all_ordered xs moved =
+      All-permutation WasFound (all_found names fresh old new (nodes old)) xs moved
+      (All-from_recursion WasFound (all_found names fresh old new (nodes old)) (all_are_found names fresh old new t_old t_new are))
 
   pub all_placed : (xs : List Found) → IsPermutation (all_found names fresh old new (nodes old)) xs → All (IsPlace names old new) xs
   all_placed xs moved k d low = place_of names fresh old new t_old t_new are (get_or xs k d) (all_ordered xs moved k d low)
 
   -- what was found, in order, is all differences
-  pub all_differences : (xs : List Found) → IsPermutation (all_found names fresh old new (nodes old)) xs → IsSortedBy comes_sooner xs → AreDifferences names fresh old new (map (evidence_found names old new) xs)
+  pub all_differences : (xs : List Found) → IsPermutation (all_found names fresh old new (nodes old)) xs → IsSortedBy comes_sooner xs
+      → AreDifferences names fresh old new (map (evidence_found names old new) xs)
   all_differences xs moved sorted = record {
     each = each_difference xs found;
     all = among;
@@ -229,7 +242,9 @@ module _ (names : KeysymNames) (fresh : List ℕ) (old new : List Definition) (t
       among : (x : Evidence) → IsDifference names fresh old new x → list_any (λ y. same y.keys x.keys) (map (evidence_found names old new) xs) ≡ true
       among x d =
           let c = difference_is_candidate names fresh old new x d in
-          let is : same (evidence_found names old new (found_at old c.0 c.1)).keys x.keys ≡ true = same_from (evidence_found names old new (found_at old c.0 c.1)).keys x.keys (ap (λ p. p ++ c.1 ∷ []) (node_at_number old c.0 c.2.clear.reached.node) ∙ sym c.3) in
+          let is : same (evidence_found names old new (found_at old c.0 c.1)).keys x.keys ≡ true =
+          same_from (evidence_found names old new (found_at old c.0 c.1)).keys x.keys (ap (λ p. p ++ c.1 ∷ []) (node_at_number old c.0 c.2.clear.reached.node) ∙ sym c.3) in
           list_any-map (λ (y : Evidence). same y.keys x.keys) (evidence_found names old new) xs
           ∙ sym (list_any-IsPermutation (λ (f : Found). same (evidence_found names old new f).keys x.keys) (all_found names fresh old new (nodes old)) xs moved)
-          ∙ any_has (λ (f : Found). same (evidence_found names old new f).keys x.keys) (found_at old c.0 c.1) (all_found names fresh old new (nodes old)) (has_candidate names fresh old new t_old t_new are c.0 c.1 c.2) is
+          ∙ any_has (λ (f : Found). same (evidence_found names old new f).keys x.keys) (found_at old c.0 c.1) (all_found names fresh old new (nodes old))
+          (has_candidate names fresh old new t_old t_new are c.0 c.1 c.2) is

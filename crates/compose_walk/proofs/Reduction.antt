@@ -31,7 +31,8 @@ agreement a b h = go (is_cancel b.effect) (same b.text a.text) (is_empty a.pendi
     go true s r hc hs hr e = cc
     go false false r hc hs hr e = cc
     go false true true hc hs hr e = cc
-    go false true false hc hs hr e = record { not_cancelled = no_cancel b.effect (not_from_false (is_cancel b.effect) hc); same_text = same_is b.text a.text hs; rests = rests_by a.pending b.pending hr }
+    go false true false hc hs hr e =
+        record { not_cancelled = no_cancel b.effect (not_from_false (is_cancel b.effect) hc); same_text = same_is b.text a.text hs; rests = rests_by a.pending b.pending hr }
 
 rest_test : (u v : List ℕ) → (u ≡ [] → v ≡ []) → is_empty u && not (is_empty v) ≡ false
 rest_test [] v r = ap (λ y. not (is_empty y)) (r refl)
@@ -71,7 +72,8 @@ module _ (names : KeysymNames) (fresh : List ℕ) (old new : List Definition) wh
   same_steps a c r = rw (c, same_from a.text a.text refl, r) refl
 
   -- the key at which a counterexample ends, once the way to it is a node
-  pub candidate_at : (p : List ℕ) (k : ℕ) (kind : Kind) → Clear p → has_key fresh k ≡ false → effect old p k ≢ cancels → difference (step names old p k) (step names new (pending new p) k) ≡ Some kind → Candidate p k
+  pub candidate_at : (p : List ℕ) (k : ℕ) (kind : Kind) → Clear p → has_key fresh k ≡ false → effect old p k ≢ cancels → difference (step names old p k) (step names new (pending new p) k) ≡ Some kind
+      → Candidate p k
   candidate_at p k kind c f n d = go (effect old p k) refl
     where
       go : (x : Effect) → effect old p k ≡ x → Candidate p k
@@ -85,8 +87,20 @@ module _ (names : KeysymNames) (fresh : List ℕ) (old new : List Definition) wh
                 ap (λ x. pending_by x (pending new p) k) (ignored_key new (pending new p) k i) ∙ ap (pending new) p_is;
           }) in
           let clash : None ≡ Some kind = sym none ∙ d in cc)
-      go extends e = record { clear = c; key = inl (edge_extends old p k ∙ or_left (is_extended old (p ++ k ∷ [])) (is_sequence old (p ++ k ∷ [])) (effect_tells old p k extends e).1); differs = is_some_of _ kind d }
-      go completes e = record { clear = c; key = inl (edge_extends old p k ∙ or_right (is_extended old (p ++ k ∷ [])) (is_sequence old (p ++ k ∷ [])) (effect_tells old p k completes e).2); differs = is_some_of _ kind d }
+      go extends e =
+          record {
+            clear = c;
+            key = inl (edge_extends old p k ∙ or_left (is_extended old (p ++ k ∷ [])) (is_sequence old (p ++ k ∷ [])) (effect_tells old p k extends e).1);
+            differs =
+                is_some_of _ kind d;
+          }
+      go completes e =
+          record {
+            clear = c;
+            key = inl (edge_extends old p k ∙ or_right (is_extended old (p ++ k ∷ [])) (is_sequence old (p ++ k ∷ [])) (effect_tells old p k completes e).2);
+            differs =
+                is_some_of _ kind d;
+          }
       go passes e =
           let told = effect_tells old p k passes e in
           let p_is : p ≡ [] = empty_is p told.3 in
@@ -151,7 +165,8 @@ module _ (names : KeysymNames) (fresh : List ℕ) (old new : List Definition) wh
       rests again e = shorter [] (omega arith) (from again [] e (a.0.rests e) root_clear)
 
       go : AlwaysReduces w k kind → (x : Effect) → effect old p j ≡ x → Reduces p (j ∷ w) k
-      go again ignores e = shorter p (omega arith) (from again p (ap (λ x. pending_by x p j) e) (ap (λ x. pending_by x (pending new p) j) (ignored_key new (pending new p) j (effect_tells old p j ignores e))) c)
+      go again ignores e =
+          shorter p (omega arith) (from again p (ap (λ x. pending_by x p j) e) (ap (λ x. pending_by x (pending new p) j) (ignored_key new (pending new p) j (effect_tells old p j ignores e))) c)
       go again extends e =
           let r = from again (p ++ j ∷ []) (ap (λ x. pending_by x p j) e) (sym (new_follows p j)) (clear_more p j c e a.0) in
           (r.0, r.1, regroup r.0 r.2)

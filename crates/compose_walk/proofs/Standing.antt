@@ -33,19 +33,29 @@ zero_test table (k ∷ q) h = elim (cases_Bool (number_of table (k ∷ q) == 0))
   | inr e ↦ e
 ]
 
-pub differ_alike : (names : KeysymNames) (old new : List Definition) (p v : List ℕ) (k : ℕ) (a b : KeyStep) → is_node old p ≡ true → is_node new v ≡ true → IsStep names old p k a → IsStep names new v k b
+pub differ_alike : (names : KeysymNames) (old new : List Definition) (p v : List ℕ) (k : ℕ) (a b : KeyStep) → is_node old p ≡ true → is_node new v ≡ true → IsStep names old p k a
+    → IsStep names new v k b
     → option_map kind_of (difference_of a b) ≡ difference (step names old p k) (step names new v k)
 differ_alike names old new p v k a b hp hv sa sb =
     by (b.cancels) (same (text_bytes b.text) (text_bytes a.text)) (a.next.0 == 0 && not (b.next.0 == 0))
     ∙ ap (λ c. cond c (Some cancelled) (cond (not (same (text_bytes b.text) (text_bytes a.text))) (Some text_differs) (cond (a.next.0 == 0 && not (b.next.0 == 0)) (Some waiting) None))) sb.cancels
-    ∙ ap (λ t. cond (is_cancel (effect new v k)) (Some cancelled) (cond (not (same t (text_bytes a.text))) (Some text_differs) (cond (a.next.0 == 0 && not (b.next.0 == 0)) (Some waiting) None))) sb.text
-    ∙ ap (λ t. cond (is_cancel (effect new v k)) (Some cancelled) (cond (not (same (step names new v k).text t)) (Some text_differs) (cond (a.next.0 == 0 && not (b.next.0 == 0)) (Some waiting) None))) sa.text
-    ∙ ap (λ t. cond (is_cancel (effect new v k)) (Some cancelled) (cond (not (same (step names new v k).text (step names old p k).text)) (Some text_differs) (cond (t && not (b.next.0 == 0)) (Some waiting) None)))
+    ∙ ap
+    (λ t. cond (is_cancel (effect new v k)) (Some cancelled)
+    (cond (not (same t (text_bytes a.text))) (Some text_differs) (cond (a.next.0 == 0 && not (b.next.0 == 0)) (Some waiting) None))) sb.text
+    ∙ ap
+    (λ t. cond (is_cancel (effect new v k)) (Some cancelled)
+    (cond (not (same (step names new v k).text t)) (Some text_differs) (cond (a.next.0 == 0 && not (b.next.0 == 0)) (Some waiting) None))) sa.text
+    ∙ ap
+    (λ t. cond (is_cancel (effect new v k)) (Some cancelled)
+    (cond (not (same (step names new v k).text (step names old p k).text)) (Some text_differs) (cond (t && not (b.next.0 == 0)) (Some waiting) None)))
     (ap (λ n. n == 0) sa.next ∙ zero_test old (pending_after old p k) (step_lands old p k hp))
-    ∙ ap (λ t. cond (is_cancel (effect new v k)) (Some cancelled) (cond (not (same (step names new v k).text (step names old p k).text)) (Some text_differs) (cond (is_empty (pending_after old p k) && not t) (Some waiting) None)))
+    ∙ ap
+    (λ t. cond (is_cancel (effect new v k)) (Some cancelled)
+    (cond (not (same (step names new v k).text (step names old p k).text)) (Some text_differs) (cond (is_empty (pending_after old p k) && not t) (Some waiting) None)))
     (ap (λ n. n == 0) sb.next ∙ zero_test new (pending_after new v k) (step_lands new v k hv))
   where
-    by : (c s r : Bool) → option_map kind_of (cond c (Some Cancelled) (cond (not s) (Some Text) (cond r (Some Waiting) None))) ≡ cond c (Some cancelled) (cond (not s) (Some text_differs) (cond r (Some waiting) None))
+    by : (c s r : Bool)
+        → option_map kind_of (cond c (Some Cancelled) (cond (not s) (Some Text) (cond r (Some Waiting) None))) ≡ cond c (Some cancelled) (cond (not s) (Some text_differs) (cond r (Some waiting) None))
     by true s r = refl
     by false false r = refl
     by false true true = refl
@@ -56,7 +66,8 @@ some_alike None = refl
 some_alike (Some x) = refl
 
 -- whether they differ
-pub differs_alike : (names : KeysymNames) (old new : List Definition) (p v : List ℕ) (k : ℕ) (a b : KeyStep) → is_node old p ≡ true → is_node new v ≡ true → v ≡ pending new p → IsStep names old p k a → IsStep names new v k b
+pub differs_alike : (names : KeysymNames) (old new : List Definition) (p v : List ℕ) (k : ℕ) (a b : KeyStep) → is_node old p ≡ true → is_node new v ≡ true → v ≡ pending new p → IsStep names old p k a
+    → IsStep names new v k b
     → is_some (difference_of a b) ≡ differs_at names old new p k
 differs_alike names old new p v k a b hp hv e sa sb =
     sym (some_alike (difference_of a b)) ∙ ap is_some (differ_alike names old new p v k a b hp hv sa sb) ∙ ap (λ y. is_some (difference (step names old p k) (step names new y k))) e
@@ -93,7 +104,9 @@ module _ (names : KeysymNames) (old new : List Definition) where
   agrees_from-append u v [] x = refl
   agrees_from-append u v (k ∷ w) x =
       ap (λ b. not (is_some (difference (step names old u k) (step names new v k))) && b) (agrees_from-append (pending_after old u k) (pending_after new v k) w x)
-      ∙ sym (and_assoc (not (is_some (difference (step names old u k) (step names new v k)))) (agrees_from names old new (pending_after old u k) (pending_after new v k) w) (agrees_from names old new (pending_from old u (k ∷ w)) (pending_from new v (k ∷ w)) x))
+      ∙ sym
+      (and_assoc (not (is_some (difference (step names old u k) (step names new v k)))) (agrees_from names old new (pending_after old u k) (pending_after new v k) w)
+      (agrees_from names old new (pending_from old u (k ∷ w)) (pending_from new v (k ∷ w)) x))
 
   module _ (t_old : is_table old ≡ true) where
     pub agrees_push : (p : List ℕ) (k : ℕ) → is_node old p ≡ true → agrees names old new (p ++ k ∷ []) ≡ agrees names old new p && not (differs_at names old new p k)
@@ -116,12 +129,14 @@ module _ (names : KeysymNames) (old new : List Definition) where
     one_key ks k j = list_any-append (λ i. j == i) ks (k ∷ [])
 
     -- which edges were looked at, one key later: that of p and k as well, and no other one
-    done_other : (p : List ℕ) (i : ℕ) (ks : List ℕ) (k : ℕ) (q : List ℕ) → is_node old p ≡ true → number_of old p ≡ i → is_node old q ≡ true → same q (p ++ k ∷ []) ≡ false → is_done old i (ks ++ k ∷ []) q ≡ is_done old i ks q
+    done_other : (p : List ℕ) (i : ℕ) (ks : List ℕ) (k : ℕ) (q : List ℕ) → is_node old p ≡ true → number_of old p ≡ i → is_node old q ≡ true → same q (p ++ k ∷ []) ≡ false
+        → is_done old i (ks ++ k ∷ []) q ≡ is_done old i ks q
     done_other p i ks k q hp e hq n =
         ap (λ b. is_empty q || (nat_lt (number_of old (without_last q)) i || (number_of old (without_last q) == i && b))) (one_key ks k (last_key q))
         ∙ go (is_empty q) refl (number_of old (without_last q) == i) refl (last_key q == k) refl (nat_lt (number_of old (without_last q)) i) (has_key ks (last_key q))
       where
-        go : (a : Bool) → is_empty q ≡ a → (b : Bool) → number_of old (without_last q) == i ≡ b → (c : Bool) → last_key q == k ≡ c → (d h : Bool) → a || (d || (b && (h || (c || false)))) ≡ a || (d || (b && h))
+        go : (a : Bool) → is_empty q ≡ a → (b : Bool) → number_of old (without_last q) == i ≡ b → (c : Bool) → last_key q == k ≡ c → (d h : Bool)
+            → a || (d || (b && (h || (c || false)))) ≡ a || (d || (b && h))
         go true ea b eb c ec d h = refl
         go false ea false eb c ec d h = refl
         go false ea true eb false ec d h = ap (λ z. d || z) (or_none h)
@@ -130,13 +145,15 @@ module _ (names : KeysymNames) (old new : List Definition) where
             or_none true = refl
             or_none false = refl
         go false ea true eb true ec d h = absurd (
-            let at : without_last q ≡ p = sym (node_at_number old (without_last q) (prefix_node old q hq)) ∙ ap (node old) (eqb-true (number_of old (without_last q)) i eb ∙ sym e) ∙ node_at_number old p hp in
+            let at : without_last q ≡ p =
+            sym (node_at_number old (without_last q) (prefix_node old q hq)) ∙ ap (node old) (eqb-true (number_of old (without_last q)) i eb ∙ sym e) ∙ node_at_number old p hp in
             let is : q ≡ p ++ k ∷ [] = pushed q ea ∙ ap (λ y. y ++ last_key q ∷ []) at ∙ ap (λ y. p ++ y ∷ []) (eqb-true (last_key q) k ec) in
             let clash : true ≡ false = sym (same_from q (p ++ k ∷ []) is) ∙ n in cc)
 
     done_here : (p : List ℕ) (i : ℕ) (ks : List ℕ) (k : ℕ) → number_of old p ≡ i → is_done old i (ks ++ k ∷ []) (p ++ k ∷ []) ≡ true
     done_here p i ks k e =
-        or_right (is_empty (p ++ k ∷ [])) (nat_lt (number_of old (without_last (p ++ k ∷ []))) i || (number_of old (without_last (p ++ k ∷ [])) == i && has_key (ks ++ k ∷ []) (last_key (p ++ k ∷ []))))
+        or_right (is_empty (p ++ k ∷ []))
+        (nat_lt (number_of old (without_last (p ++ k ∷ []))) i || (number_of old (without_last (p ++ k ∷ [])) == i && has_key (ks ++ k ∷ []) (last_key (p ++ k ∷ []))))
         (or_right (nat_lt (number_of old (without_last (p ++ k ∷ []))) i) (number_of old (without_last (p ++ k ∷ [])) == i && has_key (ks ++ k ∷ []) (last_key (p ++ k ∷ [])))
         (ap (λ b. b && has_key (ks ++ k ∷ []) (last_key (p ++ k ∷ []))) (eq-eqb (number_of old (without_last (p ++ k ∷ []))) i (ap (number_of old) (prefix_push p k) ∙ e))
         ∙ ap (has_key (ks ++ k ∷ [])) (last_push p k) ∙ one_key ks k k ∙ or_right (has_key ks k) (k == k || false) (or_left (k == k) false (eq-eqb k k refl))))
@@ -147,7 +164,8 @@ module _ (names : KeysymNames) (old new : List Definition) where
     kept_edge p i ks k hp e none = on_nodes old (entry i ks) (entry i (ks ++ k ∷ [])) at
       where
         no_stand : (q : List ℕ) → agrees names old new q ≡ false → (b : Bool) → cond b (stand names old new q) None ≡ None
-        no_stand q h true = ap (λ b. cond b (Some (record { new_node = record { 0 = number_of new (pending new q) }; parent = record { 0 = number_of old (without_last q) }; keysym = last_key q })) None) h
+        no_stand q h true =
+            ap (λ b. cond b (Some (record { new_node = record { 0 = number_of new (pending new q) }; parent = record { 0 = number_of old (without_last q) }; keysym = last_key q })) None) h
         no_stand q h false = refl
 
         at : (q : List ℕ) → is_node old q ≡ true → entry i ks q ≡ entry i (ks ++ k ∷ []) q
@@ -159,7 +177,8 @@ module _ (names : KeysymNames) (old new : List Definition) where
         ]
 
     -- where the tables agree at an edge to a node, what stands with that node is written
-    pub written_edge : (p : List ℕ) (i : ℕ) (ks : List ℕ) (k : ℕ) (s : Stand) → is_node old p ≡ true → number_of old p ≡ i → is_node old (p ++ k ∷ []) ≡ true → agrees names old new p ≡ true → differs_at names old new p k ≡ false
+    pub written_edge : (p : List ℕ) (i : ℕ) (ks : List ℕ) (k : ℕ) (s : Stand) → is_node old p ≡ true → number_of old p ≡ i → is_node old (p ++ k ∷ []) ≡ true → agrees names old new p ≡ true
+        → differs_at names old new p k ≡ false
         → s.new_node.0 ≡ number_of new (pending_after new (pending new p) k) → s.parent.0 ≡ i → s.keysym ≡ k
         → set (stands_at names old new i ks) (number_of old (p ++ k ∷ [])) (Some s) ≡ stands_at names old new i (ks ++ k ∷ [])
     written_edge p i ks k s hp e hk agree same_step en ep ek =
@@ -169,7 +188,9 @@ module _ (names : KeysymNames) (old new : List Definition) where
         clear : agrees names old new (p ++ k ∷ []) ≡ true
         clear = agrees_push p k hp ∙ ap (λ b. b && not (differs_at names old new p k)) agree ∙ ap not same_step
 
-        is_s : Some (record { new_node = record { 0 = number_of new (pending new (p ++ k ∷ [])) }; parent = record { 0 = number_of old (without_last (p ++ k ∷ [])) }; keysym = last_key (p ++ k ∷ []) }) ≡ Some s
+        is_s : Some
+            (record { new_node = record { 0 = number_of new (pending new (p ++ k ∷ [])) }; parent = record { 0 = number_of old (without_last (p ++ k ∷ [])) }; keysym = last_key (p ++ k ∷ []) })
+            ≡ Some s
         is_s i1 = Some (record {
           new_node = record { 0 = (ap (number_of new) (pending_from-append new [] p (k ∷ [])) ∙ sym en) i1 };
           parent = record { 0 = (ap (number_of old) (prefix_push p k) ∙ e ∙ sym ep) i1 };
@@ -179,5 +200,13 @@ module _ (names : KeysymNames) (old new : List Definition) where
         here : entry i (ks ++ k ∷ []) (p ++ k ∷ []) ≡ Some s
         here =
             ap (λ b. cond b (stand names old new (p ++ k ∷ [])) None) (done_here p i ks k e)
-            ∙ ap (λ b. cond b (Some (record { new_node = record { 0 = number_of new (pending new (p ++ k ∷ [])) }; parent = record { 0 = number_of old (without_last (p ++ k ∷ [])) }; keysym = last_key (p ++ k ∷ []) })) None) clear
+            ∙ ap
+            (λ b. cond b
+            (Some
+            (record {
+              new_node = record { 0 = number_of new (pending new (p ++ k ∷ [])) };
+              parent = record { 0 = number_of old (without_last (p ++ k ∷ [])) };
+              keysym =
+                  last_key (p ++ k ∷ []);
+            })) None) clear
             ∙ is_s

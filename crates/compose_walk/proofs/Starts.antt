@@ -39,7 +39,9 @@ module _ (names : KeysymNames) (fresh : List ℕ) (old new : List Definition) (k
       leads_of = subst (λ (t : Option Target). Leads old (node old 0) k t) e (leads old (node old 0) k)
 
       go : Leads old (node old 0) k None → has_edge old [] k ≡ false
-      go l = ap (λ p. has_edge old p k) (sym (node_zero old)) ∙ edge_extends old (node old 0) k ∙ or_from (is_extended old (node old 0 ++ k ∷ [])) (is_sequence old (node old 0 ++ k ∷ [])) l.extended l.sequence
+      go l =
+          ap (λ p. has_edge old p k) (sym (node_zero old)) ∙ edge_extends old (node old 0) k
+          ∙ or_from (is_extended old (node old 0 ++ k ∷ [])) (is_sequence old (node old 0 ++ k ∷ [])) l.extended l.sequence
 
   pub fresh_start : has_key fresh k ≡ true → false ≡ is_differing_start names fresh old new k
   fresh_start h = sym (ap (λ b. not (has_edge old [] k) && (not b && differs_at names old new [] k)) h ∙ and_none (not (has_edge old [] k)))
@@ -48,9 +50,11 @@ module _ (names : KeysymNames) (fresh : List ℕ) (old new : List Definition) (k
       and_none true = refl
       and_none false = refl
 
-  pub other_start : target_of old (node old 0) k ≡ None → has_key fresh k ≡ false → (a b : KeyStep) → IsStep names old (node old 0) k a → IsStep names new (node new 0) k b → is_some (difference_of a b) ≡ is_differing_start names fresh old new k
+  pub other_start : target_of old (node old 0) k ≡ None → has_key fresh k ≡ false → (a b : KeyStep) → IsStep names old (node old 0) k a → IsStep names new (node new 0) k b
+      → is_some (difference_of a b) ≡ is_differing_start names fresh old new k
   other_start e f a b sa sb =
-      differs_alike names old new (node old 0) (node new 0) k a b (ap (is_node old) (node_zero old) ∙ root_is_node old) (ap (is_node new) (node_zero new) ∙ root_is_node new) (node_zero new ∙ sym (ap (pending new) (node_zero old))) sa sb
+      differs_alike names old new (node old 0) (node new 0) k a b (ap (is_node old) (node_zero old) ∙ root_is_node old) (ap (is_node new) (node_zero new) ∙ root_is_node new)
+      (node_zero new ∙ sym (ap (pending new) (node_zero old))) sa sb
       ∙ ap (λ p. differs_at names old new p k) (node_zero old)
       ∙ sym (ap (λ x. not x && (not (has_key fresh k) && differs_at names old new [] k)) (no_edge e) ∙ ap (λ x. not x && differs_at names old new [] k) f)
 
@@ -82,4 +86,5 @@ module _ (names : KeysymNames) (fresh : List ℕ) (old new : List Definition) (i
 pub starts_all : (names : KeysymNames) (fresh : List ℕ) (old new : List Definition) (index : ℕ) → length (edges new (node new 0)) ≤ index
     → map (found_at old []) (filter (is_differing_start names fresh old new) (take index (edges new []))) ≡ map (found_at old []) (differing_starts names fresh old new)
 starts_all names fresh old new index h =
-    ap (λ ks. map (found_at old []) (filter (is_differing_start names fresh old new) ks)) (take_all index (edges new []) (let n : length (edges new (node new 0)) ≡ length (edges new []) = ap (λ p. length (edges new p)) (node_zero new) in omega arith))
+    ap (λ ks. map (found_at old []) (filter (is_differing_start names fresh old new) ks))
+    (take_all index (edges new []) (let n : length (edges new (node new 0)) ≡ length (edges new []) = ap (λ p. length (edges new p)) (node_zero new) in omega arith))

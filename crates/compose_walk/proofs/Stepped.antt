@@ -24,7 +24,8 @@ module _ (names : KeysymNames) (table : List Definition) (p : List ℕ) (k : ℕ
   leads_to t h = subst (λ (y : Option Target). Leads table p k y) (sym h) (leads table p k)
 
   -- the step with this effect
-  step_by : (x : Effect) → effect table p k ≡ x → (s : KeyStep) → s.cancels ≡ is_cancel x → text_bytes s.text ≡ text_by x names table p k → s.next.0 ≡ number_of table (pending_by x p k) → IsStep names table p k s
+  step_by : (x : Effect) → effect table p k ≡ x → (s : KeyStep) → s.cancels ≡ is_cancel x → text_bytes s.text ≡ text_by x names table p k → s.next.0 ≡ number_of table (pending_by x p k)
+      → IsStep names table p k s
   step_by x e s c t n = record {
     cancels = c ∙ sym (ap is_cancel e);
     text = t ∙ sym (ap (λ y. text_by y names table p k) e);
@@ -34,7 +35,8 @@ module _ (names : KeysymNames) (table : List Definition) (p : List ℕ) (k : ℕ
   pub step_to_node : (n : NodeId) → Some (Node n) ≡ target_of table p k → (s : KeyStep) → s.cancels ≡ false → text_bytes s.text ≡ [] → s.next.0 ≡ n.0 → IsStep names table p k s
   step_to_node n h s c t m = step_by extends (effect_of (Some (Node n)) h) s c t (m ∙ sym (leads_to (Some (Node n)) h).number)
 
-  pub step_to_leaf : (l : LeafId) (bytes : List ℕ) → Some (Leaf l) ≡ target_of table p k → leaf_text table l.0 ≡ Some bytes → (s : KeyStep) → s.cancels ≡ false → text_bytes s.text ≡ bytes → s.next.0 ≡ 0 → IsStep names table p k s
+  pub step_to_leaf : (l : LeafId) (bytes : List ℕ) → Some (Leaf l) ≡ target_of table p k → leaf_text table l.0 ≡ Some bytes → (s : KeyStep) → s.cancels ≡ false → text_bytes s.text ≡ bytes
+      → s.next.0 ≡ 0 → IsStep names table p k s
   step_to_leaf l bytes h found s c t m =
       step_by completes (effect_of (Some (Leaf l)) h) s c (t ∙ sym (ap (λ o. unwrap_or o []) (sym (leads_to (Some (Leaf l)) h).text ∙ found))) (m ∙ sym (root_number table))
 

@@ -53,7 +53,17 @@ module _ (names : KeysymNames) (old new : List Definition) (sound : is_table old
       r ∙ ap (λ ys. get_or ys i o) e ∙ get_or-map (stand names old new) (nodes old) i [] o in_range
 
   pub is_there : is_some (stand names old new (node old i)) ≡ true
-  is_there = ap (λ b. is_some (cond {A = Option Stand} b (Some (record { new_node = record { 0 = number_of new (pending new (node old i)) }; parent = record { 0 = number_of old (without_last (node old i)) }; keysym = last_key (node old i) })) None)) agree
+  is_there =
+      ap
+      (λ b. is_some
+      (cond {A = Option Stand} b
+      (Some
+      (record {
+        new_node = record { 0 = number_of new (pending new (node old i)) };
+        parent = record { 0 = number_of old (without_last (node old i)) };
+        keysym =
+            last_key (node old i);
+      })) None)) agree
 
   module _ (s : Stand) (at : stand names old new (node old i) ≡ Some s) (other : i == 0 ≡ false) where
     here : is_node old (node old i) ≡ true
@@ -81,7 +91,8 @@ module _ (names : KeysymNames) (old new : List Definition) (sound : is_table old
     parent_agrees =
         ap (agrees names old new) before_is
         ∙ (and_parts (agrees names old new (without_last (node old i))) (not (differs_at names old new (without_last (node old i)) (last_key (node old i))))
-        (sym (agrees_push names old new sound (without_last (node old i)) (last_key (node old i)) (prefix_node old (node old i) here)) ∙ ap (agrees names old new) (sym (pushed (node old i) some_key)) ∙ agree)).0
+        (sym (agrees_push names old new sound (without_last (node old i)) (last_key (node old i)) (prefix_node old (node old i) here)) ∙ ap (agrees names old new) (sym (pushed (node old i) some_key))
+        ∙ agree)).0
 
     pub one_back : (whole keys : List ℕ) → whole ≡ node old i ++ keys → whole ≡ node old s.parent.0 ++ s.keysym ∷ keys
     one_back whole keys e =
@@ -103,13 +114,16 @@ module _ (names : KeysymNames) (old new : List Definition) (sound : is_table old
 
 -- ---- the evidence
 
-module _ (names : KeysymNames) (old new : List Definition) (p v : List ℕ) (k : ℕ) (hp : is_node old p ≡ true) (hv : is_node new v ≡ true) (together : v ≡ pending new p) (a b : KeyStep) (old_step : IsStep names old p k a) (new_step : IsStep names new v k b) where
+module _ (names : KeysymNames) (old new : List Definition) (p v : List ℕ) (k : ℕ) (hp : is_node old p ≡ true) (hv : is_node new v ≡ true) (together : v ≡ pending new p) (a b : KeyStep)
+    (old_step : IsStep names old p k a) (new_step : IsStep names new v k b) where
   pub some_difference : differs_at names old new p k ≡ true → is_some (difference_of a b) ≡ true
   some_difference d = differs_alike names old new p v k a b hp hv together old_step new_step ∙ d
 
-  pub evidence_is : (x : Evidence) → x.keys ≡ p ++ k ∷ [] → ((found : Found_kind) → difference_of a b ≡ Some found → x.kind ≡ kind_of found) → x.old_text ≡ text_bytes a.text → x.new_text ≡ text_bytes b.text
+  pub evidence_is : (x : Evidence) → x.keys ≡ p ++ k ∷ [] → ((found : Found_kind) → difference_of a b ≡ Some found → x.kind ≡ kind_of found) → x.old_text ≡ text_bytes a.text
+      → x.new_text ≡ text_bytes b.text
       → (kind : Kind) → difference_at names old new p k ≡ Some kind → x ≡ evidence names old new p k kind
-  evidence_is x keys kinds old_text new_text kind d = go (difference_of a b) refl (differ_alike names old new p v k a b hp hv old_step new_step ∙ ap (λ y. difference (step names old p k) (step names new y k)) together ∙ d)
+  evidence_is x keys kinds old_text new_text kind d =
+      go (difference_of a b) refl (differ_alike names old new p v k a b hp hv old_step new_step ∙ ap (λ y. difference (step names old p k) (step names new y k)) together ∙ d)
     where
       go : (o : Option Found_kind) → difference_of a b ≡ o → option_map kind_of o ≡ Some kind → x ≡ evidence names old new p k kind
       go None e h = cc
@@ -124,7 +138,8 @@ module _ (names : KeysymNames) (old new : List Definition) (p v : List ℕ) (k :
 -- ---- all evidence
 
 module _ (names : KeysymNames) (old new : List Definition) where
-  pub told : (f : Found) → IsPlace names old new f → (x : Evidence) → ((kind : Kind) → difference_at names old new (node old f.node) f.keysym ≡ Some kind → x ≡ evidence names old new (node old f.node) f.keysym kind) → x ≡ evidence_found names old new f
+  pub told : (f : Found) → IsPlace names old new f → (x : Evidence)
+      → ((kind : Kind) → difference_at names old new (node old f.node) f.keysym ≡ Some kind → x ≡ evidence names old new (node old f.node) f.keysym kind) → x ≡ evidence_found names old new f
   told f place x e = go (difference_at names old new (node old f.node) f.keysym) refl place.differ
     where
       go : (o : Option Kind) → difference_at names old new (node old f.node) f.keysym ≡ o → is_some o ≡ true → x ≡ evidence_found names old new f
@@ -132,7 +147,8 @@ module _ (names : KeysymNames) (old new : List Definition) where
       go (Some kind) d h = e kind d ∙ ap (λ o. evidence names old new (node old f.node) f.keysym (unwrap_or o text_differs)) (sym d)
 
   -- one more
-  pub told_more : (xs : List Found) (i : ℕ) (f : Found) (before after : List Evidence) (x : Evidence) → i < length xs → f ≡ get_or xs i f → before ≡ map (evidence_found names old new) (take i xs) → x ≡ evidence_found names old new f
+  pub told_more : (xs : List Found) (i : ℕ) (f : Found) (before after : List Evidence) (x : Evidence) → i < length xs → f ≡ get_or xs i f → before ≡ map (evidence_found names old new) (take i xs)
+      → x ≡ evidence_found names old new f
       → after ≡ before ++ x ∷ [] → after ≡ map (evidence_found names old new) (take (i + 1) xs)
   told_more xs i f before after x h at b is a =
       a ∙ ap₂ (λ ys y. ys ++ y ∷ []) b (is ∙ ap (evidence_found names old new) at)

@@ -31,5 +31,11 @@ impl Model for Counterexample {
 
     ghost Value = { Evidence };
 
-    ghost view = { λ x. record { keys = x.keys.items; kind = kind_of x.kind; old_text = x.old_text.bytes; new_text = x.new_text.bytes } };
+    ghost view = { λ x. record {
+      keys = x.keys.items;
+      kind = kind_of x.kind;
+      old_text =
+          x.old_text.bytes;
+      new_text = x.new_text.bytes;
+    } };
 }

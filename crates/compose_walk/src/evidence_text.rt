@@ -51,7 +51,9 @@ fn push_all(
     names: &Names,
     differences: &[Counterexample],
 ) -> Result<(), AllocError>
-    ensures { IfOk result (λ _. string_bytes text.new ≡ string_bytes text.old ++ all_explained names.now differences.now) }
+    ensures { IfOk result
+        (λ _. string_bytes text.new
+        ≡ string_bytes text.old ++ all_explained names.now differences.now) }
 {
     if differences.is_empty() {
         return text.push_str("follows\n");
@@ -67,7 +69,9 @@ fn push_each(
     names: &Names,
     differences: &[Counterexample],
 ) -> Result<(), AllocError>
-    ensures { IfOk result (λ _. string_bytes text.new ≡ string_bytes text.old ++ each_explained names.now differences.now) }
+    ensures { IfOk result
+        (λ _. string_bytes text.new
+        ≡ string_bytes text.old ++ each_explained names.now differences.now) }
 {
     for difference in differences {
         push_explained(alloc, text, names, difference)?;
@@ -78,7 +82,8 @@ fn push_each(
 
 /// Appends the line that counts the differences to the text.
 fn push_count(text: &mut String, differences: &[Counterexample]) -> Result<(), AllocError>
-    ensures { IfOk result (λ _. string_bytes text.new ≡ string_bytes text.old ++ count_line differences.now) }
+    ensures { IfOk result
+        (λ _. string_bytes text.new ≡ string_bytes text.old ++ count_line differences.now) }
 {
     let count = differences.len();
     let word = count_word(count);
@@ -120,7 +125,9 @@ fn push_explained(
     names: &Names,
     counterexample: &Counterexample,
 ) -> Result<(), AllocError>
-    ensures { IfOk result (λ _. string_bytes text.new ≡ string_bytes text.old ++ explained names.now counterexample.now) }
+    ensures { IfOk result
+        (λ _. string_bytes text.new
+        ≡ string_bytes text.old ++ explained names.now counterexample.now) }
 {
     push_keys(alloc, text, names, counterexample)?;
     text.push_str("\nkind ")?;
@@ -140,7 +147,9 @@ fn push_keys(
     names: &Names,
     counterexample: &Counterexample,
 ) -> Result<(), AllocError>
-    ensures { IfOk result (λ _. string_bytes text.new ≡ string_bytes text.old ++ keys_line names.now counterexample.now.keys) }
+    ensures { IfOk result
+        (λ _. string_bytes text.new
+        ≡ string_bytes text.old ++ keys_line names.now counterexample.now.keys) }
 {
     text.push_str("keys")?;
     for key in counterexample.keys.as_slice() {
@@ -157,7 +166,8 @@ fn push_printed(
     names: &Names,
     key: Keysym,
 ) -> Result<(), AllocError>
-    ensures { IfOk result (λ _. string_bytes text.new ≡ string_bytes text.old ++ printed names.now key) }
+    ensures { IfOk result
+        (λ _. string_bytes text.new ≡ string_bytes text.old ++ printed names.now key) }
 {
     match names.print(alloc, key) {
         Ok(name) => Ok(text.push_str(name.as_str())?),

@@ -39,6 +39,11 @@ pub use walker::{differences, walk};
 
 /// Of all differences of two tables, in order, the first is the least counterexample; where there is none, the new table follows.
 pub fn law_differences()
-    ensures first { (names : KeysymNames) (fresh : List ℕ) (old new : List Definition) (x : Evidence) (xs : List Evidence) → IsTrue (is_table old) → IsTrue (is_table new) → AreFresh fresh old → AreDifferences names fresh old new (x ∷ xs) → IsLeast names fresh old new x }
-    ensures none { (names : KeysymNames) (fresh : List ℕ) (old new : List Definition) → IsTrue (is_table old) → IsTrue (is_table new) → AreFresh fresh old → AreDifferences names fresh old new [] → Follows names fresh old new }
+    ensures first { (names : KeysymNames) (fresh : List ℕ) (old new : List Definition)
+        (x : Evidence) (xs : List Evidence) → IsTrue (is_table old) → IsTrue (is_table new)
+        → AreFresh fresh old → AreDifferences names fresh old new (x ∷ xs)
+        → IsLeast names fresh old new x }
+    ensures none { (names : KeysymNames) (fresh : List ℕ) (old new : List Definition)
+        → IsTrue (is_table old) → IsTrue (is_table new) → AreFresh fresh old
+        → AreDifferences names fresh old new [] → Follows names fresh old new }
 {}

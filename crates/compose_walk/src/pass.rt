@@ -71,13 +71,36 @@ impl Pass {
         requires table { IsTrue (is_table (T.definitions old.now)) }
         requires in_range { node.0 < length (nodes (T.definitions old.now)) }
         requires new_in_range { new_node.0 < length (nodes (U.definitions new.now)) }
-        requires index { index < length (edges (T.definitions old.now) (words.node (T.definitions old.now) node.0)) }
-        requires agree { agrees names.now (T.definitions old.now) (U.definitions new.now) (words.node (T.definitions old.now) node.0) ≡ true }
-        requires together { words.node (U.definitions new.now) new_node.0 ≡ pending (U.definitions new.now) (words.node (T.definitions old.now) node.0) }
-        requires stands { self.old.stands.items ≡ stands_at names.now (T.definitions old.now) (U.definitions new.now) node.0 (take index (edges (T.definitions old.now) (words.node (T.definitions old.now) node.0))) }
-        ensures stands { OnOk result (self.new.stands.items ≡ stands_at names.now (T.definitions old.now) (U.definitions new.now) node.0 (take (index + 1) (edges (T.definitions old.now) (words.node (T.definitions old.now) node.0)))) }
-        ensures found { (k : ℕ) → slice_get (edges (T.definitions old.now) (words.node (T.definitions old.now) node.0)) index ≡ Some k
-            → OnOk result (self.new.found.items ≡ self.old.found.items ++ map (found_at (T.definitions old.now) (words.node (T.definitions old.now) node.0)) (filter (differs_at names.now (T.definitions old.now) (U.definitions new.now) (words.node (T.definitions old.now) node.0)) (k ∷ []))) }
+        requires index { index
+            < length (edges (T.definitions old.now) (words.node (T.definitions old.now) node.0)) }
+        requires agree { agrees names.now (T.definitions old.now) (U.definitions new.now)
+            (words.node (T.definitions old.now) node.0) ≡ true }
+        requires together { words.node (U.definitions new.now) new_node.0
+            ≡ pending (U.definitions new.now) (words.node (T.definitions old.now) node.0) }
+        requires stands { self.old.stands.items
+            ≡ stands_at names.now (T.definitions old.now) (U.definitions new.now) node.0
+            (take index
+            (edges (T.definitions old.now) (words.node (T.definitions old.now) node.0))) }
+        ensures stands { OnOk result
+            (self.new.stands.items
+            ≡ stands_at names.now (T.definitions old.now) (U.definitions new.now) node.0
+            (take (index + 1)
+            (edges (T.definitions old.now)
+            (words.node (T.definitions old.now) node.0)))) }
+        ensures found { (k : ℕ)
+            → slice_get
+            (edges (T.definitions old.now)
+            (words.node (T.definitions old.now) node.0)) index ≡ Some k
+            → OnOk result
+            (self.new.found.items
+            ≡ self.old.found.items
+            ++ map
+            (found_at (T.definitions old.now)
+            (words.node (T.definitions old.now) node.0))
+            (filter
+            (differs_at names.now (T.definitions old.now)
+            (U.definitions new.now)
+            (words.node (T.definitions old.now) node.0)) (k ∷ []))) }
         ensures err { IfErr result (λ e. e ≡ MakeFault.NoMemory) }
     {
         let (keysym, target) = old.edge(node, index);
@@ -114,11 +137,21 @@ impl Pass {
         requires table { IsTrue (is_table (T.definitions old.now)) }
         requires in_range { node.0 < length (nodes (T.definitions old.now)) }
         requires new_in_range { new_node.0 < length (nodes (U.definitions new.now)) }
-        requires agree { agrees names.now (T.definitions old.now) (U.definitions new.now) (words.node (T.definitions old.now) node.0) ≡ true }
-        requires together { words.node (U.definitions new.now) new_node.0 ≡ pending (U.definitions new.now) (words.node (T.definitions old.now) node.0) }
-        requires stands { self.old.stands.items ≡ stands_at names.now (T.definitions old.now) (U.definitions new.now) node.0 [] }
-        ensures stands { OnOk result (self.new.stands.items ≡ stands_at names.now (T.definitions old.now) (U.definitions new.now) (node.0 + 1) []) }
-        ensures found { OnOk result (self.new.found.items ≡ self.old.found.items ++ found_behind names.now (T.definitions old.now) (U.definitions new.now) (words.node (T.definitions old.now) node.0)) }
+        requires agree { agrees names.now (T.definitions old.now) (U.definitions new.now)
+            (words.node (T.definitions old.now) node.0) ≡ true }
+        requires together { words.node (U.definitions new.now) new_node.0
+            ≡ pending (U.definitions new.now) (words.node (T.definitions old.now) node.0) }
+        requires stands { self.old.stands.items
+            ≡ stands_at names.now (T.definitions old.now) (U.definitions new.now) node.0 [] }
+        ensures stands { OnOk result
+            (self.new.stands.items
+            ≡ stands_at names.now (T.definitions old.now) (U.definitions new.now)
+            (node.0 + 1) []) }
+        ensures found { OnOk result
+            (self.new.found.items
+            ≡ self.old.found.items
+            ++ found_behind names.now (T.definitions old.now) (U.definitions new.now)
+            (words.node (T.definitions old.now) node.0)) }
         ensures err { IfErr result (λ e. e ≡ MakeFault.NoMemory) }
     {
         for index in 0..old.edge_count(node) {
@@ -138,8 +171,14 @@ impl Pass {
         requires table { IsTrue (is_table (T.definitions old.now)) }
         requires new_table { IsTrue (is_table (U.definitions new.now)) }
         requires fresh { IsTrue (keys_rise fresh.now) }
-        ensures stands { IfOk result (λ pass. pass.stands.items ≡ stands_at names.now (T.definitions old.now) (U.definitions new.now) 0 []) }
-        ensures found { IfOk result (λ pass. pass.found.items ≡ map (found_at (T.definitions old.now) []) (differing_starts names.now fresh.now (T.definitions old.now) (U.definitions new.now))) }
+        ensures stands { IfOk result
+            (λ pass. pass.stands.items
+            ≡ stands_at names.now (T.definitions old.now) (U.definitions new.now) 0 []) }
+        ensures found { IfOk result
+            (λ pass. pass.found.items
+            ≡ map (found_at (T.definitions old.now) [])
+            (differing_starts names.now fresh.now (T.definitions old.now)
+            (U.definitions new.now))) }
         ensures err { IfErr result (λ e. e ≡ MakeFault.NoMemory) }
     {
         let mut stands = Vec::new(alloc);
@@ -164,8 +203,14 @@ impl Pass {
         requires table { IsTrue (is_table (T.definitions old.now)) }
         requires new_table { IsTrue (is_table (U.definitions new.now)) }
         requires fresh { IsTrue (keys_rise fresh.now) }
-        ensures stands { IfOk result (λ pass. pass.stands.items ≡ map (stand names.now (T.definitions old.now) (U.definitions new.now)) (nodes (T.definitions old.now))) }
-        ensures found { IfOk result (λ pass. pass.found.items ≡ all_found names.now fresh.now (T.definitions old.now) (U.definitions new.now) (nodes (T.definitions old.now))) }
+        ensures stands { IfOk result
+            (λ pass. pass.stands.items
+            ≡ map (stand names.now (T.definitions old.now) (U.definitions new.now))
+            (nodes (T.definitions old.now))) }
+        ensures found { IfOk result
+            (λ pass. pass.found.items
+            ≡ all_found names.now fresh.now (T.definitions old.now) (U.definitions new.now)
+            (nodes (T.definitions old.now))) }
         ensures err { IfErr result (λ e. e ≡ MakeFault.NoMemory) }
     {
         let mut pass = Pass::begin(alloc, old, new, names, fresh)?;
@@ -199,7 +244,11 @@ fn find_new_starts<T: ComposeTable, U: ComposeTable>(
 ) -> Result<Vec<Found>, MakeFault>
     requires new_table { IsTrue (is_table (U.definitions new.now)) }
     requires fresh { IsTrue (keys_rise fresh.now) }
-    ensures found { IfOk result (λ found. found.items ≡ map (found_at (T.definitions old.now) []) (differing_starts names.now fresh.now (T.definitions old.now) (U.definitions new.now))) }
+    ensures found { IfOk result
+        (λ found. found.items
+        ≡ map (found_at (T.definitions old.now) [])
+        (differing_starts names.now fresh.now (T.definitions old.now)
+        (U.definitions new.now))) }
     ensures err { IfErr result (λ e. e ≡ MakeFault.NoMemory) }
 {
     let mut found = Vec::new(alloc);
@@ -229,7 +278,9 @@ fn is_differing_start<T: ComposeTable, U: ComposeTable>(
     requires new_table { IsTrue (is_table (U.definitions new.now)) }
     requires fresh { IsTrue (keys_rise fresh.now) }
     requires target { target_of (U.definitions new.now) [] keysym ≡ Some target }
-    ensures { result ≡ is_differing_start names.now fresh.now (T.definitions old.now) (U.definitions new.now) keysym }
+    ensures { result
+        ≡ is_differing_start names.now fresh.now (T.definitions old.now)
+        (U.definitions new.now) keysym }
 {
     if old.step(NodeId::ROOT, keysym).is_some() {
         return false;

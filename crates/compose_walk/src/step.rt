@@ -63,9 +63,11 @@ pub fn key_step<'t, T: ComposeTable>(
     target: Option<Target>,
 ) -> KeyStep<'t>
     requires node_in_range { node.0 < length (nodes (T.definitions table.now)) }
-    requires target { target ≡ target_of (T.definitions table.now) (words.node (T.definitions table.now) node.0) key }
+    requires target { target
+        ≡ target_of (T.definitions table.now) (words.node (T.definitions table.now) node.0) key }
     requires fed { keysyms.is_ignored key ≡ false }
-    ensures step { IsStep names.now (T.definitions table.now) (words.node (T.definitions table.now) node.0) key result }
+    ensures step { IsStep names.now (T.definitions table.now)
+        (words.node (T.definitions table.now) node.0) key result }
     ensures short { length (text_bytes result.text) ≤ 255 }
 {
     let Some(target) = target else {

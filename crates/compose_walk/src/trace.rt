@@ -30,13 +30,21 @@ impl Pass {
         found: Found,
     ) -> Counterexample
         requires table { IsTrue (is_table (T.definitions old.now)) }
-        requires stands { self.now.stands.items ≡ map (stand names.now (T.definitions old.now) (U.definitions new.now)) (nodes (T.definitions old.now)) }
+        requires stands { self.now.stands.items
+            ≡ map (stand names.now (T.definitions old.now) (U.definitions new.now))
+            (nodes (T.definitions old.now)) }
         requires in_range { found.node < length (nodes (T.definitions old.now)) }
-        requires agree { agrees names.now (T.definitions old.now) (U.definitions new.now) (words.node (T.definitions old.now) found.node) ≡ true }
-        requires differ { differs_at names.now (T.definitions old.now) (U.definitions new.now) (words.node (T.definitions old.now) found.node) found.keysym ≡ true }
+        requires agree { agrees names.now (T.definitions old.now) (U.definitions new.now)
+            (words.node (T.definitions old.now) found.node) ≡ true }
+        requires differ { differs_at names.now (T.definitions old.now) (U.definitions new.now)
+            (words.node (T.definitions old.now) found.node) found.keysym ≡ true }
         requires fed { keysyms.is_ignored found.keysym ≡ false }
-        ensures { (kind : follows.Kind) → difference_at names.now (T.definitions old.now) (U.definitions new.now) (words.node (T.definitions old.now) found.node) found.keysym ≡ Some kind
-            → result ≡ evidence names.now (T.definitions old.now) (U.definitions new.now) (words.node (T.definitions old.now) found.node) found.keysym kind }
+        ensures { (kind : follows.Kind)
+            → difference_at names.now (T.definitions old.now) (U.definitions new.now)
+            (words.node (T.definitions old.now) found.node) found.keysym ≡ Some kind
+            → result
+            ≡ evidence names.now (T.definitions old.now) (U.definitions new.now)
+            (words.node (T.definitions old.now) found.node) found.keysym kind }
     {
         let number = found.node;
         let keysym = found.keysym;
@@ -60,9 +68,17 @@ impl Pass {
         names: &Names,
     ) -> Result<Vec<Counterexample>, MakeFault>
         requires table { IsTrue (is_table (T.definitions old.now)) }
-        requires stands { self.now.stands.items ≡ map (stand names.now (T.definitions old.now) (U.definitions new.now)) (nodes (T.definitions old.now)) }
-        requires places { All (IsPlace names.now (T.definitions old.now) (U.definitions new.now)) self.now.found.items }
-        ensures evidence { IfOk result (λ differences. differences.items ≡ map (evidence_found names.now (T.definitions old.now) (U.definitions new.now)) self.now.found.items) }
+        requires stands { self.now.stands.items
+            ≡ map (stand names.now (T.definitions old.now) (U.definitions new.now))
+            (nodes (T.definitions old.now)) }
+        requires places { All
+            (IsPlace names.now (T.definitions old.now)
+            (U.definitions new.now)) self.now.found.items }
+        ensures evidence { IfOk result
+            (λ differences. differences.items
+            ≡ map
+            (evidence_found names.now (T.definitions old.now)
+            (U.definitions new.now)) self.now.found.items) }
         ensures err { IfErr result (λ e. e ≡ MakeFault.NoMemory) }
     {
         let mut differences = Vec::new(alloc);
@@ -82,9 +98,12 @@ impl Pass {
         keysym: Keysym,
     ) -> ArrayVec<Keysym, 32>
         requires table { IsTrue (is_table (T.definitions _old.now)) }
-        requires stands { self.now.stands.items ≡ map (stand _names.now (T.definitions _old.now) (U.definitions _new.now)) (nodes (T.definitions _old.now)) }
+        requires stands { self.now.stands.items
+            ≡ map (stand _names.now (T.definitions _old.now) (U.definitions _new.now))
+            (nodes (T.definitions _old.now)) }
         requires in_range { number < length (nodes (T.definitions _old.now)) }
-        requires agree { agrees _names.now (T.definitions _old.now) (U.definitions _new.now) (words.node (T.definitions _old.now) number) ≡ true }
+        requires agree { agrees _names.now (T.definitions _old.now) (U.definitions _new.now)
+            (words.node (T.definitions _old.now) number) ≡ true }
         ensures { result.items ≡ words.node (T.definitions _old.now) number ++ keysym ∷ [] }
     {
         let mut keys = ArrayVec::<Keysym, 32>::new();
@@ -110,7 +129,8 @@ fn counterexample(
     requires old_short { length (text_bytes old_step.now.text) ≤ 255 }
     requires new_short { length (text_bytes new_step.now.text) ≤ 255 }
     ensures keys { result.keys ≡ keys.items }
-    ensures kind { (kind : _) → difference_of old_step.now new_step.now ≡ Some kind → result.kind ≡ kind_of kind }
+    ensures kind { (kind : _) → difference_of old_step.now new_step.now ≡ Some kind
+        → result.kind ≡ kind_of kind }
     ensures old_text { result.old_text ≡ text_bytes old_step.now.text }
     ensures new_text { result.new_text ≡ text_bytes new_step.now.text }
 {

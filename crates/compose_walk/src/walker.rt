@@ -29,10 +29,16 @@ pub fn walk<T: ComposeTable, U: ComposeTable>(
     names: &Names,
     fresh: &[Keysym],
 ) -> Result<Walk, MakeFault>
-    ensures bad_fresh { (fault : CheckFault) → first_unmet (fresh_conditions (T.definitions old.now) fresh.now) ≡ Some fault → result ≡ Err (MakeFault.BadFresh fault) }
-    ensures too_many { first_unmet (fresh_conditions (T.definitions old.now) fresh.now) ≡ None → max_fresh < length fresh.now → result ≡ Err MakeFault.TooManyFresh }
-    ensures answer { first_unmet (fresh_conditions (T.definitions old.now) fresh.now) ≡ None → length fresh.now ≤ max_fresh
-        → MatchResult result (IsWalk names.now fresh.now (T.definitions old.now) (U.definitions new.now)) (λ e. e ≡ MakeFault.NoMemory) }
+    ensures bad_fresh { (fault : CheckFault)
+        → first_unmet (fresh_conditions (T.definitions old.now) fresh.now) ≡ Some fault
+        → result ≡ Err (MakeFault.BadFresh fault) }
+    ensures too_many { first_unmet (fresh_conditions (T.definitions old.now) fresh.now) ≡ None
+        → max_fresh < length fresh.now → result ≡ Err MakeFault.TooManyFresh }
+    ensures answer { first_unmet (fresh_conditions (T.definitions old.now) fresh.now) ≡ None
+        → length fresh.now ≤ max_fresh
+        → MatchResult result
+        (IsWalk names.now fresh.now (T.definitions old.now) (U.definitions new.now))
+        (λ e. e ≡ MakeFault.NoMemory) }
 {
     accept_fresh(old, fresh)?;
     walk_accepted(alloc, old, new, names, fresh)
@@ -50,10 +56,16 @@ pub fn differences<T: ComposeTable, U: ComposeTable>(
     names: &Names,
     fresh: &[Keysym],
 ) -> Result<Differences, MakeFault>
-    ensures bad_fresh { (fault : CheckFault) → first_unmet (fresh_conditions (T.definitions old.now) fresh.now) ≡ Some fault → result ≡ Err (MakeFault.BadFresh fault) }
-    ensures too_many { first_unmet (fresh_conditions (T.definitions old.now) fresh.now) ≡ None → max_fresh < length fresh.now → result ≡ Err MakeFault.TooManyFresh }
-    ensures answer { first_unmet (fresh_conditions (T.definitions old.now) fresh.now) ≡ None → length fresh.now ≤ max_fresh
-        → MatchResult result (AreDifferences names.now fresh.now (T.definitions old.now) (U.definitions new.now)) (λ e. e ≡ MakeFault.NoMemory) }
+    ensures bad_fresh { (fault : CheckFault)
+        → first_unmet (fresh_conditions (T.definitions old.now) fresh.now) ≡ Some fault
+        → result ≡ Err (MakeFault.BadFresh fault) }
+    ensures too_many { first_unmet (fresh_conditions (T.definitions old.now) fresh.now) ≡ None
+        → max_fresh < length fresh.now → result ≡ Err MakeFault.TooManyFresh }
+    ensures answer { first_unmet (fresh_conditions (T.definitions old.now) fresh.now) ≡ None
+        → length fresh.now ≤ max_fresh
+        → MatchResult result
+        (AreDifferences names.now fresh.now (T.definitions old.now) (U.definitions new.now))
+        (λ e. e ≡ MakeFault.NoMemory) }
 {
     accept_fresh(old, fresh)?;
     differences_accepted(alloc, old, new, names, fresh)
@@ -61,9 +73,13 @@ pub fn differences<T: ComposeTable, U: ComposeTable>(
 
 /// Refuses keysyms that are not fresh for the old table, or too many of them.
 pub fn accept_fresh<T: ComposeTable>(old: &T, fresh: &[Keysym]) -> Result<(), MakeFault>
-    ensures bad_fresh { (fault : CheckFault) → first_unmet (fresh_conditions (T.definitions old.now) fresh.now) ≡ Some fault → result ≡ Err (MakeFault.BadFresh fault) }
-    ensures too_many { first_unmet (fresh_conditions (T.definitions old.now) fresh.now) ≡ None → max_fresh < length fresh.now → result ≡ Err MakeFault.TooManyFresh }
-    ensures accepted { first_unmet (fresh_conditions (T.definitions old.now) fresh.now) ≡ None → length fresh.now ≤ max_fresh → result ≡ Ok tt }
+    ensures bad_fresh { (fault : CheckFault)
+        → first_unmet (fresh_conditions (T.definitions old.now) fresh.now) ≡ Some fault
+        → result ≡ Err (MakeFault.BadFresh fault) }
+    ensures too_many { first_unmet (fresh_conditions (T.definitions old.now) fresh.now) ≡ None
+        → max_fresh < length fresh.now → result ≡ Err MakeFault.TooManyFresh }
+    ensures accepted { first_unmet (fresh_conditions (T.definitions old.now) fresh.now) ≡ None
+        → length fresh.now ≤ max_fresh → result ≡ Ok tt }
     ensures fresh { IfOk result (λ _. AreFresh fresh.now (T.definitions old.now)) }
 {
     if let Some(fault) = check_fresh(old, fresh) {
@@ -84,7 +100,9 @@ fn walk_accepted<T: ComposeTable, U: ComposeTable>(
     fresh: &[Keysym],
 ) -> Result<Walk, MakeFault>
     requires { AreFresh fresh.now (T.definitions old.now) }
-    ensures { MatchResult result (IsWalk names.now fresh.now (T.definitions old.now) (U.definitions new.now)) (λ e. e ≡ MakeFault.NoMemory) }
+    ensures { MatchResult result
+        (IsWalk names.now fresh.now (T.definitions old.now) (U.definitions new.now))
+        (λ e. e ≡ MakeFault.NoMemory) }
 {
     let _ = old.node_count();
     let _ = new.node_count();
@@ -105,7 +123,9 @@ fn differences_accepted<T: ComposeTable, U: ComposeTable>(
     fresh: &[Keysym],
 ) -> Result<Differences, MakeFault>
     requires { AreFresh fresh.now (T.definitions old.now) }
-    ensures { MatchResult result (AreDifferences names.now fresh.now (T.definitions old.now) (U.definitions new.now)) (λ e. e ≡ MakeFault.NoMemory) }
+    ensures { MatchResult result
+        (AreDifferences names.now fresh.now (T.definitions old.now) (U.definitions new.now))
+        (λ e. e ≡ MakeFault.NoMemory) }
 {
     let _ = old.node_count();
     let _ = new.node_count();

@@ -38,12 +38,14 @@ parted (i ∷ a) (j ∷ b) x y l e =
 pub one_frame : (q r : Request) (x y : List ℕ) → Fits q → Fits r → frame q ++ x ≡ frame r ++ y → (q ≡ r) × (x ≡ y)
 one_frame q r x y f g e =
     let kinds : kind_of q.body ≡ kind_of r.body = cc in
-    let rest : to_be_bytes w32 q.session ++ (to_be_bytes w32 (length (payload q.body)) ++ (payload q.body ++ x)) ≡ to_be_bytes w32 r.session ++ (to_be_bytes w32 (length (payload r.body)) ++ (payload r.body ++ y)) = cc in
+    let rest : to_be_bytes w32 q.session ++ (to_be_bytes w32 (length (payload q.body)) ++ (payload q.body ++ x))
+    ≡ to_be_bytes w32 r.session ++ (to_be_bytes w32 (length (payload r.body)) ++ (payload r.body ++ y)) = cc in
     let first = parted (to_be_bytes w32 q.session) (to_be_bytes w32 r.session) _ _ refl rest in
     let second = parted (to_be_bytes w32 (length (payload q.body))) (to_be_bytes w32 (length (payload r.body))) (payload q.body ++ x) (payload r.body ++ y) refl first.1 in
     let session : q.session ≡ r.session = sym (from_be_bytes-to_be_bytes_4 q.session f.session) ∙ ap (from_be_bytes w32) first.0 ∙ from_be_bytes-to_be_bytes_4 r.session g.session in
     let long : length (payload q.body) ≡ length (payload r.body) =
-    sym (from_be_bytes-to_be_bytes_4 (length (payload q.body)) (payload_fits q.body f.body)) ∙ ap (from_be_bytes w32) second.0 ∙ from_be_bytes-to_be_bytes_4 (length (payload r.body)) (payload_fits r.body g.body) in
+    sym (from_be_bytes-to_be_bytes_4 (length (payload q.body)) (payload_fits q.body f.body)) ∙ ap (from_be_bytes w32) second.0
+    ∙ from_be_bytes-to_be_bytes_4 (length (payload r.body)) (payload_fits r.body g.body) in
     let p = parted (payload q.body) (payload r.body) x y long second.1 in
     let body : q.body ≡ r.body = sym (body_again q.body f.body) ∙ ap₂ body_at kinds p.0 ∙ body_again r.body g.body in
     (λ i. record { session = session i; body = body i }, p.1)

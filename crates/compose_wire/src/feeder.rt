@@ -69,8 +69,10 @@ impl Feeder {
     /// After any request the buffer may be made smaller; where that is refused, it stays as large as it is.
     pub fn next_request(&mut self, alloc: Global) -> Result<Option<Request>, WireFault>
         ensures so { Gives result self.old self.new }
-        ensures request { (q : words.Request) (more : List ℕ) → Fits q → self.old ≡ frame q ++ more → GivesRequest q more result self.new }
-        ensures fault { (fault : Fault) → fault_at self.old ≡ Some fault → result ≡ Err (wire_fault fault) }
+        ensures request { (q : words.Request) (more : List ℕ) → Fits q
+            → self.old ≡ frame q ++ more → GivesRequest q more result self.new }
+        ensures fault { (fault : Fault) → fault_at self.old ≡ Some fault
+            → result ≡ Err (wire_fault fault) }
         ensures none { IsBegun self.old → result ≡ Ok None }
     {
         self.take_first(alloc)

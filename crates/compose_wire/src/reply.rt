@@ -91,7 +91,9 @@ fn with_payload(kind: u8, session: u32, payload: &[u8]) -> ArrayVec<u8, 272>
 /// The frame of a reply to a key.
 fn fed(session: u32, status: Status, accepted: bool, text: &str) -> ArrayVec<u8, 272>
     requires { length text.now ≤ 255 }
-    ensures { result.items ≡ frame_of 0x82 session (frames.status_byte status ∷ (if accepted then 1 else 0) ∷ text.now) }
+    ensures { result.items
+        ≡ frame_of 0x82 session
+        (frames.status_byte status ∷ (if accepted then 1 else 0) ∷ text.now) }
 {
     let mut bytes = head(0x82, session, text.len() as u32 + 2);
     bytes.push(status_byte(status));
@@ -103,7 +105,10 @@ fn fed(session: u32, status: Status, accepted: bool, text: &str) -> ArrayVec<u8,
 /// The frame of a reply to the question where a session stands.
 fn state(session: u32, status: Status, pending: &[Keysym]) -> ArrayVec<u8, 272>
     requires { length pending.now ≤ 31 }
-    ensures { result.items ≡ frame_of 0x86 session (frames.status_byte status ∷ length pending.now ∷ flat_map (to_be_bytes w32) pending.now) }
+    ensures { result.items
+        ≡ frame_of 0x86 session
+        (frames.status_byte status ∷ length pending.now
+        ∷ flat_map (to_be_bytes w32) pending.now) }
 {
     let mut bytes = head(0x86, session, pending.len() as u32 * 4 + 2);
     bytes.push(status_byte(status));
@@ -117,7 +122,8 @@ fn state(session: u32, status: Status, pending: &[Keysym]) -> ArrayVec<u8, 272>
 /// Takes no memory; linear in the text or the pending keysyms.
 pub fn put_reply(reply: &Reply) -> ArrayVec<u8, 272>
     ensures bytes { result.items ≡ bytes_of reply.now }
-    ensures value { (value : words.Reply) → SaysReply reply.now value → result.items ≡ frames.reply_bytes value }
+    ensures value { (value : words.Reply) → SaysReply reply.now value
+        → result.items ≡ frames.reply_bytes value }
 {
     let session = reply.session;
     match &reply.answer {

@@ -116,7 +116,8 @@ line_read line entry d =
     let end = comment_bytes d.comment in
     let number = codes "0x" ++ (d.digits ++ (d.more_blanks ++ end)) in
     let no_name : begins is_name_byte (d.blanks ++ number) ≡ false = some_first is_name_byte d.blanks number blank_no_name d.are_blanks in
-    let no_digit : begins is_hexadecimal_digit (d.more_blanks ++ end) ≡ false = blanks_first is_hexadecimal_digit d.more_blanks end blank_no_digit d.are_more_blanks (comment_no_byte is_hexadecimal_digit d.comment refl) in
+    let no_digit : begins is_hexadecimal_digit (d.more_blanks ++ end) ≡ false =
+    blanks_first is_hexadecimal_digit d.more_blanks end blank_no_digit d.are_more_blanks (comment_no_byte is_hexadecimal_digit d.comment refl) in
     ap entry_said (d.bytes ∙ in_order define entry.name d.blanks (codes "0x") d.digits d.more_blanks end)
     ∙ define_read (entry.name ++ (d.blanks ++ number))
     ∙ name_read entry.name d.blanks number d.is_name d.are_blanks no_name refl

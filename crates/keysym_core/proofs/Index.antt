@@ -49,7 +49,8 @@ module _ (entries : List CharacterRow) (d : CharacterRow) (c low index : ℕ)
   -- an entry from `low` on follows the index
   pub behind_index : (k : ℕ) → low ≤ k → (e : EntryAt c k entries d) → index ≤ e.index
   behind_index k more e = ⊎_elim
-      (λ before. absurd (let low_rank = ltb-true (rank (get_or entries e.index d)) (c * 0x1_0000_0000 + low) (split.0 e.index d (omega arith) before) in omega (arith, low_rank, e.character, e.value, more)))
+      (λ before. absurd
+      (let low_rank = ltb-true (rank (get_or entries e.index d)) (c * 0x1_0000_0000 + low) (split.0 e.index d (omega arith) before) in omega (arith, low_rank, e.character, e.value, more)))
       (λ after. after)
       (cases_lt e.index index)
 

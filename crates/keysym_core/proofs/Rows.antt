@@ -226,7 +226,8 @@ pub named_index : (k at : ℕ) (rows : List NameRow) (position : ℕ) → index_
 named_index k at [] position e = absurd (none_is_not_some e)
 named_index k at (row ∷ rows) position e = by (nat_eq k row.value) refl e (named_index k (at + 1) rows position)
   where
-    by : (b : Bool) → nat_eq k row.value ≡ b → cond b (Some at) (index_from k (at + 1) rows) ≡ Some position → (index_from k (at + 1) rows ≡ Some position → NamedAt k (at + 1) position rows) → NamedAt k at position (row ∷ rows)
+    by : (b : Bool) → nat_eq k row.value ≡ b → cond b (Some at) (index_from k (at + 1) rows) ≡ Some position → (index_from k (at + 1) rows ≡ Some position → NamedAt k (at + 1) position rows)
+        → NamedAt k at position (row ∷ rows)
     by true same e others =
         let here : at ≡ position = cc in
         record { index = 0; row = row; there = omega (arith, here); found = refl; first = ap (λ b. cond b (Some row.name) (first_name rows k)) same }
@@ -251,7 +252,8 @@ first_name-at_index k position rows e =
     ap (λ i. option_map (λ (row : NameRow). row.name) (slice_get rows i)) same ∙ ap (option_map (λ (row : NameRow). row.name)) named.found ∙ sym named.first
 
 -- what a map's `get_index` found is the name of the row there
-pub name-at : (entries : List (String Global × ℕ)) (position : ℕ) → option_map (λ (row : NameRow). row.name) (slice_get (name_rows entries) position) ≡ option_map (λ e. string_bytes e.0) (slice_get entries position)
+pub name-at : (entries : List (String Global × ℕ)) (position : ℕ)
+    → option_map (λ (row : NameRow). row.name) (slice_get (name_rows entries) position) ≡ option_map (λ e. string_bytes e.0) (slice_get entries position)
 name-at entries position = ap (option_map (λ (row : NameRow). row.name)) (slice_get-map (λ e. record { name = string_bytes e.0; value = e.1 }) entries position) ∙ named (slice_get entries position)
   where
     named : (o : Option (String Global × ℕ)) → option_map (λ (row : NameRow). row.name) (option_map (λ e. record { name = string_bytes e.0; value = e.1 }) o) ≡ option_map (λ e. string_bytes e.0) o

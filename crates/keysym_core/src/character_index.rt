@@ -35,7 +35,8 @@ impl CharacterEntry {
 
 /// The entries by their characters, and among equal ones by their values. O(n log n).
 pub(crate) fn sorted_by_character(entries: Vec<CharacterEntry>) -> Vec<CharacterEntry>
-    ensures same { (c k : ℕ) → list_any (is_entry c k) result.items ≡ list_any (is_entry c k) entries.items }
+    ensures same { (c k : ℕ)
+        → list_any (is_entry c k) result.items ≡ list_any (is_entry c k) entries.items }
     ensures sorted { IsNonDecreasingBy rank result.items }
 {
     let mut sorted = entries;

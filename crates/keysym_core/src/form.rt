@@ -75,7 +75,8 @@ pub(crate) fn form_of(alloc: Global, keysym: Keysym) -> Result<String, AllocErro
 
 /// The letter `U` and at least four upper case digits.
 fn character_text(alloc: Global, character: u32) -> Result<String, AllocError>
-    ensures { IfOk result (λ text. string_bytes text ≡ 85 ∷ at_least_four (digits 16 true character)) }
+    ensures { IfOk result
+        (λ text. string_bytes text ≡ 85 ∷ at_least_four (digits 16 true character)) }
 {
     format!(in alloc; "U{character:04X}")
 }

@@ -37,7 +37,10 @@ pub use shown::{KeyList, ShownChar, ShownKeysym};
 
 /// A line of a header defines one entry at most, and what is read of the line is what it defines.
 pub fn law_header_line()
-    ensures read { (line : List ℕ) (entry : Entry) → DefinesEntry line entry → entry_said line ≡ Some entry }
-    ensures said { (line : List ℕ) (entry : Entry) → entry_said line ≡ Some entry → DefinesEntry line entry }
-    ensures one { (line : List ℕ) (a b : Entry) → DefinesEntry line a → DefinesEntry line b → a ≡ b }
+    ensures read { (line : List ℕ) (entry : Entry) → DefinesEntry line entry
+        → entry_said line ≡ Some entry }
+    ensures said { (line : List ℕ) (entry : Entry) → entry_said line ≡ Some entry
+        → DefinesEntry line entry }
+    ensures one { (line : List ℕ) (a b : Entry) → DefinesEntry line a → DefinesEntry line b
+        → a ≡ b }
 {}

@@ -36,7 +36,8 @@ impl Model for Names {
 
     ghost view = { λ n. n.table };
 
-    ghost invariant = { λ n. HasCountingRows n.by_character.items n.table.characters × AreKeysyms n.by_character.items × IsNonDecreasingBy rank n.by_character.items };
+    ghost invariant = { λ n. HasCountingRows n.by_character.items n.table.characters
+        × AreKeysyms n.by_character.items × IsNonDecreasingBy rank n.by_character.items };
 }
 
 impl Names {

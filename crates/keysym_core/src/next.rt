@@ -9,7 +9,9 @@ use crate::keysym::Keysym;
 
 /// The least keysym from `low` on whose text is this character without a header. O(1).
 pub(crate) fn next_fixed(character: u32, low: u32) -> Option<Keysym>
-    ensures { IsLeastFrom low (λ k. (keysym_of_character character ≡ Some k) ⊎ (keypad_keysym character ≡ Some k)) result }
+    ensures { IsLeastFrom low
+        (λ k. (keysym_of_character character ≡ Some k) ⊎
+        (keypad_keysym character ≡ Some k)) result }
 {
     let own = from_low(keysym_of_character(character), low);
     let keypad = from_low(keypad_keysym(character), low);

@@ -29,9 +29,14 @@ impl Model for NameTable {
 
     ghost Value = { KeysymNames };
 
-    ghost view = { λ t. record { names = name_rows t.names.entries; characters = character_rows t.characters.entries } };
+    ghost view = { λ t. record {
+      names = name_rows t.names.entries;
+      characters =
+          character_rows t.characters.entries;
+    } };
 
-    ghost invariant = { λ t. IsTable t.indexes.entries (name_rows t.names.entries) (character_rows t.characters.entries) };
+    ghost invariant = { λ t. IsTable t.indexes.entries (name_rows t.names.entries)
+        (character_rows t.characters.entries) };
 }
 
 impl NameTable {
@@ -58,8 +63,15 @@ impl NameTable {
 
     /// These names with their values. O(n) in the names.
     pub(crate) fn of_rows(alloc: Global, rows: &[(&str, u32)]) -> Result<NameTable, AllocError>
-        requires { IsTrue (are_addable [] (map (λ r. record { name = r.0.now; value = r.1 }) rows.now)) }
-        ensures { IfOk result (λ table. table ≡ record { names = map (λ r. record { name = r.0.now; value = r.1 }) rows.now; characters = [] }) }
+        requires { IsTrue
+            (are_addable [] (map (λ r. record { name = r.0.now; value = r.1 }) rows.now)) }
+        ensures { IfOk result
+            (λ table. table
+            ≡ record {
+              names =
+                  map (λ r. record { name = r.0.now; value = r.1 }) rows.now;
+              characters = [];
+            }) }
     {
         let mut table = NameTable::new(alloc);
         for (name, value) in rows {
@@ -116,7 +128,8 @@ impl NameTable {
 
     /// The name of the row at an index. O(1).
     fn name_at(&self, index: usize) -> Option<&str>
-        ensures { option_copied result ≡ option_map (λ row. row.name) (slice_get self.now.names index) }
+        ensures { option_copied result
+            ≡ option_map (λ row. row.name) (slice_get self.now.names index) }
     {
         let (name, _) = self.names.get_index(index)?;
         Some(name.as_str())
@@ -129,7 +142,8 @@ impl NameTable {
 
     /// The rows that count for texts. O(n) in the rows.
     pub(crate) fn counting_entries(&self, alloc: Global) -> Result<Vec<CharacterEntry>, AllocError>
-        ensures counting { IfOk result (λ entries. HasCountingRows entries.items self.now.characters) }
+        ensures counting { IfOk result
+            (λ entries. HasCountingRows entries.items self.now.characters) }
         ensures keysyms { IfOk result (λ entries. AreKeysyms entries.items) }
     {
         counting_rows(alloc, &self.characters)
@@ -141,7 +155,12 @@ impl NameTable {
         keysym: Keysym,
         character: char,
     ) -> Result<(), AllocError>
-        ensures { OnOk result (self.new ≡ record self.old { characters = with_character self.old.characters keysym character }) }
+        ensures { OnOk result
+            (self.new
+            ≡ record self.old {
+              characters =
+                  with_character self.old.characters keysym character;
+            }) }
     {
         if self.given_character(keysym).is_some() {
             return Ok(());
@@ -154,7 +173,12 @@ impl NameTable {
     /// Puts a new name behind the others. O(1).
     pub(crate) fn add_name(&mut self, name: &str, value: Keysym) -> Result<(), AllocError>
         requires { IsTrue (is_addable self.old.names (record { name = name.now; value = value })) }
-        ensures { OnOk result (self.new ≡ record self.old { names = self.old.names ++ record { name = name.now; value = value } ∷ [] }) }
+        ensures { OnOk result
+            (self.new
+            ≡ record self.old {
+              names =
+                  self.old.names ++ record { name = name.now; value = value } ∷ [];
+            }) }
     {
         let alloc = *self.names.allocator();
         let index = self.names.len();
@@ -194,7 +218,8 @@ fn counting_rows(
     alloc: Global,
     characters: &IndexMap<Keysym, char>,
 ) -> Result<Vec<CharacterEntry>, AllocError>
-    ensures { IfOk result (λ entries. entries.items ≡ filter counts (character_rows characters.now.entries)) }
+    ensures { IfOk result
+        (λ entries. entries.items ≡ filter counts (character_rows characters.now.entries)) }
 {
     characters
         .iter()

@@ -12,6 +12,8 @@ pub loop-index-preserved : goal.loop-index-preserved
 loop-index-preserved c =
     let added = c.in-Ok.ensures in
     record {
-      same = sym (next_source c.args.count c.loop-index.index c.loop-index.sources c.read_source.new.sources c.loop-index.rest.now c.in-Ok.left.now c.loop-index-test.true added) ∙ c.loop-index.invariant.same;
+      same =
+          sym (next_source c.args.count c.loop-index.index c.loop-index.sources c.read_source.new.sources c.loop-index.rest.now c.in-Ok.left.now c.loop-index-test.true added)
+          ∙ c.loop-index.invariant.same;
       many = ap length added.2 ∙ length-append c.loop-index.sources _ ∙ ap (λ (n : ℕ). n + 1) c.loop-index.invariant.many;
     }

@@ -22,4 +22,5 @@ returns c =
     let sources = c.args.sources.now in
     let all : c.loop-index.index ≡ length sources = omega (arith, c.count-count.ensures.count) in
     all_written sources c.args.certificate.now tt c.loop-index.payload.items c.put_sized_by_4.new.payload (c.loop-index.invariant.so_far ∙ ap (so_far sources) all)
-    (subst (λ (n : ℕ). AllByRecursion HasLengths (take n sources)) all c.loop-index.invariant.lengths) c.count-count.ensures.sound (omega (arith, c.count-count.ensures.count)) c.in_default-put_sized_by_4.ensures
+    (subst (λ (n : ℕ). AllByRecursion HasLengths (take n sources)) all c.loop-index.invariant.lengths) c.count-count.ensures.sound
+    (omega (arith, c.count-count.ensures.count)) c.in_default-put_sized_by_4.ensures

@@ -9,9 +9,11 @@ pub returns-in_err-pair : goal.returns-in_err-pair
 returns-in_err-pair c =
     let p = err_from_is_err_and c.from_residual-in_err-pair.result c.from_residual-in_err-pair.ensures.1 in
     let q = c.in_err-pair.ensures in
-    rw (p.1, p.2) (λ n. times_stop (line_at pair_of) c.loop-index.pairs.items c.args.count c.loop-index.index c.args.line (divide 10 c.loop-index.rest.now) _ _ (omega arith) (q n) c.loop-index.invariant)
+    rw (p.1, p.2)
+    (λ n. times_stop (line_at pair_of) c.loop-index.pairs.items c.args.count c.loop-index.index c.args.line (divide 10 c.loop-index.rest.now) _ _ (omega arith) (q n) c.loop-index.invariant)
 
 pub loop-index-preserved : goal.loop-index-preserved
 loop-index-preserved c =
     rw c.in_ok-push.ensures.items
-    (times_more (line_at pair_of) c.loop-index.pairs.items c.args.count c.loop-index.index c.args.line (divide 10 c.loop-index.rest.now) (divide 10 c.in_ok-pair.behind.now) c.in_ok-pair.pair _ (omega arith) c.in_ok-pair.ensures c.loop-index.invariant)
+    (times_more (line_at pair_of) c.loop-index.pairs.items c.args.count c.loop-index.index c.args.line (divide 10 c.loop-index.rest.now) (divide 10 c.in_ok-pair.behind.now) c.in_ok-pair.pair _
+    (omega arith) c.in_ok-pair.ensures c.loop-index.invariant)

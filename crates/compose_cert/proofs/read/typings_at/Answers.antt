@@ -14,4 +14,5 @@ returns-in_err-typing c =
 pub loop-index-preserved : goal.loop-index-preserved
 loop-index-preserved c =
     rw c.in_ok-push.ensures.items
-    (times_more typing_at c.loop-index.typings.items c.args.count c.loop-index.index c.args.line (divide 10 c.loop-index.rest.now) (divide 10 c.in_ok-typing.behind.now) c.in_ok-typing.typing _ (omega arith) c.in_ok-typing.ensures c.loop-index.invariant)
+    (times_more typing_at c.loop-index.typings.items c.args.count c.loop-index.index c.args.line (divide 10 c.loop-index.rest.now) (divide 10 c.in_ok-typing.behind.now) c.in_ok-typing.typing _
+    (omega arith) c.in_ok-typing.ensures c.loop-index.invariant)

@@ -8,4 +8,5 @@ use Rattle.compose_cert.proofs.repertoire.is_above_characters.Goals as goal
 pub returns : goal.returns
 returns c =
     let some = positive (length c.args.characters.now) (sym c.if-is_empty.ensures) in
-    ap (λ d. nat_lt d c.args.character) (get_or_read c.args.characters.now _ _ (omega arith) c.index-characters-characters.is 0) ∙ above_characters c.args.characters.now c.args.character c.requires some
+    ap (λ d. nat_lt d c.args.character) (get_or_read c.args.characters.now _ _ (omega arith) c.index-characters-characters.is 0)
+    ∙ above_characters c.args.characters.now c.args.character c.requires some

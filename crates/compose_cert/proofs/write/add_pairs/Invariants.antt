@@ -6,4 +6,5 @@ use Rattle.compose_cert.proofs.write.add_pairs.Given as goal
 -- the text with the lines that are left is the whole, and the pairs that are left are numbers where all of them are
 abbrev pub invariant-loop-pair : goal.invariant-loop-pair
 invariant-loop-pair l =
-    (string_bytes l.text ++ ended (map pair_text (drop l.pair-index l.pairs)) ≡ string_bytes l.fn.text ++ ended (map pair_text l.pairs)) × (list_all are_numbers (drop l.pair-index l.pairs) ≡ list_all are_numbers l.pairs)
+    (string_bytes l.text ++ ended (map pair_text (drop l.pair-index l.pairs)) ≡ string_bytes l.fn.text ++ ended (map pair_text l.pairs))
+    × (list_all are_numbers (drop l.pair-index l.pairs) ≡ list_all are_numbers l.pairs)

@@ -24,7 +24,8 @@ returns-then-cancels g c =
     let new = g.U.ComposeTable.definitions c.args.new.now in
     let u = node old c.args.pair.old.0 in
     let e = at_edge old new u c.args.pair.new.0 c.args.keysym c.args.target c.step-landing.result c.requires.leads (sym c.step-landing.ensures) c.requires.sound c.requires.new_in_range in
-    edge_cancels c.args.names.now c.args.certificate.now.pairs c.args.pair.index old new u c.args.pair.new.0 c.args.keysym c.args.target c.step-landing.result e (sym c.cancels.ensures ∙ c.if-cancels.true)
+    edge_cancels c.args.names.now c.args.certificate.now.pairs c.args.pair.index old new u c.args.pair.new.0 c.args.keysym c.args.target c.step-landing.result e
+    (sym c.cancels.ensures ∙ c.if-cancels.true)
 
 pub returns-then-not-commits : goal.returns-then-not-commits
 returns-then-not-commits g c =
@@ -32,7 +33,9 @@ returns-then-not-commits g c =
     let new = g.U.ComposeTable.definitions c.args.new.now in
     let u = node old c.args.pair.old.0 in
     let e = at_edge old new u c.args.pair.new.0 c.args.keysym c.args.target c.step-landing.result c.requires.leads (sym c.step-landing.ensures) c.requires.sound c.requires.new_in_range in
-    edge_differs c.args.names.now c.args.certificate.now.pairs c.args.pair.index old new u c.args.pair.new.0 c.args.keysym c.args.target c.step-landing.result e (sym c.cancels.ensures ∙ c.if-cancels.false) (ap (same (landing_text c.args.names.now new c.args.keysym c.step-landing.result)) (sym c.text_to.ensures) ∙ sym c.commits.ensures ∙ c.if-not-commits.true)
+    edge_differs c.args.names.now c.args.certificate.now.pairs c.args.pair.index old new u c.args.pair.new.0 c.args.keysym c.args.target c.step-landing.result e
+    (sym c.cancels.ensures ∙ c.if-cancels.false)
+    (ap (same (landing_text c.args.names.now new c.args.keysym c.step-landing.result)) (sym c.text_to.ensures) ∙ sym c.commits.ensures ∙ c.if-not-commits.true)
 
 pub returns-then-not-has_pair : goal.returns-then-not-has_pair
 returns-then-not-has_pair g c =
@@ -40,7 +43,10 @@ returns-then-not-has_pair g c =
     let new = g.U.ComposeTable.definitions c.args.new.now in
     let u = node old c.args.pair.old.0 in
     let e = at_edge old new u c.args.pair.new.0 c.args.keysym c.args.target c.step-landing.result c.requires.leads (sym c.step-landing.ensures) c.requires.sound c.requires.new_in_range in
-    edge_missing c.args.names.now c.args.certificate.now.pairs c.args.pair.index old new u c.args.pair.new.0 c.args.keysym c.args.target c.step-landing.result e (sym c.cancels.ensures ∙ c.if-cancels.false) (ap (same (landing_text c.args.names.now new c.args.keysym c.step-landing.result)) (sym c.text_to.ensures) ∙ sym c.commits.ensures ∙ c.if-not-commits.false) (ap₂ (has_pair c.args.certificate.now.pairs) (sym c.number_at.ensures) (sym c.number_at-2.ensures) ∙ sym c.has_pair.ensures ∙ c.if-not-has_pair.true)
+    edge_missing c.args.names.now c.args.certificate.now.pairs c.args.pair.index old new u c.args.pair.new.0 c.args.keysym c.args.target c.step-landing.result e
+    (sym c.cancels.ensures ∙ c.if-cancels.false)
+    (ap (same (landing_text c.args.names.now new c.args.keysym c.step-landing.result)) (sym c.text_to.ensures) ∙ sym c.commits.ensures ∙ c.if-not-commits.false)
+    (ap₂ (has_pair c.args.certificate.now.pairs) (sym c.number_at.ensures) (sym c.number_at-2.ensures) ∙ sym c.has_pair.ensures ∙ c.if-not-has_pair.true)
 
 pub returns : goal.returns
 returns g c =
@@ -48,4 +54,7 @@ returns g c =
     let new = g.U.ComposeTable.definitions c.args.new.now in
     let u = node old c.args.pair.old.0 in
     let e = at_edge old new u c.args.pair.new.0 c.args.keysym c.args.target c.step-landing.result c.requires.leads (sym c.step-landing.ensures) c.requires.sound c.requires.new_in_range in
-    edge_is_met c.args.names.now c.args.certificate.now.pairs c.args.pair.index old new u c.args.pair.new.0 c.args.keysym c.args.target c.step-landing.result e (sym c.cancels.ensures ∙ c.if-cancels.false) (ap (same (landing_text c.args.names.now new c.args.keysym c.step-landing.result)) (sym c.text_to.ensures) ∙ sym c.commits.ensures ∙ c.if-not-commits.false) (ap₂ (has_pair c.args.certificate.now.pairs) (sym c.number_at.ensures) (sym c.number_at-2.ensures) ∙ sym c.has_pair.ensures ∙ c.if-not-has_pair.false)
+    edge_is_met c.args.names.now c.args.certificate.now.pairs c.args.pair.index old new u c.args.pair.new.0 c.args.keysym c.args.target c.step-landing.result e
+    (sym c.cancels.ensures ∙ c.if-cancels.false)
+    (ap (same (landing_text c.args.names.now new c.args.keysym c.step-landing.result)) (sym c.text_to.ensures) ∙ sym c.commits.ensures ∙ c.if-not-commits.false)
+    (ap₂ (has_pair c.args.certificate.now.pairs) (sym c.number_at.ensures) (sym c.number_at-2.ensures) ∙ sym c.has_pair.ensures ∙ c.if-not-has_pair.false)

@@ -9,7 +9,9 @@ returns-in-Some g c =
     let old = g.T.ComposeTable.definitions c.args.old.now in
     let new = g.U.ComposeTable.definitions c.args.new.now in
     let u = node old c.args.pair.old.0 in
-    sym (unmet_at (one_edge_conditions c.args.names.now old new c.args.certificate.now.pairs c.args.pair.index u (node new c.args.pair.new.0)) (edges old u) c.loop-edge.edge c.edge-keysym.result.0 c.in-Some.fault c.edge-keysym.ensures.keysym (sym c.check_edge.ensures ∙ c.in-Some.is))
+    sym
+    (unmet_at (one_edge_conditions c.args.names.now old new c.args.certificate.now.pairs c.args.pair.index u (node new c.args.pair.new.0))
+    (edges old u) c.loop-edge.edge c.edge-keysym.result.0 c.in-Some.fault c.edge-keysym.ensures.keysym (sym c.check_edge.ensures ∙ c.in-Some.is))
     ∙ c.loop-edge.invariant
 
 pub loop-edge-preserved : goal.loop-edge-preserved
@@ -17,5 +19,6 @@ loop-edge-preserved g c =
     let old = g.T.ComposeTable.definitions c.args.old.now in
     let new = g.U.ComposeTable.definitions c.args.new.now in
     let u = node old c.args.pair.old.0 in
-    met_at (one_edge_conditions c.args.names.now old new c.args.certificate.now.pairs c.args.pair.index u (node new c.args.pair.new.0)) (edges old u) c.loop-edge.edge c.edge-keysym.result.0 c.edge-keysym.ensures.keysym (sym c.check_edge.ensures ∙ none_left c.check_edge.result c.in_default.not-Some)
+    met_at (one_edge_conditions c.args.names.now old new c.args.certificate.now.pairs c.args.pair.index u (node new c.args.pair.new.0))
+    (edges old u) c.loop-edge.edge c.edge-keysym.result.0 c.edge-keysym.ensures.keysym (sym c.check_edge.ensures ∙ none_left c.check_edge.result c.in_default.not-Some)
     ∙ c.loop-edge.invariant

@@ -29,33 +29,53 @@ returns-in_err-certificate-clause-exact g c =
 
 pub returns-clause-exact : goal.returns-clause-exact
 returns-clause-exact g c =
-    let m = parts g.T.ComposeTable.definitions c.in_ok-migration.migration in
-    (_, all_read (input_of c.args.input.now) m c.in_ok-migration.ensures c.in_ok-repertoire.repertoire c.in_ok-repertoire.ensures c.in_ok-certificate.certificate c.in_ok-certificate.ensures, c.check.ensures.exact)
+    let m = parts g.T.ComposeTable.definitions c.in_ok-migration.migration in (
+      _,
+      all_read
+          (input_of c.args.input.now) m c.in_ok-migration.ensures c.in_ok-repertoire.repertoire c.in_ok-repertoire.ensures c.in_ok-certificate.certificate c.in_ok-certificate.ensures,
+      c.check.ensures.exact,
+    )
 
 pub returns-clause-valid : goal.returns-clause-valid
 returns-clause-valid g c =
     let m = parts g.T.ComposeTable.definitions c.in_ok-migration.migration in
     let read : Parts = (record { names = m.names; old = m.old; new = m.new; repertoire = c.in_ok-repertoire.repertoire; certificate = c.in_ok-certificate.certificate }) in
     λ p said yes. let is_yes : c.check.result ≡ Yes = cc in
-    subst (λ (q : Parts). IsValid q.names q.old q.new q.repertoire q.certificate) (same_parts (input_of c.args.input.now) read p (all_read (input_of c.args.input.now) m c.in_ok-migration.ensures c.in_ok-repertoire.repertoire c.in_ok-repertoire.ensures c.in_ok-certificate.certificate c.in_ok-certificate.ensures) said) (c.check.ensures.valid is_yes)
+    subst (λ (q : Parts). IsValid q.names q.old q.new q.repertoire q.certificate)
+    (same_parts (input_of c.args.input.now) read p
+    (all_read
+    (input_of c.args.input.now) m c.in_ok-migration.ensures c.in_ok-repertoire.repertoire c.in_ok-repertoire.ensures c.in_ok-certificate.certificate c.in_ok-certificate.ensures) said)
+    (c.check.ensures.valid is_yes)
 
 pub returns-clause-follows : goal.returns-clause-follows
 returns-clause-follows g c =
     let m = parts g.T.ComposeTable.definitions c.in_ok-migration.migration in
     let read : Parts = (record { names = m.names; old = m.old; new = m.new; repertoire = c.in_ok-repertoire.repertoire; certificate = c.in_ok-certificate.certificate }) in
     λ p said yes. let is_yes : c.check.result ≡ Yes = cc in
-    subst (λ (q : Parts). Follows q.names q.certificate.fresh q.old q.new) (same_parts (input_of c.args.input.now) read p (all_read (input_of c.args.input.now) m c.in_ok-migration.ensures c.in_ok-repertoire.repertoire c.in_ok-repertoire.ensures c.in_ok-certificate.certificate c.in_ok-certificate.ensures) said) (c.check.ensures.follows is_yes)
+    subst (λ (q : Parts). Follows q.names q.certificate.fresh q.old q.new)
+    (same_parts (input_of c.args.input.now) read p
+    (all_read
+    (input_of c.args.input.now) m c.in_ok-migration.ensures c.in_ok-repertoire.repertoire c.in_ok-repertoire.ensures c.in_ok-certificate.certificate c.in_ok-certificate.ensures) said)
+    (c.check.ensures.follows is_yes)
 
 pub returns-clause-waits : goal.returns-clause-waits
 returns-clause-waits g c =
     let m = parts g.T.ComposeTable.definitions c.in_ok-migration.migration in
     let read : Parts = (record { names = m.names; old = m.old; new = m.new; repertoire = c.in_ok-repertoire.repertoire; certificate = c.in_ok-certificate.certificate }) in
     λ p said yes. let is_yes : c.check.result ≡ Yes = cc in
-    subst (λ (q : Parts). Waits q.new q.certificate.bound) (same_parts (input_of c.args.input.now) read p (all_read (input_of c.args.input.now) m c.in_ok-migration.ensures c.in_ok-repertoire.repertoire c.in_ok-repertoire.ensures c.in_ok-certificate.certificate c.in_ok-certificate.ensures) said) (c.check.ensures.waits is_yes)
+    subst (λ (q : Parts). Waits q.new q.certificate.bound)
+    (same_parts (input_of c.args.input.now) read p
+    (all_read
+    (input_of c.args.input.now) m c.in_ok-migration.ensures c.in_ok-repertoire.repertoire c.in_ok-repertoire.ensures c.in_ok-certificate.certificate c.in_ok-certificate.ensures) said)
+    (c.check.ensures.waits is_yes)
 
 pub returns-clause-types : goal.returns-clause-types
 returns-clause-types g c =
     let m = parts g.T.ComposeTable.definitions c.in_ok-migration.migration in
     let read : Parts = (record { names = m.names; old = m.old; new = m.new; repertoire = c.in_ok-repertoire.repertoire; certificate = c.in_ok-certificate.certificate }) in
     λ p said yes. let is_yes : c.check.result ≡ Yes = cc in
-    subst (λ (q : Parts). TypesAll q.names q.new q.repertoire q.certificate.typings) (same_parts (input_of c.args.input.now) read p (all_read (input_of c.args.input.now) m c.in_ok-migration.ensures c.in_ok-repertoire.repertoire c.in_ok-repertoire.ensures c.in_ok-certificate.certificate c.in_ok-certificate.ensures) said) (c.check.ensures.types is_yes)
+    subst (λ (q : Parts). TypesAll q.names q.new q.repertoire q.certificate.typings)
+    (same_parts (input_of c.args.input.now) read p
+    (all_read
+    (input_of c.args.input.now) m c.in_ok-migration.ensures c.in_ok-repertoire.repertoire c.in_ok-repertoire.ensures c.in_ok-certificate.certificate c.in_ok-certificate.ensures) said)
+    (c.check.ensures.types is_yes)

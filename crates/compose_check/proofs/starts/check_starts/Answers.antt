@@ -44,5 +44,7 @@ returns g c =
     let old = g.T.ComposeTable.definitions c.args.old.now in
     let new = g.U.ComposeTable.definitions c.args.new.now in
     let count = ap (λ p. length (edges new p)) (node_zero new) in
-    sym (ap (λ ks. first_unmet (map (start_condition c.args.names.now c.args.fresh.now old new) ks)) (drop_all c.loop-index.index (edges new []) (omega (arith, count, c.edge_count-index-end.ensures))))
+    sym
+    (ap (λ ks. first_unmet (map (start_condition c.args.names.now c.args.fresh.now old new) ks))
+    (drop_all c.loop-index.index (edges new []) (omega (arith, count, c.edge_count-index-end.ensures))))
     ∙ c.loop-index.invariant

@@ -48,7 +48,8 @@ visit_new-requires g t c κs within =
                   (
                     c.node_at.ensures ∙ ap node_in (c.target_from-there.ensures p c.requires.same) ∙ node_on old p k ∙ ap (node_of old) path,
                     (
-                      c.still_anew-begins.ensures ∙ ap (λ b. cond (c.args.node.0 == 0) (not (has_edge old [] k) && not (has_key c.args.fresh.now k)) b) c.requires.anew ∙ anew_on names c.args.fresh.now old new c.args.node.0 k c.requires.in_range ∙ ap (begins_anew c.args.fresh.now old) path,
+                      c.still_anew-begins.ensures ∙ ap (λ b. cond (c.args.node.0 == 0) (not (has_edge old [] k) && not (has_key c.args.fresh.now k)) b) c.requires.anew
+                          ∙ anew_on names c.args.fresh.now old new c.args.node.0 k c.requires.in_range ∙ ap (begins_anew c.args.fresh.now old) path,
                       c.loop-index.invariant.fits,
                     ),
                   ),
@@ -84,9 +85,12 @@ loop-index-preserved g t c = elim c.match-target.branch [
       let to = to_node new p k c.edge-keysym.result.1 w.in-Node.child c.edge-keysym.ensures.target w.in-Node.is in
       record {
         fits = ap length w.changes-is ∙ w.visit_new.ensures.fits;
-        written = subst (λ (xs : List (Option Change)). IsWritten None (told names fresh old new) new (is_through p (take (c.loop-index.index + 1) (edges new p))) c.args.changes.now xs) (sym w.changes-is)
-            (node_written None (told names fresh old new) new c.requires.new_settled p (edges new p) c.loop-index.index k c.args.changes.now c.loop-index.changes w.visit_new.new.changes c.edge-keysym.ensures.keysym c.loop-index.invariant.written to.extended
-            (subst (λ (q : List ℕ). IsWritten None (told names fresh old new) new (is_proper_prefix q) c.loop-index.changes w.visit_new.new.changes) (sym (child_path new p k w.in-Node.child to)) w.visit_new.ensures.written));
+        written =
+            subst (λ (xs : List (Option Change)). IsWritten None (told names fresh old new) new (is_through p (take (c.loop-index.index + 1) (edges new p))) c.args.changes.now xs) (sym w.changes-is)
+            (node_written None (told names fresh old new) new c.requires.new_settled p
+            (edges new p) c.loop-index.index k c.args.changes.now c.loop-index.changes w.visit_new.new.changes c.edge-keysym.ensures.keysym c.loop-index.invariant.written to.extended
+            (subst (λ (q : List ℕ). IsWritten None (told names fresh old new) new (is_proper_prefix q) c.loop-index.changes w.visit_new.new.changes)
+            (sym (child_path new p k w.in-Node.child to)) w.visit_new.ensures.written));
       })
   | in-Leaf w ↦ (
       let names = c.args.names.now in
@@ -98,14 +102,20 @@ loop-index-preserved g t c = elim c.match-target.branch [
       let to = to_leaf new p k c.edge-keysym.result.1 w.in-Leaf.leaf c.edge-keysym.ensures.target w.in-Leaf.is in
       let text = w.text.result.now in
       let texted : text_at new (p ++ k ∷ []) ≡ Some text = sym to.text ∙ w.text.ensures.value in
-      let begins : c.still_anew-begins.result ≡ begins_anew fresh old (p ++ k ∷ []) = c.still_anew-begins.ensures ∙ ap (λ b. cond (c.args.node.0 == 0) (not (has_edge old [] k) && not (has_key fresh k)) b) c.requires.anew ∙ anew_on names fresh old new c.args.node.0 k c.requires.in_range in
+      let begins : c.still_anew-begins.result ≡ begins_anew fresh old (p ++ k ∷ []) =
+      c.still_anew-begins.ensures ∙ ap (λ b. cond (c.args.node.0 == 0) (not (has_edge old [] k) && not (has_key fresh k)) b) c.requires.anew
+      ∙ anew_on names fresh old new c.args.node.0 k c.requires.in_range in
       let starts : w.is_start-starts.result ≡ is_new_start names fresh old new (p ++ k ∷ []) =
-      w.is_start-starts.ensures ∙ ap (λ b. b && not (c.args.node.0 == 0 && same (model.text names k) text)) begins ∙ starts_on names fresh old new c.args.node.0 k text c.requires.in_range to.sequence texted in
+      w.is_start-starts.ensures ∙ ap (λ b. b && not (c.args.node.0 == 0 && same (model.text names k) text)) begins
+      ∙ starts_on names fresh old new c.args.node.0 k text c.requires.in_range to.sequence texted in
       let value : w.new_change.result ≡ told names fresh old new (p ++ k ∷ []) =
-      w.new_change.ensures ∙ ap (λ o. new_change o w.is_start-starts.result) (c.target_from-there.ensures p c.requires.same) ∙ new_told names fresh old new p k c.requires.old_settled w.is_start-starts.result starts in
+      w.new_change.ensures ∙ ap (λ o. new_change o w.is_start-starts.result) (c.target_from-there.ensures p c.requires.same)
+      ∙ new_told names fresh old new p k c.requires.old_settled w.is_start-starts.result starts in
       record {
         fits = ap length w.changes-is ∙ length-set c.loop-index.changes w.in-Leaf.leaf.0 w.new_change.result ∙ c.loop-index.invariant.fits;
-        written = leaf_written None (told names fresh old new) new c.requires.new_settled p (edges new p) c.loop-index.index k c.args.changes.now c.loop-index.changes c.match-target.changes c.edge-keysym.ensures.keysym c.loop-index.invariant.written to.sequence
+        written =
+            leaf_written None (told names fresh old new) new c.requires.new_settled p
+            (edges new p) c.loop-index.index k c.args.changes.now c.loop-index.changes c.match-target.changes c.edge-keysym.ensures.keysym c.loop-index.invariant.written to.sequence
             (let n = leaf_below new (p ++ k ∷ []) to.sequence in let fits = c.loop-index.invariant.fits in omega arith)
             (w.changes-is ∙ ap (λ n. set c.loop-index.changes n w.new_change.result) (sym to.number) ∙ ap (set c.loop-index.changes (leaf_number new (p ++ k ∷ []))) value);
       })

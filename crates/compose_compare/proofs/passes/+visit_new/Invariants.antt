@@ -13,5 +13,9 @@ decreases-visit_new g l = 32 - length (node (g.U.ComposeTable.definitions l.new.
 abbrev pub invariant-loop-index : goal.invariant-loop-index
 invariant-loop-index g l = record {
   fits : length l.changes ≡ length (leaves (g.U.ComposeTable.definitions l.new));
-  written : IsWritten None (λ s. cond (is_sequence (g.T.ComposeTable.definitions l.old) s) None (Some (change l.names l.fresh (g.T.ComposeTable.definitions l.old) (g.U.ComposeTable.definitions l.new) s))) (g.U.ComposeTable.definitions l.new) (is_through (node (g.U.ComposeTable.definitions l.new) l.node.0) (take l.index (edges (g.U.ComposeTable.definitions l.new) (node (g.U.ComposeTable.definitions l.new) l.node.0)))) l.initial.changes l.changes;
+  written : IsWritten None
+      (λ s. cond (is_sequence (g.T.ComposeTable.definitions l.old) s) None (Some (change l.names l.fresh (g.T.ComposeTable.definitions l.old) (g.U.ComposeTable.definitions l.new) s)))
+      (g.U.ComposeTable.definitions l.new)
+      (is_through (node (g.U.ComposeTable.definitions l.new) l.node.0)
+      (take l.index (edges (g.U.ComposeTable.definitions l.new) (node (g.U.ComposeTable.definitions l.new) l.node.0)))) l.initial.changes l.changes;
 }

@@ -70,9 +70,13 @@ loop-index-preserved g t c = elim c.match-target.branch [
       let to = to_node old p k c.edge-keysym.result.1 w.in-Node.child c.edge-keysym.ensures.target w.in-Node.is in
       record {
         fits = ap length w.changes-is ∙ w.visit_old.ensures.fits;
-        written = λ fresh. subst (λ (xs : List Change). IsWritten Removed (change names fresh old new) old (is_through p (take (c.loop-index.index + 1) (edges old p))) c.args.changes.now xs) (sym w.changes-is)
-            (node_written Removed (change names fresh old new) old c.requires.old_settled p (edges old p) c.loop-index.index k c.args.changes.now c.loop-index.changes w.visit_old.new.changes c.edge-keysym.ensures.keysym (c.loop-index.invariant.written fresh) to.extended
-            (subst (λ (q : List ℕ). IsWritten Removed (change names fresh old new) old (is_proper_prefix q) c.loop-index.changes w.visit_old.new.changes) (sym (child_path old p k w.in-Node.child to)) (w.visit_old.ensures.written fresh)));
+        written =
+            λ fresh. subst (λ (xs : List Change). IsWritten Removed (change names fresh old new) old (is_through p (take (c.loop-index.index + 1) (edges old p))) c.args.changes.now xs)
+            (sym w.changes-is)
+            (node_written Removed (change names fresh old new) old c.requires.old_settled p
+            (edges old p) c.loop-index.index k c.args.changes.now c.loop-index.changes w.visit_old.new.changes c.edge-keysym.ensures.keysym (c.loop-index.invariant.written fresh) to.extended
+            (subst (λ (q : List ℕ). IsWritten Removed (change names fresh old new) old (is_proper_prefix q) c.loop-index.changes w.visit_old.new.changes) (sym (child_path old p k w.in-Node.child to))
+            (w.visit_old.ensures.written fresh)));
       })
   | in-Leaf w ↦ (
       let names = c.args.names.now in
@@ -86,7 +90,9 @@ loop-index-preserved g t c = elim c.match-target.branch [
       ∙ old_told names fresh old new p k c.requires.new_settled to.sequence w.is_some.result (w.is_some.ensures ∙ ap is_some c.stand_after-after.ensures)) in
       record {
         fits = ap length w.changes-is ∙ length-set c.loop-index.changes w.in-Leaf.leaf.0 w.old_change.result ∙ c.loop-index.invariant.fits;
-        written = λ fresh. leaf_written Removed (change names fresh old new) old c.requires.old_settled p (edges old p) c.loop-index.index k c.args.changes.now c.loop-index.changes c.match-target.changes c.edge-keysym.ensures.keysym (c.loop-index.invariant.written fresh) to.sequence
+        written =
+            λ fresh. leaf_written Removed (change names fresh old new) old c.requires.old_settled p
+            (edges old p) c.loop-index.index k c.args.changes.now c.loop-index.changes c.match-target.changes c.edge-keysym.ensures.keysym (c.loop-index.invariant.written fresh) to.sequence
             (let n = leaf_below old (p ++ k ∷ []) to.sequence in let fits = c.loop-index.invariant.fits in omega arith)
             (w.changes-is ∙ ap (λ n. set c.loop-index.changes n w.old_change.result) (sym to.number) ∙ ap (set c.loop-index.changes (leaf_number old (p ++ k ∷ []))) (value fresh));
       })

@@ -13,5 +13,8 @@ decreases-visit_old g l = 32 - length (node (g.T.ComposeTable.definitions l.old.
 abbrev pub invariant-loop-index : goal.invariant-loop-index
 invariant-loop-index g l = record {
   fits : length l.changes ≡ length (leaves (g.T.ComposeTable.definitions l.old));
-  written : (fresh : List ℕ) → IsWritten Removed (change l.names fresh (g.T.ComposeTable.definitions l.old) (g.U.ComposeTable.definitions l.new)) (g.T.ComposeTable.definitions l.old) (is_through (node (g.T.ComposeTable.definitions l.old) l.node.0) (take l.index (edges (g.T.ComposeTable.definitions l.old) (node (g.T.ComposeTable.definitions l.old) l.node.0)))) l.initial.changes l.changes;
+  written : (fresh : List ℕ)
+      → IsWritten Removed (change l.names fresh (g.T.ComposeTable.definitions l.old) (g.U.ComposeTable.definitions l.new)) (g.T.ComposeTable.definitions l.old)
+      (is_through (node (g.T.ComposeTable.definitions l.old) l.node.0)
+      (take l.index (edges (g.T.ComposeTable.definitions l.old) (node (g.T.ComposeTable.definitions l.old) l.node.0)))) l.initial.changes l.changes;
 }

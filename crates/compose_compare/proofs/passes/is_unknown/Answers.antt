@@ -17,4 +17,5 @@ returns-then-is_some g c =
 pub returns : goal.returns
 returns g c =
     let old = g.T.ComposeTable.definitions c.args.old.now in
-    ap not c.is_among.ensures ∙ sym (ap (λ b. not b && not (has_key c.args.fresh.now c.args.keysym)) (sym (root_edge old c.args.keysym) ∙ ap is_some (sym c.step.ensures) ∙ sym c.is_some.ensures ∙ c.if-is_some.false))
+    ap not c.is_among.ensures
+    ∙ sym (ap (λ b. not b && not (has_key c.args.fresh.now c.args.keysym)) (sym (root_edge old c.args.keysym) ∙ ap is_some (sym c.step.ensures) ∙ sym c.is_some.ensures ∙ c.if-is_some.false))

@@ -19,7 +19,8 @@ step-requires g c =
     stood_below c.args.names.now old (g.U.ComposeTable.definitions c.args.new.now) (node old c.args.node.0) c.in-Some.there (sym c.in-Some.is ∙ c.requires.stand)
 
 pub key_step-old_step-requires-clause-fed : goal.key_step-old_step-requires-clause-fed
-key_step-old_step-requires-clause-fed g c = target_fed (g.T.ComposeTable.definitions c.args.old.now) (node (g.T.ComposeTable.definitions c.args.old.now) c.args.node.0) c.args.keysym c.args.target c.requires.table c.requires.target
+key_step-old_step-requires-clause-fed g c =
+    target_fed (g.T.ComposeTable.definitions c.args.old.now) (node (g.T.ComposeTable.definitions c.args.old.now) c.args.node.0) c.args.keysym c.args.target c.requires.table c.requires.target
 
 pub key_step-new_step-requires-clause-node_in_range : goal.key_step-new_step-requires-clause-node_in_range
 key_step-new_step-requires-clause-node_in_range g c =
@@ -27,7 +28,8 @@ key_step-new_step-requires-clause-node_in_range g c =
     stood_below c.args.names.now old (g.U.ComposeTable.definitions c.args.new.now) (node old c.args.node.0) c.in-Some.there (sym c.in-Some.is ∙ c.requires.stand)
 
 pub key_step-new_step-requires-clause-fed : goal.key_step-new_step-requires-clause-fed
-key_step-new_step-requires-clause-fed g c = target_fed (g.T.ComposeTable.definitions c.args.old.now) (node (g.T.ComposeTable.definitions c.args.old.now) c.args.node.0) c.args.keysym c.args.target c.requires.table c.requires.target
+key_step-new_step-requires-clause-fed g c =
+    target_fed (g.T.ComposeTable.definitions c.args.old.now) (node (g.T.ComposeTable.definitions c.args.old.now) c.args.node.0) c.args.keysym c.args.target c.requires.table c.requires.target
 
 pub returns-then-is_some : goal.returns-then-is_some
 returns-then-is_some g c =
@@ -41,6 +43,7 @@ pub returns : goal.returns
 returns g c =
     let old = g.T.ComposeTable.definitions c.args.old.now in
     let new = g.U.ComposeTable.definitions c.args.new.now in
-    stands_next c.args.names.now old new (node old c.args.node.0) c.args.keysym c.requires.table (node_is_node old c.args.node.0 c.requires.in_range) c.in-Some.there (sym c.in-Some.is ∙ c.requires.stand)
+    stands_next c.args.names.now old new (node old c.args.node.0) c.args.keysym c.requires.table (node_is_node old c.args.node.0 c.requires.in_range) c.in-Some.there
+    (sym c.in-Some.is ∙ c.requires.stand)
     c.key_step-old_step.result c.key_step-new_step.result c.key_step-old_step.ensures.step c.key_step-new_step.ensures.step
     (ap is_some (sym c.difference.ensures) ∙ sym c.is_some.ensures ∙ c.if-is_some.false)

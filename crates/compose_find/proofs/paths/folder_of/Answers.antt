@@ -26,4 +26,6 @@ returns-in-Some c =
 
 pub returns-in-None : goal.returns-in-None
 returns-in-None c =
-    sym (folder_none c.args.path.now (λ i within yes. c.in-None.ensures i (omega arith) (omega (arith, ap length c.as_bytes.ensures.value)) (ap (λ xs. get_or xs i 0 == 47) c.as_bytes.ensures.value ∙ yes)))
+    sym
+    (folder_none c.args.path.now
+    (λ i within yes. c.in-None.ensures i (omega arith) (omega (arith, ap length c.as_bytes.ensures.value)) (ap (λ xs. get_or xs i 0 == 47) c.as_bytes.ensures.value ∙ yes)))

@@ -7,7 +7,8 @@ use Rattle.compose_find.proofs.percent.piece_at.Goals.{in_default-via-in-Some+in
 use Rattle.compose_find.proofs.percent.piece_at.Goals as goal
 
 pub range_from-requires : goal.range_from-requires
-range_from-requires c = λ _. cut_first c.args.text.now c.as_bytes.result.now c.in-Some-eq37.field-0.now c.utf8.text c.as_bytes.ensures.value c.in-Some-eq37.ensures.value (omega (arith, c.in-Some-eq37.field-0-test))
+range_from-requires c =
+    λ _. cut_first c.args.text.now c.as_bytes.result.now c.in-Some-eq37.field-0.now c.utf8.text c.as_bytes.ensures.value c.in-Some-eq37.ensures.value (omega (arith, c.in-Some-eq37.field-0-test))
 
 pub returns-in-Some-eq37 : goal.returns-in-Some-eq37
 returns-in-Some-eq37 c =

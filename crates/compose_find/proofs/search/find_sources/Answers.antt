@@ -31,9 +31,11 @@ loop-index-preserved c =
     let next : 64 - (index + 1) ≡ 63 - index = omega arith in
     let one : index + 1 ≡ 1 + index = omega arith in (
       ap (λ n. found_on files words n (index + 1) c.add_includes_of.new.sources.items) next ∙ ap (λ p. found_on files words (63 - index) p c.add_includes_of.new.sources.items) one
-          ∙ sym (search_goes files words (63 - index) index sources from c.add_includes_of.new.sources.items at (c.in_ok-add_includes_of.ensures.adds from at)) ∙ ap (λ n. found_on files words n index sources) (sym left) ∙ c.loop-index.invariant.0,
+          ∙ sym (search_goes files words (63 - index) index sources from c.add_includes_of.new.sources.items at (c.in_ok-add_includes_of.ensures.adds from at))
+          ∙ ap (λ n. found_on files words n index sources) (sym left) ∙ c.loop-index.invariant.0,
       c.in_ok-add_includes_of.ensures.few,
     )
 
 pub returns : goal.returns
-returns c = sym c.loop-index.invariant.0 ∙ search_ends c.args.files.now (words c.args.meanings) (64 - c.loop-index.index) c.loop-index.index c.loop-index.sources.items (omega (arith, c.loop-index-test.false))
+returns c =
+    sym c.loop-index.invariant.0 ∙ search_ends c.args.files.now (words c.args.meanings) (64 - c.loop-index.index) c.loop-index.index c.loop-index.sources.items (omega (arith, c.loop-index-test.false))

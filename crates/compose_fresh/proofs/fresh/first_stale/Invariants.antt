@@ -11,4 +11,5 @@ use Rattle.compose_fresh.proofs.fresh.first_stale.Given as goal
 abbrev pub invariant-loop-index : goal.invariant-loop-index
 invariant-loop-index l =
     (l.index ≤ l.used)
-    × ((old : List Definition) → l.used ≡ position_or_len (has_key (keysyms old)) l.fresh → first_unmet (flat_map (one_fresh_conditions old) (drop l.index l.fresh)) ≡ first_unmet (flat_map (one_fresh_conditions old) l.fresh))
+    × ((old : List Definition) → l.used ≡ position_or_len (has_key (keysyms old)) l.fresh
+    → first_unmet (flat_map (one_fresh_conditions old) (drop l.index l.fresh)) ≡ first_unmet (flat_map (one_fresh_conditions old) l.fresh))

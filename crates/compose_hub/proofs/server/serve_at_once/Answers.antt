@@ -37,5 +37,6 @@ rounds-preserved g c =
     let ready =
     still_goes_on unsent g.S.Answer.reading now c.accept_all.new.self.accepted c.mark_ready.new.self.accepted c.accept_all.new.self.slots.items c.mark_ready.new.self.slots.items c.mark_ready.ensures.0 c.mark_ready.ensures.1 first accepted
     in
-    still_goes_on unsent g.S.Answer.reading (g.S.Answer.state c.take_turns.new.service) c.take_turns.new.self.accepted c.share_room.new.self.accepted c.take_turns.new.self.slots.items c.share_room.new.self.slots.items c.share_room.ensures.0 c.share_room.ensures.1 first
+    still_goes_on unsent g.S.Answer.reading
+    (g.S.Answer.state c.take_turns.new.service) c.take_turns.new.self.accepted c.share_room.new.self.accepted c.take_turns.new.self.slots.items c.share_room.new.self.slots.items c.share_room.ensures.0 c.share_room.ensures.1 first
     (c.take_turns.ensures first ready)

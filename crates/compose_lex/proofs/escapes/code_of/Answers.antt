@@ -7,7 +7,8 @@ use Rattle.compose_lex.proofs.escapes.code_of.Goals as goal
 next : (c : goal.In-Some) → (c.loop-len.value * c.args.radix + c.in-Some.digit < 4096) × Code c.args.radix (c.loop-len.value * c.args.radix + c.in-Some.digit) c.args.bytes.now (c.loop-len.len + 1)
 next c =
     let same = ap digit_value c.from.ensures in
-    code_more c.args.radix c.loop-len.value c.in-Some.digit c.args.bytes.now c.loop-len.len c.requires.high c.loop-len-test.true (omega (arith, c.in-Some.ensures.value.0, same)) (c.in-Some.ensures.value.1 ∙ same) c.loop-len.invariant
+    code_more c.args.radix c.loop-len.value c.in-Some.digit c.args.bytes.now c.loop-len.len c.requires.high c.loop-len-test.true (omega (arith, c.in-Some.ensures.value.0, same))
+    (c.in-Some.ensures.value.1 ∙ same) c.loop-len.invariant
 
 pub overflow_mul-value : goal.overflow_mul-value
 overflow_mul-value c = let n = next c in omega (arith, n.0)

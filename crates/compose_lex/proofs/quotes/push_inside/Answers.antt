@@ -19,7 +19,9 @@ loop-at-preserved c =
       | then-not-is_plain+in_ok-push_str+in_ok-push_escape w ↦ (
           let special = sym c.is_plain.ensures ∙ w.if-not-is_plain.true in
           let more = w.in_ok-push_escape.ensures ∙ ap (λ x. x ++ quote_byte byte) (w.in_ok-push_str.ensures.bytes ∙ ap (λ x. text_now ++ x) w.range.ensures.value) in
-          let next = quoted_special text (string_bytes c.args.quoted.now) text_now (string_bytes w.push_escape.new.quoted) c.loop-at.done at byte c.utf8.text within same (special_ascii byte special) more c.loop-at.invariant in
+          let next =
+          quoted_special text (string_bytes c.args.quoted.now) text_now (string_bytes w.push_escape.new.quoted) c.loop-at.done at byte c.utf8.text within same
+          (special_ascii byte special) more c.loop-at.invariant in
           rw (w.quoted-is, w.done-is) next)
       | else-not-is_plain w ↦ (
           let plain = sym c.is_plain.ensures ∙ w.if-not-is_plain.false in

@@ -16,7 +16,9 @@ loop-number-preserved-then-depth-greatest g c =
     let table = g.U.ComposeTable.definitions c.args.new.now in
     let below : c.loop-number.number < length (nodes table) = omega (arith, c.node_count-number-end.ensures.count) in
     record {
-      bounds = bounds_more table c.loop-number.number c.loop-number.greatest c.loop-number.greatest below (omega arith) (let e = c.depth-depth.ensures.value in let l = c.if-depth-greatest.true in omega arith) c.loop-number.invariant.bounds;
+      bounds =
+          bounds_more table c.loop-number.number c.loop-number.greatest c.loop-number.greatest below (omega arith)
+          (let e = c.depth-depth.ensures.value in let l = c.if-depth-greatest.true in omega arith) c.loop-number.invariant.bounds;
       met = c.loop-number.invariant.met;
     }
 
@@ -33,6 +35,8 @@ pub returns : goal.returns
 returns g c =
     let table = g.U.ComposeTable.definitions c.args.new.now in
     record {
-      bounds = ap (list_all (λ p. nat_le (length p) c.loop-number.greatest)) (sym (take_all c.loop-number.number (nodes table) (omega (arith, c.node_count-number-end.ensures.count)))) ∙ c.loop-number.invariant.bounds;
+      bounds =
+          ap (list_all (λ p. nat_le (length p) c.loop-number.greatest)) (sym (take_all c.loop-number.number (nodes table) (omega (arith, c.node_count-number-end.ensures.count))))
+          ∙ c.loop-number.invariant.bounds;
       met = c.loop-number.invariant.met;
     }

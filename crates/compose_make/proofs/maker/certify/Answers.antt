@@ -19,7 +19,8 @@ unwrap-certificate-requires g c =
     let repertoire = c.args.repertoire.now in
     let typings : AreLeastTypings names table repertoire c.in-Found.typings = subst (IsTypings names table repertoire) c.in-Found.is c.in_ok-typings.ensures.found in
     let fits : are_counted c.into_vec.result.items c.into_vec-2.result.items ≡ true =
-    ap (λ ps. are_counted ps c.into_vec-2.result.items) c.into_vec.ensures ∙ ap (are_counted c.args.pairs) c.into_vec-2.ensures ∙ counted names table repertoire c.node_count.ensures.settled c.args.pairs c.in-Found.typings c.requires.few_pairs c.count.ensures.sound typings in
+    ap (λ ps. are_counted ps c.into_vec-2.result.items) c.into_vec.ensures ∙ ap (are_counted c.args.pairs) c.into_vec-2.ensures
+    ∙ counted names table repertoire c.node_count.ensures.settled c.args.pairs c.in-Found.typings c.requires.few_pairs c.count.ensures.sound typings in
     ap is_some (c.new.ensures ∙ ap (λ b. cond b (Some (record { bound = c.greatest_depth.result; pairs = c.into_vec.result.items; typings = c.into_vec-2.result.items; fresh = [] })) None) fits)
 
 -- few enough fresh keysyms
@@ -28,7 +29,8 @@ kept_fresh given kept few e = le-leb (length kept) max_count (let n : length kep
 
 pub unwrap-requires : goal.unwrap-requires
 unwrap-requires g c =
-    let fits : nat_le (length c.in_ok-fresh.fresh.items) max_count ≡ true = kept_fresh c.args.fresh.now c.in_ok-fresh.fresh.items c.requires.few_fresh (c.in_ok-fresh.ensures.items_if_clones_equal (λ x y e. e)) in
+    let fits : nat_le (length c.in_ok-fresh.fresh.items) max_count ≡ true =
+    kept_fresh c.args.fresh.now c.in_ok-fresh.fresh.items c.requires.few_fresh (c.in_ok-fresh.ensures.items_if_clones_equal (λ x y e. e)) in
     ap is_some (c.with_fresh.ensures ∙ ap (λ b. cond b (Some (record c.unwrap-certificate.result { fresh = c.in_ok-fresh.fresh.items })) None) fits)
 
 pub returns : goal.returns
@@ -55,4 +57,5 @@ returns g c old fresh follower =
     c.with_fresh.ensures ∙ ap (λ b. cond b (Some (record c.unwrap-certificate.result { fresh = items })) None) small
     ∙ ap (λ (x : Certificate). Some (certificate x.bound x.pairs x.typings items)) made_first ∙ ap (λ fs. Some (certificate depth pairs list fs)) fresh_is in
     let is : c.unwrap.result ≡ whole = opened c.with_fresh.result c.unwrap.result whole c.unwrap.ensures last in
-    subst (IsMadeFor names c.args.fresh.now old table repertoire) (sym is) (made names table repertoire c.node_count.ensures.settled c.args.fresh.now old pairs list depth fresh follower typings c.greatest_depth.ensures)
+    subst (IsMadeFor names c.args.fresh.now old table repertoire) (sym is)
+    (made names table repertoire c.node_count.ensures.settled c.args.fresh.now old pairs list depth fresh follower typings c.greatest_depth.ensures)

@@ -11,7 +11,10 @@ certify-requires g c =
     let ok = accepted old c.args.fresh.now c.walk.result c.in_ok-counterexample.field-0 c.in_ok-counterexample.was c.walk.ensures.bad_fresh c.walk.ensures.too_many in
     record {
       few_fresh = ok.1;
-      few_pairs = pairs_few c.args.names.now c.args.fresh.now old new c.in-Follows.pairs (subst (IsWalk c.args.names.now c.args.fresh.now old new) c.in-Follows.is (c.in_ok-counterexample.ensures.answer ok.0 ok.1)) (let n = c.node_count.ensures.count in let f = c.node_count.ensures.few in omega arith);
+      few_pairs =
+          pairs_few c.args.names.now c.args.fresh.now old new c.in-Follows.pairs
+          (subst (IsWalk c.args.names.now c.args.fresh.now old new) c.in-Follows.is (c.in_ok-counterexample.ensures.answer ok.0 ok.1))
+          (let n = c.node_count.ensures.count in let f = c.node_count.ensures.few in omega arith);
     }
 
 pub returns-in-Follows-clause-answer : goal.returns-in-Follows-clause-answer

@@ -53,7 +53,9 @@ visit-requires g t c κs within =
     let k = c.edge-keysym.result.0 in
     let to = to_node table p k c.edge-keysym.result.1 c.in-Node.child c.edge-keysym.ensures.target c.in-Node.is in
     let longer : c.as_slice.result.now ≡ c.args.keys.now ++ k ∷ [] = c.as_slice.ensures.value ∙ c.with_key-longer.ensures in
-    let falls : 32 - length c.as_slice.result.now < t = deeper t c.args.keys.now c.as_slice.result.now k c.decreases longer (few table c.args.keys.now c.args.keys.now c.args.node.0 c.requires.settled.definitions c.requires.in_range c.requires.path) in
+    let falls : 32 - length c.as_slice.result.now < t =
+    deeper t c.args.keys.now c.as_slice.result.now k c.decreases longer
+    (few table c.args.keys.now c.args.keys.now c.args.node.0 c.requires.settled.definitions c.requires.in_range c.requires.path) in
     let keys : are_keys c.args.repertoire.now c.as_slice.result.now ≡ true =
     ap (are_keys c.args.repertoire.now) longer ∙ with_last (is_key c.args.repertoire.now) c.args.keys.now k c.requires.by_keys (sym c.is_key.ensures ∙ c.if-not-is_key.false) in
     let rise : keys_rise (characters_of c.loop-index.rows) ≡ true = ap keys_rise c.loop-index.invariant.characters ∙ c.requires.rise in
@@ -69,7 +71,10 @@ loop-index-preserved-then-not-is_key g t c =
     let table = g.U.ComposeTable.definitions c.args.new.now in
     record {
       characters = c.loop-index.invariant.characters;
-      least = seen_skip no_names table c.args.repertoire.now c.requires.settled c.args.keys.now (edges table (node table c.args.node.0)) c.loop-index.index c.edge-keysym.result.0 c.args.rows.now c.loop-index.rows c.edge-keysym.ensures.keysym (sym c.is_key.ensures ∙ c.if-not-is_key.true) c.loop-index.invariant.least;
+      least =
+          seen_skip no_names table c.args.repertoire.now c.requires.settled c.args.keys.now
+          (edges table (node table c.args.node.0)) c.loop-index.index c.edge-keysym.result.0 c.args.rows.now c.loop-index.rows c.edge-keysym.ensures.keysym
+          (sym c.is_key.ensures ∙ c.if-not-is_key.true) c.loop-index.invariant.least;
     }
 
 pub loop-index-preserved : goal.loop-index-preserved
@@ -85,8 +90,10 @@ loop-index-preserved g t c = elim c.match-target.branch [
       let longer : w.as_slice.result.now ≡ p ++ k ∷ [] = w.as_slice.ensures.value ∙ c.with_key-longer.ensures in
       record {
         characters = ap characters_of w.rows-is ∙ w.visit.ensures.characters ∙ c.loop-index.invariant.characters;
-        least = λ passes a. subst (λ (rows : List WantedCharacter). AreLeast (λ d v. passes d v || is_through table repertoire d p (take (c.loop-index.index + 1) (edges table n)) v) rows) (sym w.rows-is)
-            (seen_node no_names table repertoire c.requires.settled p (edges table n) c.loop-index.index k c.args.rows.now c.loop-index.rows w.visit.new.rows c.edge-keysym.ensures.keysym extended c.loop-index.invariant.least
+        least =
+            λ passes a. subst (λ (rows : List WantedCharacter). AreLeast (λ d v. passes d v || is_through table repertoire d p (take (c.loop-index.index + 1) (edges table n)) v) rows) (sym w.rows-is)
+            (seen_node no_names table repertoire c.requires.settled p
+            (edges table n) c.loop-index.index k c.args.rows.now c.loop-index.rows w.visit.new.rows c.edge-keysym.ensures.keysym extended c.loop-index.invariant.least
             (λ q b. subst (λ (x : List ℕ). AreLeast (λ d v. q d v || is_behind table repertoire d x v) w.visit.new.rows) longer (w.visit.ensures.least q b)) passes a);
       })
   | in-Leaf w ↦ (
@@ -104,8 +111,10 @@ loop-index-preserved g t c = elim c.match-target.branch [
       let rows_are : c.match-target.rows ≡ map (offered text (p ++ k ∷ [])) c.loop-index.rows = w.rows-is ∙ w.offer_text.ensures ∙ ap (λ x. map (offered text x) c.loop-index.rows) longer in
       record {
         characters = ap characters_of rows_are ∙ offered_characters text (p ++ k ∷ []) c.loop-index.rows ∙ c.loop-index.invariant.characters;
-        least = λ passes a. subst (λ (rows : List WantedCharacter). AreLeast (λ d v. passes d v || is_through table repertoire d p (take (c.loop-index.index + 1) (edges table n)) v) rows) (sym rows_are)
-            (seen_leaf no_names table repertoire c.requires.settled p (edges table n) c.loop-index.index k text c.args.rows.now c.loop-index.rows c.edge-keysym.ensures.keysym sequence texted keys c.loop-index.invariant.least passes a);
+        least =
+            λ passes a. subst (λ (rows : List WantedCharacter). AreLeast (λ d v. passes d v || is_through table repertoire d p (take (c.loop-index.index + 1) (edges table n)) v) rows) (sym rows_are)
+            (seen_leaf no_names table repertoire c.requires.settled p
+            (edges table n) c.loop-index.index k text c.args.rows.now c.loop-index.rows c.edge-keysym.ensures.keysym sequence texted keys c.loop-index.invariant.least passes a);
       })
 ]
 
@@ -116,4 +125,5 @@ returns-clause-least g t c passes a =
     let path : node table c.args.node.0 ≡ p = sym c.requires.path in
     seen_all no_names table c.args.repertoire.now c.requires.settled p c.loop-index.index c.args.rows.now c.loop-index.rows
     (let e : length (edges table p) ≡ c.edge_count-index-end.result = ap (λ q. length (edges table q)) c.requires.path ∙ sym c.edge_count-index-end.ensures in omega arith)
-    (λ q b. subst (λ (x : List ℕ). AreLeast (λ d v. q d v || is_through table c.args.repertoire.now d p (take c.loop-index.index (edges table x)) v) c.loop-index.rows) path (c.loop-index.invariant.least q b)) passes a
+    (λ q b. subst (λ (x : List ℕ). AreLeast (λ d v. q d v || is_through table c.args.repertoire.now d p (take c.loop-index.index (edges table x)) v) c.loop-index.rows) path
+    (c.loop-index.invariant.least q b)) passes a

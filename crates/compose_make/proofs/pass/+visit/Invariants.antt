@@ -11,5 +11,8 @@ abbrev pub invariant-loop-index : goal.invariant-loop-index
 invariant-loop-index g l = record {
   characters : characters_of l.rows ≡ characters_of l.initial.rows;
   least : (passes : ℕ → List ℕ → Bool) → AreLeast passes l.initial.rows
-      → AreLeast (λ c v. passes c v || is_through (g.U.ComposeTable.definitions l.new) l.repertoire c l.keys (take l.index (edges (g.U.ComposeTable.definitions l.new) (node (g.U.ComposeTable.definitions l.new) l.node.0))) v) l.rows;
+      → AreLeast
+      (λ c v. passes c v
+      || is_through (g.U.ComposeTable.definitions l.new) l.repertoire c l.keys
+      (take l.index (edges (g.U.ComposeTable.definitions l.new) (node (g.U.ComposeTable.definitions l.new) l.node.0))) v) l.rows;
 }

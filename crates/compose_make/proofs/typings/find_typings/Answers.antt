@@ -21,5 +21,7 @@ returns-clause-found g c =
     let is : c.deref.result.now ≡ rows = c.deref.ensures.value ∙ take_at rows (drop (length rows) c.in_ok-rows.rows.items) c.in_ok-rows.rows.len n in
     let characters : characters_of rows ≡ repertoire.characters = c.visit.ensures.characters ∙ ap characters_of c.deref_mut.ensures.value ∙ c.in_ok-rows.ensures.characters in
     let plain : AreLeast (is_plain names table repertoire) c.deref_mut.result.now = subst (AreLeast (is_plain names table repertoire)) (sym c.deref_mut.ensures.value) c.in_ok-rows.ensures.least in
-    let all : AreLeast (is_candidate names table repertoire) rows = all_looked_at names table repertoire c.node_count.ensures.settled rows (c.visit.ensures.least (is_plain names table repertoire) plain) in
-    answered names table repertoire c.node_count.ensures.settled rows c.typings_of.result c.count.ensures.sound.rise characters all (subst (λ (rs : List WantedCharacter). IfOk c.typings_of.result (IsOfRows rs)) is c.typings_of.ensures.found)
+    let all : AreLeast (is_candidate names table repertoire) rows =
+    all_looked_at names table repertoire c.node_count.ensures.settled rows (c.visit.ensures.least (is_plain names table repertoire) plain) in
+    answered names table repertoire c.node_count.ensures.settled rows c.typings_of.result c.count.ensures.sound.rise characters all
+    (subst (λ (rs : List WantedCharacter). IfOk c.typings_of.result (IsOfRows rs)) is c.typings_of.ensures.found)

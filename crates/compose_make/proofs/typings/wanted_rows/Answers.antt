@@ -13,7 +13,8 @@ loop-index-preserved g c =
     let row : WantedCharacter = record { character = c.char_at-character.result; keys = option_map (λ k. k ∷ []) c.plain_key-key.result } in
     let pushed = c.in_ok-push.ensures.items ∙ ap (λ r. c.loop-index.rows.items ++ r ∷ []) c.new.ensures in
     record {
-      characters = ap characters_of pushed ∙ map_push (λ (r : WantedCharacter). r.character) c.loop-index.rows.items row ∙ ap (λ cs. cs ++ c.char_at-character.result ∷ []) c.loop-index.invariant.characters
+      characters =
+          ap characters_of pushed ∙ map_push (λ (r : WantedCharacter). r.character) c.loop-index.rows.items row ∙ ap (λ cs. cs ++ c.char_at-character.result ∷ []) c.loop-index.invariant.characters
           ∙ sym (taken_more c.args.repertoire.now.characters c.loop-index.index c.char_at-character.result c.char_at-character.ensures);
       least = subst (AreLeast passes) (sym pushed) (are_joined passes c.loop-index.rows.items row c.loop-index.invariant.least c.plain_key-key.ensures);
     }

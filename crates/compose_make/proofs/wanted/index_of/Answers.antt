@@ -10,7 +10,8 @@ loop-low-preserved-then-there-character-2 c =
     let row = c.index-rows-middle.result in
     let m : ℕ = c.loop-low.low + (c.loop-low.high - c.loop-low.low) / 2 in
     let fits : m < length rows = omega (arith, c.loop-low-test.true, c.loop-low.invariant.ends) in
-    let there : get_or (characters_of rows) m 0 ≡ row.character = get_or-map (λ (r : WantedCharacter). r.character) rows m row 0 fits ∙ ap (λ (r : WantedCharacter). r.character) (sym c.index-rows-middle.is) in
+    let there : get_or (characters_of rows) m 0 ≡ row.character =
+    get_or-map (λ (r : WantedCharacter). r.character) rows m row 0 fits ∙ ap (λ (r : WantedCharacter). r.character) (sym c.index-rows-middle.is) in
     let less : get_or (characters_of rows) m 0 < c.args.character = let e = c.character-there.ensures in let l = c.if-there-character-2.true in omega arith in
     record {
       ends = c.loop-low.invariant.ends;
@@ -25,7 +26,8 @@ loop-low-preserved c =
     let row = c.index-rows-middle.result in
     let m : ℕ = c.loop-low.low + (c.loop-low.high - c.loop-low.low) / 2 in
     let fits : m < length rows = omega (arith, c.loop-low-test.true, c.loop-low.invariant.ends) in
-    let there : get_or (characters_of rows) m 0 ≡ row.character = get_or-map (λ (r : WantedCharacter). r.character) rows m row 0 fits ∙ ap (λ (r : WantedCharacter). r.character) (sym c.index-rows-middle.is) in
+    let there : get_or (characters_of rows) m 0 ≡ row.character =
+    get_or-map (λ (r : WantedCharacter). r.character) rows m row 0 fits ∙ ap (λ (r : WantedCharacter). r.character) (sym c.index-rows-middle.is) in
     let more : c.args.character < get_or (characters_of rows) m 0 = let e = c.character-there.ensures in let l = c.if-there-character-2.false in let n = c.if-there-character.false in omega arith in
     record {
       ends = omega (arith, c.loop-low-test.true, c.loop-low.invariant.ends);

@@ -25,5 +25,6 @@ loop-index-preserved g c =
       | in-Some w ↦ ap (λ v. v.items) w.last-is ∙ ap (λ xs. set xs w.in-Some.leaf.0 (Some index)) c.loop-index.invariant
           ∙ ap (λ n. set (map (last_with (take index definitions)) (leaves table)) n (Some index)) (sym w.in-Some.ensures.1)
           ∙ sym (one_leaf table definitions index c.sequence.result.now (omega (arith, c.loop-index-test.true, c.len-index-end.ensures.count)) c.sequence.ensures w.in-Some.ensures.0)
-      | in_default w ↦ ap (λ v. v.items) w.last-is ∙ c.loop-index.invariant ∙ sym (no_leaf table definitions index c.sequence.result.now (omega (arith, c.loop-index-test.true, c.len-index-end.ensures.count)) c.sequence.ensures w.in_default.ensures)
+      | in_default w ↦ ap (λ v. v.items) w.last-is ∙ c.loop-index.invariant
+          ∙ sym (no_leaf table definitions index c.sequence.result.now (omega (arith, c.loop-index-test.true, c.len-index-end.ensures.count)) c.sequence.ensures w.in_default.ensures)
     ]

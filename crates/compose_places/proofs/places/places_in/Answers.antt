@@ -9,7 +9,9 @@ use Rattle.compose_places.proofs.places.places_in.Goals as goal
 pub loop-lines-preserved : goal.loop-lines-preserved
 loop-lines-preserved c =
     let lines = c.loop-lines.lines in record {
-      told = nothing_more (λ (v : Visit). says_definition v.bytes) place_of c.loop-lines.places.items _ c.loop-lines.visits (1000000 - lines) c.loop-lines.invariant.told (visit_of c.in-Some.line) c.next.new.self (1000000 - (lines + 1)) c.in-Some.ensures.steps
+      told =
+          nothing_more (λ (v : Visit). says_definition v.bytes) place_of c.loop-lines.places.items _ c.loop-lines.visits (1000000 - lines) c.loop-lines.invariant.told
+          (visit_of c.in-Some.line) c.next.new.self (1000000 - (lines + 1)) c.in-Some.ensures.steps
           (omega (arith, c.loop-lines-test.true)) (sym c.if-says_definition.ensures);
       read = omega (arith, c.loop-lines-test.true);
     }
@@ -17,7 +19,9 @@ loop-lines-preserved c =
 pub loop-lines-preserved-in-Continue-1 : goal.loop-lines-preserved-in-Continue-1
 loop-lines-preserved-in-Continue-1 c =
     let lines = c.loop-lines.lines in record {
-      told = one_more (λ (v : Visit). says_definition v.bytes) place_of c.loop-lines.places.items _ c.loop-lines.visits (1000000 - lines) c.loop-lines.invariant.told (visit_of c.in-Some.line) c.next.new.self (1000000 - (lines + 1)) c.in-Some.ensures.steps
+      told =
+          one_more (λ (v : Visit). says_definition v.bytes) place_of c.loop-lines.places.items _ c.loop-lines.visits (1000000 - lines) c.loop-lines.invariant.told
+          (visit_of c.in-Some.line) c.next.new.self (1000000 - (lines + 1)) c.in-Some.ensures.steps
           (omega (arith, c.loop-lines-test.true)) (sym c.if-says_definition.ensures) c.push.new.self.items c.in_ok-push.ensures.items;
       read = omega (arith, c.loop-lines-test.true);
     }

@@ -21,12 +21,14 @@ returns-in_default-clause-finds c = not_utf8 c.args.names.now c.args.sources.now
 pub returns-in-Ok-Blank-clause-finds : goal.returns-in-Ok-Blank-clause-finds
 returns-in-Ok-Blank-clause-finds c =
     let text = c.in-Some.ensures in let events = names_of c.lex_line_into.new.events.items in
-    blank_line c.args.names.now c.args.sources.now c.args.place c.args.bytes.now c.args.draft.now.row text.1 (ap reading_of (sym text.0) ∙ c.in-Ok-Blank.ensures.exact ∙ ap (said events) c.in-Ok-Blank.field-0-is)
+    blank_line c.args.names.now c.args.sources.now c.args.place c.args.bytes.now c.args.draft.now.row text.1
+    (ap reading_of (sym text.0) ∙ c.in-Ok-Blank.ensures.exact ∙ ap (said events) c.in-Ok-Blank.field-0-is)
 
 pub returns-in-Err-clause-finds : goal.returns-in-Err-clause-finds
 returns-in-Err-clause-finds c =
     let text = c.in-Some.ensures in
-    faulty_line c.args.names.now c.args.sources.now c.args.place c.args.bytes.now c.args.draft.now.row text.1 c.in-Err.fault c.lex_fault.result (ap reading_of (sym text.0) ∙ c.in-Err.ensures.exact) c.lex_fault.ensures
+    faulty_line c.args.names.now c.args.sources.now c.args.place c.args.bytes.now c.args.draft.now.row text.1 c.in-Err.fault c.lex_fault.result
+    (ap reading_of (sym text.0) ∙ c.in-Err.ensures.exact) c.lex_fault.ensures
 
 pub returns-in_err-include-in-Ok-Include-clause-finds : goal.returns-in_err-include-in-Ok-Include-clause-finds
 returns-in_err-include-in-Ok-Include-clause-finds c =
@@ -34,13 +36,15 @@ returns-in_err-include-in-Ok-Include-clause-finds c =
     let is : c.from_residual.result ≡ Err fault = search rules in
     subst (FindsLine c.args.names.now c.args.sources.now (visit c.args.place c.args.bytes.now) row) (sym is)
     (refused_include c.args.names.now c.args.sources.now c.args.place c.args.bytes.now row text.1 c.in-Ok-Include.name.now fault
-    (ap reading_of (sym text.0) ∙ c.in-Ok-Include.ensures.exact ∙ ap (said (names_of c.lex_line_into.new.events.items)) c.in-Ok-Include.field-0-is) (c.in_err-include-in-Ok-Include.ensures.exact c.args.bytes.now))
+    (ap reading_of (sym text.0) ∙ c.in-Ok-Include.ensures.exact ∙ ap (said (names_of c.lex_line_into.new.events.items)) c.in-Ok-Include.field-0-is)
+    (c.in_err-include-in-Ok-Include.ensures.exact c.args.bytes.now))
 
 pub returns-in_ok-include-in-Ok-Include-clause-finds : goal.returns-in_ok-include-in-Ok-Include-clause-finds
 returns-in_ok-include-in-Ok-Include-clause-finds c =
     let text = c.in-Some.ensures in let i = c.in_ok-include-in-Ok-Include in
     include_line c.args.names.now c.args.sources.now c.args.place c.args.bytes.now c.args.draft.now.row text.1 c.in-Ok-Include.name.now i.field-0
-    (ap reading_of (sym text.0) ∙ c.in-Ok-Include.ensures.exact ∙ ap (said (names_of c.lex_line_into.new.events.items)) c.in-Ok-Include.field-0-is) (i.ensures.exact c.args.bytes.now) i.ensures.found.0 i.ensures.found.1 i.ensures.found.2
+    (ap reading_of (sym text.0) ∙ c.in-Ok-Include.ensures.exact ∙ ap (said (names_of c.lex_line_into.new.events.items)) c.in-Ok-Include.field-0-is)
+    (i.ensures.exact c.args.bytes.now) i.ensures.found.0 i.ensures.found.1 i.ensures.found.2
 
 pub returns-in_err-read_production-in-Ok-Production-clause-finds : goal.returns-in_err-read_production-in-Ok-Production-clause-finds
 returns-in_err-read_production-in-Ok-Production-clause-finds c =
@@ -59,5 +63,6 @@ returns-in_ok-read_production-in-Ok-Production-clause-finds c =
     let h : reading_of c.args.bytes.now ≡ Ok (production (names_of c.as_slice.result.now) (option_copied p.raw_text) (option_copied p.result_name)) =
     ap reading_of (sym text.0) ∙ p.ensures.exact ∙ ap (said (names_of c.lex_line_into.new.events.items)) p.field-0-is
     ∙ ap (λ es. let r : Result Reading LexFault = Ok (production (names_of es) (option_copied p.raw_text) (option_copied p.result_name)) in r) (sym c.as_slice.ensures.value) in
-    production_line c.args.names.now c.args.sources.now c.args.place c.args.bytes.now c.read_production.new.draft.row text.1 (names_of c.as_slice.result.now) (option_copied p.raw_text) (option_copied p.result_name) h
+    production_line c.args.names.now c.args.sources.now c.args.place c.args.bytes.now c.read_production.new.draft.row text.1 (names_of c.as_slice.result.now) (option_copied p.raw_text)
+    (option_copied p.result_name) h
     (read.exact c.args.bytes.now) read.definition

@@ -14,7 +14,9 @@ decreases-read_source l = l.left
 
 abbrev pub invariant-loop-bytes : goal.invariant-loop-bytes
 invariant-loop-bytes l = record {
-  reads : (ws : List Visit) → reading_on l.names l.sources l.progress (left_to_visit l.sources l.left l.source l.depth l.line l.rest ++ ws) ≡ reading_on l.names l.sources l.fn.progress (visits_below l.sources l.left l.source ++ ws);
+  reads : (ws : List Visit)
+      → reading_on l.names l.sources l.progress (left_to_visit l.sources l.left l.source l.depth l.line l.rest ++ ws)
+      ≡ reading_on l.names l.sources l.fn.progress (visits_below l.sources l.left l.source ++ ws);
   kept : AreKept l.names l.sources l.progress.draft.table l.kept.by_source;
   read : l.progress.lines + length (left_to_visit l.sources l.left l.source l.depth l.line l.rest) ≡ l.fn.progress.lines + length (visits_below l.sources l.left l.source);
   texts : IsTrue l.is_text → All IsUtf8 (lines_of l.rest);

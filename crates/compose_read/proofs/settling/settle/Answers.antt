@@ -26,7 +26,10 @@ returns-in_err-spans-clause-exact c =
     let fault = c.in_err-spans.field-0.0 in
     let is : c.from_residual-in_err-spans.result ≡ Err fault = search rules in
     let given = λ (v : Vec RowSpan Global). rows_of c.deref-2.result.now ts v.items in
-    let same = ap (λ k. settled_neighbours c.args.rule (rows_of k ts sorted)) c.deref-2.ensures.value ∙ sorted_settle c.args.rule c.args.definitions ks c.deref.result.now ts ps sorted c.deref.ensures.value (c.in_ok-sorted.ensures.ascend ts) (c.in_ok-sorted.ensures.same ts) (c.rows.view_is ∙ c.into_rows-rows.ensures.same) in
+    let same =
+    ap (λ k. settled_neighbours c.args.rule (rows_of k ts sorted)) c.deref-2.ensures.value
+    ∙ sorted_settle c.args.rule c.args.definitions ks c.deref.result.now ts ps sorted c.deref.ensures.value (c.in_ok-sorted.ensures.ascend ts) (c.in_ok-sorted.ensures.same ts)
+    (c.rows.view_is ∙ c.into_rows-rows.ensures.same) in
     subst (λ r. SettleGives (λ (rows : List Definition). rows) r (settled c.args.rule c.args.definitions)) (sym is)
     (fault_says given (λ (rows : List Definition). rows) fault (settled c.args.rule c.args.definitions) (subst (SettleGives given (Err fault)) same (c.in_err-spans.ensures.settled ts)))
 
@@ -39,7 +42,9 @@ invariant_of-from_rows c =
 pub from_rows-requires : goal.from_rows-requires
 from_rows-requires c =
     let ks = c.rows.inside.keysyms.items in let ts = string_bytes c.rows.inside.texts in let ps = c.rows.inside.spans.items in let sorted = c.in_ok-sorted.sorted.items in
-    let same = sorted_settle c.args.rule c.args.definitions ks c.deref.result.now ts ps sorted c.deref.ensures.value (c.in_ok-sorted.ensures.ascend ts) (c.in_ok-sorted.ensures.same ts) (c.rows.view_is ∙ c.into_rows-rows.ensures.same) in
+    let same =
+    sorted_settle c.args.rule c.args.definitions ks c.deref.result.now ts ps sorted c.deref.ensures.value (c.in_ok-sorted.ensures.ascend ts) (c.in_ok-sorted.ensures.same ts)
+    (c.rows.view_is ∙ c.into_rows-rows.ensures.same) in
     let kept = subst (λ k. settled_neighbours c.args.rule (rows_of k ts sorted) ≡ said (rows_of k ts c.in_ok-spans.spans.items)) c.deref-2.ensures.value (c.in_ok-spans.ensures.settled ts) in
     let rows = rows_of ks ts c.in_ok-spans.spans.items in record {
       settled = settled_is c.args.rule c.args.definitions rows c.into_rows-rows.ensures.table (sym same ∙ kept);
@@ -49,7 +54,9 @@ from_rows-requires c =
 pub returns-clause-exact : goal.returns-clause-exact
 returns-clause-exact c =
     let ks = c.rows.inside.keysyms.items in let ts = string_bytes c.rows.inside.texts in let ps = c.rows.inside.spans.items in let sorted = c.in_ok-sorted.sorted.items in
-    let same = sorted_settle c.args.rule c.args.definitions ks c.deref.result.now ts ps sorted c.deref.ensures.value (c.in_ok-sorted.ensures.ascend ts) (c.in_ok-sorted.ensures.same ts) (c.rows.view_is ∙ c.into_rows-rows.ensures.same) in
+    let same =
+    sorted_settle c.args.rule c.args.definitions ks c.deref.result.now ts ps sorted c.deref.ensures.value (c.in_ok-sorted.ensures.ascend ts) (c.in_ok-sorted.ensures.same ts)
+    (c.rows.view_is ∙ c.into_rows-rows.ensures.same) in
     let kept = subst (λ k. settled_neighbours c.args.rule (rows_of k ts sorted) ≡ said (rows_of k ts c.in_ok-spans.spans.items)) c.deref-2.ensures.value (c.in_ok-spans.ensures.settled ts) in
     sym same ∙ kept ∙ ap said (sym c.from_rows.ensures)
 

@@ -58,6 +58,7 @@ returns-clause-placed c = λ texts h.
       | in-Some-last-2+in_ok-push-2 w ↦
           (let last = w.in-Some-last-2.span in
           subst (λ k. All placed k.items) (sym w.kept-is)
-          (subst (All placed) (sym w.in_ok-push-2.ensures.items) (All-push placed c.loop-span.kept.items last all.0 (first_of placed last left (subst (λ o. All placed (after o left)) w.in-Some-last-2.is all.1)))))
+          (subst (All placed) (sym w.in_ok-push-2.ensures.items)
+          (All-push placed c.loop-span.kept.items last all.0 (first_of placed last left (subst (λ o. All placed (after o left)) w.in-Some-last-2.is all.1)))))
       | in_default-last w ↦ subst (λ k. All placed k.items) (sym w.kept-is) all.0
     ]

@@ -12,7 +12,8 @@ loop-index-preserved c =
     let ks = c.args.keysyms.now in let ps = c.args.spans.now in let ns = c.loop-index.sort_keys.items in let index = c.loop-index.index in
     let count = c.loop-index.invariant.count in let within : index < length ps = omega arith in
     let missing : RowSpan = record { first_keysym = 0; first_byte = 0; keysym_count = 0; byte_count = 0 } in
-    let its_prefix_sort_key = ap prefix_sort_key c.part_at.ensures ∙ prefix_sort_key_of_part ks c.deref.result.now (get_or ps index missing) (c.deref.ensures.value ∙ c.in_ok-keysym_sort_keys.ensures) in
+    let its_prefix_sort_key =
+    ap prefix_sort_key c.part_at.ensures ∙ prefix_sort_key_of_part ks c.deref.result.now (get_or ps index missing) (c.deref.ensures.value ∙ c.in_ok-keysym_sort_keys.ensures) in
     record {
       count = search rules;
       each = λ d k l. elim (cases_lt k index) [

@@ -20,12 +20,15 @@ loop-index-preserved c =
     elim c.if-sort_key-sort_keys.branch [
       | then-sort_key-sort_keys+in_ok-sort_run w ↦
           (let start = c.loop-index.start in let count = c.loop-index.index - start in
-          let permuted : IsPermutation old spans = subst (IsPermutation old) (sym w.spans-is) (permuted_part old c.loop-index.spans start count w.sort_run.new.run before.permutation w.sort_run.ensures.permutation) in
+          let permuted : IsPermutation old spans =
+          subst (IsPermutation old) (sym w.spans-is) (permuted_part old c.loop-index.spans start count w.sort_run.new.run before.permutation w.sort_run.ensures.permutation) in
           record {
             within = let is = w.start-is in omega arith;
             count = length_permutation old spans permuted;
             permutation = permuted;
-            stable = subst (IsStableBy (by_sequence c.args.keysyms.now) old) (sym w.spans-is) (stable_part old c.loop-index.spans start count w.sort_run.new.run (by_sequence c.args.keysyms.now) before.stable w.sort_run.ensures.stable);
+            stable =
+                subst (IsStableBy (by_sequence c.args.keysyms.now) old) (sym w.spans-is)
+                (stable_part old c.loop-index.spans start count w.sort_run.new.run (by_sequence c.args.keysyms.now) before.stable w.sort_run.ensures.stable);
           })
       | else-sort_key-sort_keys w ↦
           (let permuted = subst (IsPermutation old) (sym w.spans-is) before.permutation in

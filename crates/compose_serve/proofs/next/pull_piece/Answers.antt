@@ -8,5 +8,9 @@ returns-in-Err-feed-clause-so g c =
     let count = c.in-Ok.count in
     let piece = c.pull.new.piece in
     let bytes = take count piece in
-    let taken : length bytes ≡ count = length-take-le count piece c.in-Ok.ensures.1.0 in
-    (c.args.feeder.now ++ bytes, SameStream-kept c.args.feeder.now bytes (g.R.Pull.left c.args.reader.now) (g.R.Pull.left c.pull.new.self) c.in-Ok.ensures.0.0, behind-some c.args.feeder.now bytes (omega arith))
+    let taken : length bytes ≡ count = length-take-le count piece c.in-Ok.ensures.1.0 in (
+      c.args.feeder.now
+          ++ bytes,
+      SameStream-kept c.args.feeder.now bytes (g.R.Pull.left c.args.reader.now) (g.R.Pull.left c.pull.new.self) c.in-Ok.ensures.0.0,
+      behind-some c.args.feeder.now bytes (omega arith),
+    )

@@ -51,7 +51,9 @@ answers-preserved g c =
     let written'' = g.W.Push.written c.push_all.new.writer in
     let request_reads = c.in-Ok.ensures.mark in
     record {
-      going = going_answered _ _ _ _ _ _ (g.W.Push.written c.answers.writer) _ rest c.next_request.new.feeder (request_of c.in-Ok.request) told.0 (g.S.Answer.state c.answer-reply.new.self) written'' going so.2.0 so.2.1 told.1
+      going =
+          going_answered _ _ _ _ _ _ (g.W.Push.written c.answers.writer) _ rest c.next_request.new.feeder (request_of c.in-Ok.request) told.0
+          (g.S.Answer.state c.answer-reply.new.self) written'' going so.2.0 so.2.1 told.1
           (subst (λ (b : List ℕ). Appends (g.W.Push.written c.answers.writer) written'' b) bytes w);
       read_mark = request_reads (λ e. cc) ∙ c.answers.invariant.read_mark;
       write_mark = c.in-Ok-push_all.ensures.kept ∙ c.answers.invariant.write_mark;
@@ -72,5 +74,6 @@ returns-in-Err-next_request-clause-ends g c =
     let left'' = g.R.Pull.left c.next_request-2.new.reader in
     let going = going_read _ _ _ _ _ _ _ _ left'' c.answers.feeder so.0 c.answers.invariant.going so.1 in
     let few : c.answers.count ≤ max_frames = omega arith in
-    ends_at _ _ _ _ _ _ (g.W.Push.written c.answers.writer) _ so.0 going few c.in-Err-next_request.stop c.end_with-in-Err-next_request.result c.next_request-2.new.feeder (g.W.Push.written c.end_with-in-Err-next_request.new.writer)
+    ends_at _ _ _ _ _ _ (g.W.Push.written c.answers.writer) _ so.0 going few c.in-Err-next_request.stop c.end_with-in-Err-next_request.result c.next_request-2.new.feeder
+    (g.W.Push.written c.end_with-in-Err-next_request.new.writer)
     (g.R.Pull.failed c.next_request-2.new.reader) (g.W.Push.failed c.end_with-in-Err-next_request.new.writer) so.2 c.end_with-in-Err-next_request.ensures.so

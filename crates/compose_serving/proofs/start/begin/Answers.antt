@@ -12,4 +12,5 @@ returns-in-Err-start g c =
     let input = c.args.input.now in
     let start : Start = λ names repertoire. started names repertoire (first_table names c.args.sources input.rule) (certificate_of input.certificate.now) in
     subst (λ fault. BeginGives input.header.now input.repertoire.now start (Err fault)) (sym c.of_start.ensures)
-    (refused input.header.now input.repertoire.now start c.in-Ok.names c.in-Ok-read.repertoire (record { names_read = c.in-Ok.ensures; repertoire_read = c.in-Ok-read.ensures }) c.in-Err-start.fault c.in-Err-start.ensures)
+    (refused input.header.now input.repertoire.now start c.in-Ok.names c.in-Ok-read.repertoire
+    (record { names_read = c.in-Ok.ensures; repertoire_read = c.in-Ok-read.ensures }) c.in-Err-start.fault c.in-Err-start.ensures)

@@ -21,4 +21,5 @@ loop-index-preserved g c =
 
 pub returns-clause-again : goal.returns-clause-again
 returns-clause-again g c some =
-    typed_again (g.T.ComposeTable.definitions c.args.table.now) c.args.keysyms.now c.loop-index.index c.loop-index.node.0 c.node_count-nodes.ensures.settled.definitions c.loop-index.invariant (omega (arith, c.loop-index.auto.index-end))
+    typed_again (g.T.ComposeTable.definitions c.args.table.now) c.args.keysyms.now c.loop-index.index c.loop-index.node.0 c.node_count-nodes.ensures.settled.definitions c.loop-index.invariant
+    (omega (arith, c.loop-index.auto.index-end))

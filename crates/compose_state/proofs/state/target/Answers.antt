@@ -11,7 +11,8 @@ one_keysym keysyms i j k e f = let same : Some j ≡ Some k = sym e ∙ f in cc
 pub returns-in_err-node-clause-value : goal.returns-in_err-node-clause-value
 returns-in_err-node-clause-value g c =
     let table = g.T.ComposeTable.definitions c.args.table.now in
-    ap (option_map (λ found. found.1)) c.from_residual.ensures ∙ sym (no_node_no_target table c.args.pending.now c.args.keysym (no_node table c.args.pending.now (sym c.node_of.ensures.value ∙ c.in_err-node.was)))
+    ap (option_map (λ found. found.1)) c.from_residual.ensures
+    ∙ sym (no_node_no_target table c.args.pending.now c.args.keysym (no_node table c.args.pending.now (sym c.node_of.ensures.value ∙ c.in_err-node.was)))
 
 pub find-requires : goal.find-requires
 find-requires g c = (node_found (g.T.ComposeTable.definitions c.args.table.now) c.args.pending.now c.in_ok-node.node (sym c.node_of.ensures.value ∙ c.in_ok-node.was)).in_range
@@ -23,7 +24,8 @@ returns-in_err-edge_index-clause-value g c =
     ap (option_map (λ found. found.1)) c.from_residual-in_err-edge_index.ensures ∙ sym (ap (λ p. target_of table p c.args.keysym) (sym is) ∙ c.in_err-edge_index.ensures)
 
 pub edge-target-requires-clause-node_in_range : goal.edge-target-requires-clause-node_in_range
-edge-target-requires-clause-node_in_range g c = (node_found (g.T.ComposeTable.definitions c.args.table.now) c.args.pending.now c.in_ok-node.node (sym c.node_of.ensures.value ∙ c.in_ok-node.was)).in_range
+edge-target-requires-clause-node_in_range g c =
+    (node_found (g.T.ComposeTable.definitions c.args.table.now) c.args.pending.now c.in_ok-node.node (sym c.node_of.ensures.value ∙ c.in_ok-node.was)).in_range
 
 pub returns-clause-value : goal.returns-clause-value
 returns-clause-value g c =
@@ -34,7 +36,9 @@ returns-clause-value g c =
 
 pub returns-clause-room : goal.returns-clause-room
 returns-clause-room g c edge_index n e =
-    node_room (g.T.ComposeTable.definitions c.args.table.now) c.args.pending.now c.args.keysym n c.node_count-nodes.ensures.settled.definitions (sym (returns-clause-value g c) ∙ ap (option_map (λ found. found.1)) e)
+    node_room (g.T.ComposeTable.definitions c.args.table.now) c.args.pending.now c.args.keysym n c.node_count-nodes.ensures.settled.definitions
+    (sym (returns-clause-value g c) ∙ ap (option_map (λ found. found.1)) e)
 
 pub returns-clause-leaf : goal.returns-clause-leaf
-returns-clause-leaf g c edge_index l e = (to_leaf (g.T.ComposeTable.definitions c.args.table.now) c.args.pending.now c.args.keysym l (sym (returns-clause-value g c) ∙ ap (option_map (λ found. found.1)) e)).in_range
+returns-clause-leaf g c edge_index l e =
+    (to_leaf (g.T.ComposeTable.definitions c.args.table.now) c.args.pending.now c.args.keysym l (sym (returns-clause-value g c) ∙ ap (option_map (λ found. found.1)) e)).in_range

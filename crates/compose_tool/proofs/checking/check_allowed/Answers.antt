@@ -26,7 +26,9 @@ returns-in-Some g c =
     let key_names = map (λ word. word.now) c.args.key_names.now in
     let input = input_of c.args.input.now in
     let p = c.in_ok-answer.ensures.0 in
-    let certificate = one_read (or_because (λ why. unread (no_certificate why)) (certificate_of input.certificate)) _ p.certificate c.in_ok-certificate-in-Yes.ensures (certificate_read input p c.in_ok-answer.ensures.1) in
+    let certificate =
+    one_read (or_because (λ why. unread (no_certificate why)) (certificate_of input.certificate)) _ p.certificate c.in_ok-certificate-in-Yes.ensures
+    (certificate_read input p c.in_ok-answer.ensures.1) in
     let yes = subst (λ (a : Answer). IsChecked p a) c.in-Yes.is c.in_ok-answer.ensures.2 in
     let first = ap₂ first_not_among (sym c.deref.ensures.value) (ap (λ (c : Certificate). c.fresh) certificate ∙ sym c.fresh_keys.ensures) ∙ sym c.first_not_allowed.ensures ∙ c.in-Some.is in
     (_, allowed_read key_names input (named_parts c.in_ok-named.named) c.in_ok-named.ensures p c.in_ok-answer.ensures.1, (yes.0, first))
@@ -36,7 +38,9 @@ returns-in-Yes g c =
     let key_names = map (λ word. word.now) c.args.key_names.now in
     let input = input_of c.args.input.now in
     let p = c.in_ok-answer.ensures.0 in
-    let certificate = one_read (or_because (λ why. unread (no_certificate why)) (certificate_of input.certificate)) _ p.certificate c.in_ok-certificate-in-Yes.ensures (certificate_read input p c.in_ok-answer.ensures.1) in
+    let certificate =
+    one_read (or_because (λ why. unread (no_certificate why)) (certificate_of input.certificate)) _ p.certificate c.in_ok-certificate-in-Yes.ensures
+    (certificate_read input p c.in_ok-answer.ensures.1) in
     let yes = subst (λ (a : Answer). IsChecked p a) c.in-Yes.is c.in_ok-answer.ensures.2 in
     let first = ap₂ first_not_among (sym c.deref.ensures.value) (ap (λ (c : Certificate). c.fresh) certificate ∙ sym c.fresh_keys.ensures) ∙ sym c.first_not_allowed.ensures ∙ c.in-None.is in
     (_, allowed_read key_names input (named_parts c.in_ok-named.named) c.in_ok-named.ensures p c.in_ok-answer.ensures.1, (yes, first))
@@ -45,5 +49,9 @@ pub returns : goal.returns
 returns g c =
     let key_names = map (λ word. word.now) c.args.key_names.now in
     let input = input_of c.args.input.now in
-    let p = c.in_ok-answer.ensures.0 in
-    (_, allowed_read key_names input (named_parts c.in_ok-named.named) c.in_ok-named.ensures p c.in_ok-answer.ensures.1, other_checked (record { checked = p; allowed = c.in_ok-named.named.keys.items }) c.in_ok-answer.answer c.in_default.not-Yes c.in_ok-answer.ensures.2)
+    let p = c.in_ok-answer.ensures.0 in (
+      _,
+      allowed_read key_names input (named_parts c.in_ok-named.named) c.in_ok-named.ensures p c.in_ok-answer.ensures.1,
+      other_checked
+          (record { checked = p; allowed = c.in_ok-named.named.keys.items }) c.in_ok-answer.answer c.in_default.not-Yes c.in_ok-answer.ensures.2,
+    )

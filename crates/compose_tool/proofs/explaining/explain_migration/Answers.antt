@@ -18,4 +18,5 @@ returns g c =
     let given = given_of c.args.input.now in
     let move = parts g.T.ComposeTable.definitions c.in_ok-migration.migration in
     subst (λ (s : Result Explainable NoAnswer). Gives IsExplained c.explain_tables.result s)
-    (sym (explain_read given move c.in_ok-migration.ensures c.deref-2.result.now (c.deref-2.ensures.value ∙ c.in_ok-fresh.ensures ∙ ap (rising nat_cmp) c.deref.ensures.value))) c.explain_tables.ensures
+    (sym
+    (explain_read given move c.in_ok-migration.ensures c.deref-2.result.now (c.deref-2.ensures.value ∙ c.in_ok-fresh.ensures ∙ ap (rising nat_cmp) c.deref.ensures.value))) c.explain_tables.ensures

@@ -26,4 +26,6 @@ returns g c =
     let given = given_of c.args.input.now in
     let move = parts g.T.ComposeTable.definitions c.in_ok-migration.migration in
     subst (λ (s : Result Needs NoAnswer). Gives IsMadeText c.tell_made.result s)
-    (sym (make_read given move c.in_ok-migration.ensures c.args.repertoire.now c.in_ok-repertoire.repertoire c.in_ok-repertoire.ensures c.deref-2.result.now (c.deref-2.ensures.value ∙ c.in_ok-fresh.ensures ∙ ap (rising nat_cmp) c.deref.ensures.value))) c.tell_made.ensures
+    (sym
+    (make_read given move c.in_ok-migration.ensures c.args.repertoire.now c.in_ok-repertoire.repertoire c.in_ok-repertoire.ensures c.deref-2.result.now
+    (c.deref-2.ensures.value ∙ c.in_ok-fresh.ensures ∙ ap (rising nat_cmp) c.deref.ensures.value))) c.tell_made.ensures

@@ -5,4 +5,6 @@ use Rattle.compose_tool.proofs.manifest.has_tab.Goals as goal
 
 pub returns-in-None : goal.returns-in-None
 returns-in-None c =
-    sym (no_tab c.args.text.now (λ i less is. c.in-None.ensures i (omega arith) (omega (arith, ap length c.as_bytes.ensures.value)) (eq-eqb _ 9 (ap (λ xs. get_or xs i 0) c.as_bytes.ensures.value ∙ is)))).1
+    sym
+    (no_tab c.args.text.now
+    (λ i less is. c.in-None.ensures i (omega arith) (omega (arith, ap length c.as_bytes.ensures.value)) (eq-eqb _ 9 (ap (λ xs. get_or xs i 0) c.as_bytes.ensures.value ∙ is)))).1

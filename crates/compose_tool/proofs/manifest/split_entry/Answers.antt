@@ -9,7 +9,9 @@ use Rattle.compose_tool.proofs.manifest.split_entry.Goals as goal
 pub returns-in_err-at : goal.returns-in_err-at
 returns-in_err-at c =
     ap (option_map entry) c.from_residual.ensures ∙
-    sym (no_entry c.args.text.now (λ i less is. c.in_err-at.ensures i (omega arith) (omega (arith, ap length c.as_bytes.ensures.value)) (eq-eqb _ 9 (ap (λ xs. get_or xs i 0) c.as_bytes.ensures.value ∙ is))))
+    sym
+    (no_entry c.args.text.now
+    (λ i less is. c.in_err-at.ensures i (omega arith) (omega (arith, ap length c.as_bytes.ensures.value)) (eq-eqb _ 9 (ap (λ xs. get_or xs i 0) c.as_bytes.ensures.value ∙ is))))
 
 from_start : (n : ℕ) → n - 0 ≡ n
 from_start n = omega arith
@@ -32,7 +34,9 @@ returns-then-not-are_parts c =
     let tab : TabAt text at = first_tab text at (omega (arith, found.0.high, ap length c.as_bytes.ensures.value))
     (ap (λ xs. get_or xs at 0) (sym c.as_bytes.ensures.value) ∙ eqb-true _ 9 found.1)
     (λ i less is. found.0.before i (omega arith) less (eq-eqb _ 9 (ap (λ xs. get_or xs i 0) c.as_bytes.ensures.value ∙ is))) in
-    sym (bad_entry text at tab c.range-name.result.now c.range_from-path.result.now (c.range-name.ensures.value ∙ ap (λ n. take n text) (from_start at)) c.range_from-path.ensures.value (sym c.are_parts.ensures ∙ c.if-not-are_parts.true))
+    sym
+    (bad_entry text at tab c.range-name.result.now c.range_from-path.result.now (c.range-name.ensures.value ∙ ap (λ n. take n text) (from_start at)) c.range_from-path.ensures.value
+    (sym c.are_parts.ensures ∙ c.if-not-are_parts.true))
 
 pub returns : goal.returns
 returns c =
@@ -42,4 +46,6 @@ returns c =
     let tab : TabAt text at = first_tab text at (omega (arith, found.0.high, ap length c.as_bytes.ensures.value))
     (ap (λ xs. get_or xs at 0) (sym c.as_bytes.ensures.value) ∙ eqb-true _ 9 found.1)
     (λ i less is. found.0.before i (omega arith) less (eq-eqb _ 9 (ap (λ xs. get_or xs i 0) c.as_bytes.ensures.value ∙ is))) in
-    sym (good_entry text at tab c.range-name.result.now c.range_from-path.result.now (c.range-name.ensures.value ∙ ap (λ n. take n text) (from_start at)) c.range_from-path.ensures.value (sym c.are_parts.ensures ∙ c.if-not-are_parts.false))
+    sym
+    (good_entry text at tab c.range-name.result.now c.range_from-path.result.now (c.range-name.ensures.value ∙ ap (λ n. take n text) (from_start at)) c.range_from-path.ensures.value
+    (sym c.are_parts.ensures ∙ c.if-not-are_parts.false))

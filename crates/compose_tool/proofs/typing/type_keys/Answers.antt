@@ -11,7 +11,8 @@ returns-in_err-named g c =
     let header = c.args.header.now in
     let key_names = map (λ word. word.now) c.args.key_names.now in
     let given = table_given c.args.table.now in
-    refusal_gives IsTyped c.from_residual.result c.in_err-named.field-0.0 (type_parts header key_names given) (search rules) (named_refused header key_names given c.in_err-named.field-0.0 c.in_err-named.ensures)
+    refusal_gives IsTyped c.from_residual.result c.in_err-named.field-0.0 (type_parts header key_names given) (search rules)
+    (named_refused header key_names given c.in_err-named.field-0.0 c.in_err-named.ensures)
 
 pub returns-in_err-table : goal.returns-in_err-table
 returns-in_err-table g c =

@@ -21,8 +21,10 @@ loop-edge-init c =
     let rows = gathered 0 ds es in
     let none : PackedNode = record { depth = 0; first = 0 } in
     let count : (get_or c.args.nodes.now (length ds) none).first ≡ length (packed_edges rows) =
-    ap (λ ns. (get_or ns (length ds) none).first) c.requires.nodes ∙ ap (λ n. (get_or (packed_nodes 0 rows) n none).first) (sym (rows_count 0 ds es)) ∙ end_offset rows 0 none ∙ zero-add (length (packed_edges rows)) in
-    let laid_blank : c.in_ok-packed.packed.items ≡ replicate (get_or c.args.nodes.now (length ds) none).first (record { keysym = c.default.result; target = 0 }) = c.in_ok-packed.ensures.items_if_clones_equal (λ y same. same) in
+    ap (λ ns. (get_or ns (length ds) none).first) c.requires.nodes ∙ ap (λ n. (get_or (packed_nodes 0 rows) n none).first) (sym (rows_count 0 ds es)) ∙ end_offset rows 0 none
+    ∙ zero-add (length (packed_edges rows)) in
+    let laid_blank : c.in_ok-packed.packed.items ≡ replicate (get_or c.args.nodes.now (length ds) none).first (record { keysym = c.default.result; target = 0 }) =
+    c.in_ok-packed.ensures.items_if_clones_equal (λ y same. same) in
     let none_counted : c.in_ok-counts.counts.items ≡ replicate (length ds) 0 = search rules in
     record {
       so_far = laid_blank ∙ (λ t. replicate (count t) (record { keysym = c.default.ensures t; target = 0 })) ∙ sym (laid_none 0 ds es);
@@ -31,35 +33,44 @@ loop-edge-init c =
 
 pub bounds-nodes-node : goal.bounds-nodes-node
 bounds-nodes-node c =
-    let p = put_at c.args.depths.now c.args.edges.now c.loop-edge.edge-index c.edge-item.result c.args.nodes.now c.loop-edge.packed.items c.loop-edge.counts.items c.requires.at_nodes c.loop-edge-test.true c.edge-item.is c.requires.nodes c.loop-edge.invariant.so_far c.loop-edge.invariant.counted in
+    let p =
+    put_at c.args.depths.now c.args.edges.now c.loop-edge.edge-index c.edge-item.result c.args.nodes.now c.loop-edge.packed.items c.loop-edge.counts.items c.requires.at_nodes c.loop-edge-test.true c.edge-item.is c.requires.nodes c.loop-edge.invariant.so_far c.loop-edge.invariant.counted in
     omega (arith, p.at_node)
 
 pub overflow_add-offset : goal.overflow_add-offset
 overflow_add-offset c =
-    let p = put_at c.args.depths.now c.args.edges.now c.loop-edge.edge-index c.edge-item.result c.args.nodes.now c.loop-edge.packed.items c.loop-edge.counts.items c.requires.at_nodes c.loop-edge-test.true c.edge-item.is c.requires.nodes c.loop-edge.invariant.so_far c.loop-edge.invariant.counted in
+    let p =
+    put_at c.args.depths.now c.args.edges.now c.loop-edge.edge-index c.edge-item.result c.args.nodes.now c.loop-edge.packed.items c.loop-edge.counts.items c.requires.at_nodes c.loop-edge-test.true c.edge-item.is c.requires.nodes c.loop-edge.invariant.so_far c.loop-edge.invariant.counted in
     let none : PackedNode = record { depth = 0; first = 0 } in
-    let offset : (get_or c.args.nodes.now c.edge-item.result.node none).first + c.index-count.result.now ≡ p.q = ap (λ n. (get_or c.args.nodes.now c.edge-item.result.node none).first + n) c.index-count.ensures ∙ p.next none c.index-count.result.now in
+    let offset : (get_or c.args.nodes.now c.edge-item.result.node none).first + c.index-count.result.now ≡ p.q =
+    ap (λ n. (get_or c.args.nodes.now c.edge-item.result.node none).first + n) c.index-count.ensures ∙ p.next none c.index-count.result.now in
     omega (arith, p.within, offset, c.loop-edge.packed.small)
 
 pub index_mut-requires : goal.index_mut-requires
 index_mut-requires c =
-    let p = put_at c.args.depths.now c.args.edges.now c.loop-edge.edge-index c.edge-item.result c.args.nodes.now c.loop-edge.packed.items c.loop-edge.counts.items c.requires.at_nodes c.loop-edge-test.true c.edge-item.is c.requires.nodes c.loop-edge.invariant.so_far c.loop-edge.invariant.counted in
+    let p =
+    put_at c.args.depths.now c.args.edges.now c.loop-edge.edge-index c.edge-item.result c.args.nodes.now c.loop-edge.packed.items c.loop-edge.counts.items c.requires.at_nodes c.loop-edge-test.true c.edge-item.is c.requires.nodes c.loop-edge.invariant.so_far c.loop-edge.invariant.counted in
     let none : PackedNode = record { depth = 0; first = 0 } in
-    let offset : (get_or c.args.nodes.now c.edge-item.result.node none).first + c.index-count.result.now ≡ p.q = ap (λ n. (get_or c.args.nodes.now c.edge-item.result.node none).first + n) c.index-count.ensures ∙ p.next none c.index-count.result.now in
+    let offset : (get_or c.args.nodes.now c.edge-item.result.node none).first + c.index-count.result.now ≡ p.q =
+    ap (λ n. (get_or c.args.nodes.now c.edge-item.result.node none).first + n) c.index-count.ensures ∙ p.next none c.index-count.result.now in
     omega (arith, p.within, offset)
 
 pub overflow_add-count : goal.overflow_add-count
 overflow_add-count c =
-    let p = put_at c.args.depths.now c.args.edges.now c.loop-edge.edge-index c.edge-item.result c.args.nodes.now c.loop-edge.packed.items c.loop-edge.counts.items c.requires.at_nodes c.loop-edge-test.true c.edge-item.is c.requires.nodes c.loop-edge.invariant.so_far c.loop-edge.invariant.counted in
+    let p =
+    put_at c.args.depths.now c.args.edges.now c.loop-edge.edge-index c.edge-item.result c.args.nodes.now c.loop-edge.packed.items c.loop-edge.counts.items c.requires.at_nodes c.loop-edge-test.true c.edge-item.is c.requires.nodes c.loop-edge.invariant.so_far c.loop-edge.invariant.counted in
     let none : PackedNode = record { depth = 0; first = 0 } in
-    let offset : (get_or c.args.nodes.now c.edge-item.result.node none).first + c.index-count.result.now ≡ p.q = ap (λ n. (get_or c.args.nodes.now c.edge-item.result.node none).first + n) c.index-count.ensures ∙ p.next none c.index-count.result.now in
+    let offset : (get_or c.args.nodes.now c.edge-item.result.node none).first + c.index-count.result.now ≡ p.q =
+    ap (λ n. (get_or c.args.nodes.now c.edge-item.result.node none).first + n) c.index-count.ensures ∙ p.next none c.index-count.result.now in
     omega (arith, p.within, offset, c.loop-edge.packed.small)
 
 pub loop-edge-preserved : goal.loop-edge-preserved
 loop-edge-preserved c =
-    let p = put_at c.args.depths.now c.args.edges.now c.loop-edge.edge-index c.edge-item.result c.args.nodes.now c.loop-edge.packed.items c.loop-edge.counts.items c.requires.at_nodes c.loop-edge-test.true c.edge-item.is c.requires.nodes c.loop-edge.invariant.so_far c.loop-edge.invariant.counted in
+    let p =
+    put_at c.args.depths.now c.args.edges.now c.loop-edge.edge-index c.edge-item.result c.args.nodes.now c.loop-edge.packed.items c.loop-edge.counts.items c.requires.at_nodes c.loop-edge-test.true c.edge-item.is c.requires.nodes c.loop-edge.invariant.so_far c.loop-edge.invariant.counted in
     let none : PackedNode = record { depth = 0; first = 0 } in
-    let offset : (get_or c.args.nodes.now c.edge-item.result.node none).first + c.index-count.result.now ≡ p.q = ap (λ n. (get_or c.args.nodes.now c.edge-item.result.node none).first + n) c.index-count.ensures ∙ p.next none c.index-count.result.now in
+    let offset : (get_or c.args.nodes.now c.edge-item.result.node none).first + c.index-count.result.now ≡ p.q =
+    ap (λ n. (get_or c.args.nodes.now c.edge-item.result.node none).first + n) c.index-count.ensures ∙ p.next none c.index-count.result.now in
     record {
       so_far = ap (λ q. set c.loop-edge.packed.items q c.pack_edge.result) offset ∙ ap (set c.loop-edge.packed.items p.q) c.pack_edge.ensures ∙ p.packed_is;
       counted = p.counts_are c.index-count.result.now c.index-count.ensures;

@@ -22,7 +22,8 @@ loop-index-init c = record {
 pub overflow_add-offset : goal.overflow_add-offset
 overflow_add-offset c =
     let ds = c.args.depths.now in let es = c.args.edges.now in let k = c.loop-index.index in
-    let count : c.index.result.now ≡ length (edges_at (0 + k) es) = c.index.ensures ∙ ap (λ counts. get_or counts k c.index.result.now) c.in_ok-counts.ensures ∙ count_at 0 k c.index.result.now ds es c.loop-index-test.true in
+    let count : c.index.result.now ≡ length (edges_at (0 + k) es) =
+    c.index.ensures ∙ ap (λ counts. get_or counts k c.index.result.now) c.in_ok-counts.ensures ∙ count_at 0 k c.index.result.now ds es c.loop-index-test.true in
     let same = ap (λ i. length (edges_at i es)) (zero-add k) in
     let left = of_node_and_behind k es in
     omega (arith, count, same, left, c.loop-index.invariant.left, c.requires.few)
@@ -30,9 +31,14 @@ overflow_add-offset c =
 pub loop-index-preserved : goal.loop-index-preserved
 loop-index-preserved c =
     let ds = c.args.depths.now in let es = c.args.edges.now in let k = c.loop-index.index in
-    let count : c.index.result.now ≡ length (edges_at (0 + k) es) = c.index.ensures ∙ ap (λ counts. get_or counts k c.index.result.now) c.in_ok-counts.ensures ∙ count_at 0 k c.index.result.now ds es c.loop-index-test.true in
-    let next : c.loop-index.offset + c.index.result.now ≡ c.loop-index.offset + length (edges_at k es) = ap (λ n. c.loop-index.offset + n) count ∙ ap (λ i. c.loop-index.offset + length (edges_at i es)) (zero-add k) in
+    let count : c.index.result.now ≡ length (edges_at (0 + k) es) =
+    c.index.ensures ∙ ap (λ counts. get_or counts k c.index.result.now) c.in_ok-counts.ensures ∙ count_at 0 k c.index.result.now ds es c.loop-index-test.true in
+    let next : c.loop-index.offset + c.index.result.now ≡ c.loop-index.offset + length (edges_at k es) =
+    ap (λ n. c.loop-index.offset + n) count ∙ ap (λ i. c.loop-index.offset + length (edges_at i es)) (zero-add k) in
     record {
-      nodes = nodes_step ds es k c.loop-index.offset (c.loop-index.offset + c.index.result.now) (get_or ds k 0) (packed_nodes 0 (gathered 0 ds es)) c.loop-index.nodes.items c.push.new.self.items c.loop-index-test.true (get_or_default ds k 0 (get_or ds k 0) c.loop-index-test.true) next c.in_ok-push.ensures.items c.loop-index.invariant.nodes;
+      nodes =
+          nodes_step ds es k c.loop-index.offset (c.loop-index.offset + c.index.result.now) (get_or ds k 0)
+          (packed_nodes 0 (gathered 0 ds es)) c.loop-index.nodes.items c.push.new.self.items c.loop-index-test.true
+          (get_or_default ds k 0 (get_or ds k 0) c.loop-index-test.true) next c.in_ok-push.ensures.items c.loop-index.invariant.nodes;
       left = (let left = of_node_and_behind k es in omega (arith, next, left, c.loop-index.invariant.left));
     }

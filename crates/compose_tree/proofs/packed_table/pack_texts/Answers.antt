@@ -23,7 +23,9 @@ loop-index-preserved c =
     let on = texts_on all i t (omega arith) c.text-text.ensures in
     let few = text_few_at all i t c.len.ensures.settled (omega arith) c.text-text.ensures in
     record {
-      offsets_left = offsets_step all i c.loop-index.offset (c.loop-index.offset + length t) (packed_offsets 0 (texts_of all)) c.loop-index.offsets.items c.push.new.self.items t c.loop-index.invariant.offsets_left on c.in_ok-push.ensures.items refl;
+      offsets_left =
+          offsets_step all i c.loop-index.offset (c.loop-index.offset + length t)
+          (packed_offsets 0 (texts_of all)) c.loop-index.offsets.items c.push.new.self.items t c.loop-index.invariant.offsets_left on c.in_ok-push.ensures.items refl;
       offset_few = omega (arith, few, c.loop-index.invariant.offset_few);
       bytes_left = pool_step all i (pool (texts_of all)) (string_bytes c.loop-index.texts) (string_bytes c.push_str.new.self) t c.loop-index.invariant.bytes_left on c.in_ok-push_str.ensures.bytes;
       utf8_left = λ h. c.loop-index.invariant.utf8_left (utf8_step all i t on c.text-text.utf8 h);

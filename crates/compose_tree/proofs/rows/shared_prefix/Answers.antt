@@ -8,4 +8,6 @@ pub returns-else-count-other : goal.returns-else-count-other
 returns-else-count-other c =
     let n = c.loop-count.count in
     let past : length c.args.other.now ≤ n = omega arith in
-    sym (c.loop-count.invariant.so_far ∙ ap (λ t. n + shared (drop n c.args.one.now) t) (drop_of_length-le c.args.other.now past) ∙ ap (λ m. n + m) (shared_nothing (drop n c.args.one.now)) ∙ add-zero n)
+    sym
+    (c.loop-count.invariant.so_far ∙ ap (λ t. n + shared (drop n c.args.one.now) t) (drop_of_length-le c.args.other.now past) ∙ ap (λ m. n + m) (shared_nothing (drop n c.args.one.now))
+    ∙ add-zero n)

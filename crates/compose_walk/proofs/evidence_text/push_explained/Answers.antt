@@ -6,8 +6,10 @@ use Rattle.compose_walk.proofs.evidence_text.push_explained.Goals as goal
 
 pub returns : goal.returns
 returns c =
-    four_lines c.args.names.now c.args.counterexample.now (string_bytes c.args.text.now) (string_bytes c.push_keys.new.text) (string_bytes c.push_str.new.self) (string_bytes c.push_str-2.new.self) (string_bytes c.push_str-3.new.self)
-    (string_bytes c.push_quoted.new.text) (string_bytes c.push_str-4.new.self) (string_bytes c.push_quoted-2.new.text) (string_bytes c.push_str-5.new.self) c.word.result.now c.as_str.result.now c.as_str-2.result.now
+    four_lines c.args.names.now c.args.counterexample.now (string_bytes c.args.text.now) (string_bytes c.push_keys.new.text) (string_bytes c.push_str.new.self) (string_bytes c.push_str-2.new.self)
+    (string_bytes c.push_str-3.new.self)
+    (string_bytes c.push_quoted.new.text) (string_bytes c.push_str-4.new.self) (string_bytes c.push_quoted-2.new.text)
+    (string_bytes c.push_str-5.new.self) c.word.result.now c.as_str.result.now c.as_str-2.result.now
     c.in_ok-push_keys.ensures c.in_ok-push_str.ensures.bytes c.in_ok-push_str-2.ensures.bytes
     (c.word.ensures ∙ ap (λ (x : Evidence). kind_word x.kind) c.counterexample.view_is)
     c.in_ok-push_str-3.ensures.bytes c.in_ok-push_quoted.ensures

@@ -11,18 +11,23 @@ pub edge-keysym-requires-clause-node_in_range : goal.edge-keysym-requires-clause
 edge-keysym-requires-clause-node_in_range g c = root_below (g.U.ComposeTable.definitions c.args.new.now)
 
 pub is_differing_start-requires-clause-target : goal.is_differing_start-requires-clause-target
-is_differing_start-requires-clause-target g c = ap (λ p. target_of (g.U.ComposeTable.definitions c.args.new.now) p c.edge-keysym.result.0) (sym (node_zero (g.U.ComposeTable.definitions c.args.new.now))) ∙ c.edge-keysym.ensures.target
+is_differing_start-requires-clause-target g c =
+    ap (λ p. target_of (g.U.ComposeTable.definitions c.args.new.now) p c.edge-keysym.result.0) (sym (node_zero (g.U.ComposeTable.definitions c.args.new.now))) ∙ c.edge-keysym.ensures.target
 
 pub loop-index-preserved : goal.loop-index-preserved
 loop-index-preserved g c =
-    start_found c.args.names.now c.args.fresh.now (g.T.ComposeTable.definitions c.args.old.now) (g.U.ComposeTable.definitions c.args.new.now) c.loop-index.index c.edge-keysym.result.0 c.loop-index.found.items c.edge-keysym.ensures.keysym c.loop-index.invariant
+    start_found c.args.names.now c.args.fresh.now (g.T.ComposeTable.definitions c.args.old.now)
+    (g.U.ComposeTable.definitions c.args.new.now) c.loop-index.index c.edge-keysym.result.0 c.loop-index.found.items c.edge-keysym.ensures.keysym c.loop-index.invariant
     (sym c.is_differing_start.ensures ∙ c.if-not-is_differing_start.false) _ refl refl refl c.push.new.self.items c.in_ok-push.ensures.items
 
 pub loop-index-preserved-then-not-is_differing_start : goal.loop-index-preserved-then-not-is_differing_start
 loop-index-preserved-then-not-is_differing_start g c =
-    start_passed c.args.names.now c.args.fresh.now (g.T.ComposeTable.definitions c.args.old.now) (g.U.ComposeTable.definitions c.args.new.now) c.loop-index.index c.edge-keysym.result.0 c.loop-index.found.items c.edge-keysym.ensures.keysym c.loop-index.invariant
+    start_passed c.args.names.now c.args.fresh.now (g.T.ComposeTable.definitions c.args.old.now)
+    (g.U.ComposeTable.definitions c.args.new.now) c.loop-index.index c.edge-keysym.result.0 c.loop-index.found.items c.edge-keysym.ensures.keysym c.loop-index.invariant
     (sym c.is_differing_start.ensures ∙ c.if-not-is_differing_start.true)
 
 pub returns-clause-found : goal.returns-clause-found
 returns-clause-found g c =
-    c.loop-index.invariant ∙ starts_all c.args.names.now c.args.fresh.now (g.T.ComposeTable.definitions c.args.old.now) (g.U.ComposeTable.definitions c.args.new.now) c.loop-index.index (omega (arith, c.edge_count-index-end.ensures))
+    c.loop-index.invariant
+    ∙ starts_all c.args.names.now c.args.fresh.now (g.T.ComposeTable.definitions c.args.old.now) (g.U.ComposeTable.definitions c.args.new.now) c.loop-index.index
+    (omega (arith, c.edge_count-index-end.ensures))

@@ -7,4 +7,6 @@ use Rattle.compose_walk.proofs.pass.find_new_starts.Given as goal
 
 abbrev pub invariant-loop-index : goal.invariant-loop-index
 invariant-loop-index g l =
-    l.found.items ≡ map (found_at (g.T.ComposeTable.definitions l.old) []) (filter (is_differing_start l.names l.fresh (g.T.ComposeTable.definitions l.old) (g.U.ComposeTable.definitions l.new)) (take l.index (edges (g.U.ComposeTable.definitions l.new) [])))
+    l.found.items
+    ≡ map (found_at (g.T.ComposeTable.definitions l.old) [])
+    (filter (is_differing_start l.names l.fresh (g.T.ComposeTable.definitions l.old) (g.U.ComposeTable.definitions l.new)) (take l.index (edges (g.U.ComposeTable.definitions l.new) [])))

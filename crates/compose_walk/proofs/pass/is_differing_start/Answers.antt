@@ -11,11 +11,13 @@ step-requires g c = root_below (g.T.ComposeTable.definitions c.args.old.now)
 
 pub returns-then-is_some : goal.returns-then-is_some
 returns-then-is_some g c =
-    known_start c.args.names.now c.args.fresh.now (g.T.ComposeTable.definitions c.args.old.now) (g.U.ComposeTable.definitions c.args.new.now) c.args.keysym c.step.result c.step.ensures (sym c.is_some.ensures ∙ c.if-is_some.true)
+    known_start c.args.names.now c.args.fresh.now (g.T.ComposeTable.definitions c.args.old.now) (g.U.ComposeTable.definitions c.args.new.now) c.args.keysym c.step.result c.step.ensures
+    (sym c.is_some.ensures ∙ c.if-is_some.true)
 
 pub returns-then-is_among : goal.returns-then-is_among
 returns-then-is_among g c =
-    fresh_start c.args.names.now c.args.fresh.now (g.T.ComposeTable.definitions c.args.old.now) (g.U.ComposeTable.definitions c.args.new.now) c.args.keysym (sym c.is_among.ensures ∙ c.if-is_among.true)
+    fresh_start c.args.names.now c.args.fresh.now (g.T.ComposeTable.definitions c.args.old.now) (g.U.ComposeTable.definitions c.args.new.now) c.args.keysym
+    (sym c.is_among.ensures ∙ c.if-is_among.true)
 
 pub key_step-old_step-requires-clause-node_in_range : goal.key_step-old_step-requires-clause-node_in_range
 key_step-old_step-requires-clause-node_in_range g c = root_below (g.T.ComposeTable.definitions c.args.old.now)
@@ -30,7 +32,8 @@ pub key_step-new_step-requires-clause-node_in_range : goal.key_step-new_step-req
 key_step-new_step-requires-clause-node_in_range g c = root_below (g.U.ComposeTable.definitions c.args.new.now)
 
 pub key_step-new_step-requires-clause-target : goal.key_step-new_step-requires-clause-target
-key_step-new_step-requires-clause-target g c = sym c.requires.target ∙ ap (λ p. target_of (g.U.ComposeTable.definitions c.args.new.now) p c.args.keysym) (sym (node_zero (g.U.ComposeTable.definitions c.args.new.now)))
+key_step-new_step-requires-clause-target g c =
+    sym c.requires.target ∙ ap (λ p. target_of (g.U.ComposeTable.definitions c.args.new.now) p c.args.keysym) (sym (node_zero (g.U.ComposeTable.definitions c.args.new.now)))
 
 pub key_step-new_step-requires-clause-fed : goal.key_step-new_step-requires-clause-fed
 key_step-new_step-requires-clause-fed g c = target_fed (g.U.ComposeTable.definitions c.args.new.now) [] c.args.keysym c.args.target c.requires.new_table c.requires.target

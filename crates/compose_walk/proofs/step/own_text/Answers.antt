@@ -7,4 +7,12 @@ push-requires c = omega (arith, length-encode c.in-Some.character, len_utf8_boun
 
 pub returns-in-Some-clause-short : goal.returns-in-Some-clause-short
 returns-in-Some-clause-short c =
-    omega (arith, length-encode c.in-Some.character, len_utf8_bounds c.in-Some.character, ap length c.new-own.ensures, ap length c.push.ensures.bytes, length-append c.new-own.result.bytes (encode_utf8 c.in-Some.character))
+    omega (
+      arith,
+      length-encode c.in-Some.character,
+      len_utf8_bounds c.in-Some.character,
+      ap length c.new-own.ensures,
+      ap length c.push.ensures.bytes,
+      length-append c.new-own.result.bytes
+          (encode_utf8 c.in-Some.character),
+    )

@@ -9,7 +9,8 @@ use Rattle.compose_walk.proofs.walker.walk_accepted.Goals as goal
 pub returns-then-is_empty : goal.returns-then-is_empty
 returns-then-is_empty g c =
     let none = eqb-true (vec_len c.in_ok-pass.pass.found) 0 (sym c.is_empty.ensures ∙ c.if-is_empty.true) in
-    none_is_follower c.args.names.now c.args.fresh.now (g.T.ComposeTable.definitions c.args.old.now) (g.U.ComposeTable.definitions c.args.new.now) c.node_count.ensures.settled.definitions c.node_count-2.ensures.settled.definitions c.requires
+    none_is_follower c.args.names.now c.args.fresh.now (g.T.ComposeTable.definitions c.args.old.now)
+    (g.U.ComposeTable.definitions c.args.new.now) c.node_count.ensures.settled.definitions c.node_count-2.ensures.settled.definitions c.requires
     (sym c.in_ok-pass.ensures.found ∙ nil_from_length c.in_ok-pass.pass.found.items (omega (arith, c.in_ok-pass.pass.found.ok.0)))
     c.in_ok-pairs_of.field-0 (c.in_ok-pairs_of.ensures.pairs ∙ ap (stand_pairs 0) (c.deref.ensures.value ∙ c.in_ok-pass.ensures.stands))
 

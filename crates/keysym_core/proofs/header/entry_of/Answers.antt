@@ -22,10 +22,12 @@ returns c =
     let others : c.split_at.result.1.now ≡ behind_run is_name_byte bytes = search rules in
     let told : c.unwrap.result.now ≡ c.split_at.result.0.now = search rules in
     let blanks : c.blank_length-blank_length.result ≡ run_length is_blank (behind_run is_name_byte bytes) = c.blank_length-blank_length.ensures.same ∙ ap (run_length is_blank) others in
-    let number : take (length c.split_at.result.1.now - c.blank_length-blank_length.result) (drop c.blank_length-blank_length.result c.split_at.result.1.now) ≡ behind_run is_blank (behind_run is_name_byte bytes) =
+    let number : take (length c.split_at.result.1.now - c.blank_length-blank_length.result) (drop c.blank_length-blank_length.result c.split_at.result.1.now)
+    ≡ behind_run is_blank (behind_run is_name_byte bytes) =
     take_rest c.split_at.result.1.now c.blank_length-blank_length.result ∙ ap (λ n. drop n c.split_at.result.1.now) blanks ∙ ap (drop (run_length is_blank (behind_run is_name_byte bytes))) others in
     let first : (run_length is_name_byte bytes == 0) ≡ false = grind (arith, nat_tests) in
     let second : (run_length is_blank (behind_run is_name_byte bytes) == 0) ≡ false = grind (arith, nat_tests) in
-    c.valued.ensures ∙ ap (λ n. valued n (take (length c.split_at.result.1.now - c.blank_length-blank_length.result) (drop c.blank_length-blank_length.result c.split_at.result.1.now))) (told ∙ name) ∙ ap (valued (run is_name_byte bytes)) number
+    c.valued.ensures ∙ ap (λ n. valued n (take (length c.split_at.result.1.now - c.blank_length-blank_length.result) (drop c.blank_length-blank_length.result c.split_at.result.1.now))) (told ∙ name)
+    ∙ ap (valued (run is_name_byte bytes)) number
     ∙ sym (ap (λ b. cond (b || run_length is_blank (behind_run is_name_byte bytes) == 0) None (valued (run is_name_byte bytes) (behind_run is_blank (behind_run is_name_byte bytes)))) first
     ∙ ap (λ b. cond b None (valued (run is_name_byte bytes) (behind_run is_blank (behind_run is_name_byte bytes)))) second)

@@ -6,4 +6,5 @@ pub returns : goal.returns
 returns c =
     let v = c.args.bytes in
     let long = c.fits-bytes.0 in
-    masked _ _ v _ (omega arith) c.fits-bytes.1 (joined _ _ _ v (joined _ _ _ v (joined _ _ _ v (with_constant _ v 16 _ long) (with_constant _ v 16 _ long)) (with_constant _ v 16 _ long)) (with_constant _ v 16 _ long)) refl
+    masked _ _ v _ (omega arith) c.fits-bytes.1
+    (joined _ _ _ v (joined _ _ _ v (joined _ _ _ v (with_constant _ v 16 _ long) (with_constant _ v 16 _ long)) (with_constant _ v 16 _ long)) (with_constant _ v 16 _ long)) refl

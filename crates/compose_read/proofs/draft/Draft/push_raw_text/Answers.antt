@@ -19,7 +19,9 @@ returns-clause-exact c =
 
 pub returns-clause-found : goal.returns-clause-found
 returns-clause-found c =
-    subst (λ (d : Drafted). OnOk c.push_text.result ((bytes : List ℕ) × (drop c.self.inside.first_byte (string_bytes c.push_text.new.text) ≡ d.row.text ++ bytes) × Unescapes c.args.raw.now bytes × IsText bytes)) c.self.view_is
+    subst
+    (λ (d : Drafted). OnOk c.push_text.result
+    ((bytes : List ℕ) × (drop c.self.inside.first_byte (string_bytes c.push_text.new.text) ≡ d.row.text ++ bytes) × Unescapes c.args.raw.now bytes × IsText bytes)) c.self.view_is
     (text_found c.self.inside.keysyms.items (string_bytes c.self.inside.texts) c.self.inside.spans.items c.self.inside.first_keysym c.self.inside.first_byte c.self.invariant
     c.args.raw.now (string_bytes c.push_text.new.text) c.push_text.result (text_of c.args.raw.now) c.push_text.ensures.exact c.push_text.ensures.found)
 

@@ -15,7 +15,15 @@ returns-in_err-bundle g c =
 
 pub returns-in_err-table : goal.returns-in_err-table
 returns-in_err-table g c =
-    let inside : ServiceState = record { table = g.T.ComposeTable.definitions c.self.inside.table; names = c.self.inside.names; repertoire = c.self.inside.repertoire; loads = c.self.inside.loads; sessions = c.self.inside.sessions } in
+    let inside : ServiceState =
+    record {
+      table = g.T.ComposeTable.definitions c.self.inside.table;
+      names = c.self.inside.names;
+      repertoire = c.self.inside.repertoire;
+      loads = c.self.inside.loads;
+      sessions =
+          c.self.inside.sessions;
+    } in
     let b : Bundle = record { sources = c.in_ok-bundle.bundle.sources; certificate = c.in_ok-bundle.bundle.certificate.now } in
     raised c.args.self.now c.args.rule c.args.payload.now g.T.ComposeTable.definitions c.from_residual-in_err-table.result (of_table c.in_err-table.field-0.0) c.from_residual-in_err-table.ensures.1
     (subst (λ (s : ServiceState). Checked s c.args.rule c.args.payload.now g.T.ComposeTable.definitions (Err (of_table c.in_err-table.field-0.0))) c.self.view_is
@@ -23,24 +31,52 @@ returns-in_err-table g c =
 
 pub returns-in_err-certificate : goal.returns-in_err-certificate
 returns-in_err-certificate g c =
-    let inside : ServiceState = record { table = g.T.ComposeTable.definitions c.self.inside.table; names = c.self.inside.names; repertoire = c.self.inside.repertoire; loads = c.self.inside.loads; sessions = c.self.inside.sessions } in
+    let inside : ServiceState =
+    record {
+      table = g.T.ComposeTable.definitions c.self.inside.table;
+      names = c.self.inside.names;
+      repertoire = c.self.inside.repertoire;
+      loads = c.self.inside.loads;
+      sessions =
+          c.self.inside.sessions;
+    } in
     let b : Bundle = record { sources = c.in_ok-bundle.bundle.sources; certificate = c.in_ok-bundle.bundle.certificate.now } in
-    raised c.args.self.now c.args.rule c.args.payload.now g.T.ComposeTable.definitions c.from_residual-in_err-certificate.result (of_certificate c.in_err-certificate.field-0.0) c.from_residual-in_err-certificate.ensures.1
+    raised c.args.self.now c.args.rule c.args.payload.now g.T.ComposeTable.definitions c.from_residual-in_err-certificate.result
+    (of_certificate c.in_err-certificate.field-0.0) c.from_residual-in_err-certificate.ensures.1
     (subst (λ (s : ServiceState). Checked s c.args.rule c.args.payload.now g.T.ComposeTable.definitions (Err (of_certificate c.in_err-certificate.field-0.0))) c.self.view_is
-    (certificate_fault inside c.args.rule c.args.payload.now g.T.ComposeTable.definitions b (found c.args.payload.now b c.in_ok-bundle.ensures) c.in_ok-table.table c.in_ok-table.ensures.value c.in_err-certificate.field-0.0 c.in_err-certificate.ensures.exact))
+    (certificate_fault inside c.args.rule c.args.payload.now g.T.ComposeTable.definitions b
+    (found c.args.payload.now b c.in_ok-bundle.ensures) c.in_ok-table.table c.in_ok-table.ensures.value c.in_err-certificate.field-0.0 c.in_err-certificate.ensures.exact))
 
 pub returns-in_default : goal.returns-in_default
 returns-in_default g c =
-    let inside : ServiceState = record { table = g.T.ComposeTable.definitions c.self.inside.table; names = c.self.inside.names; repertoire = c.self.inside.repertoire; loads = c.self.inside.loads; sessions = c.self.inside.sessions } in
+    let inside : ServiceState =
+    record {
+      table = g.T.ComposeTable.definitions c.self.inside.table;
+      names = c.self.inside.names;
+      repertoire = c.self.inside.repertoire;
+      loads = c.self.inside.loads;
+      sessions =
+          c.self.inside.sessions;
+    } in
     let b : Bundle = record { sources = c.in_ok-bundle.bundle.sources; certificate = c.in_ok-bundle.bundle.certificate.now } in
     subst (λ (s : ServiceState). Checked s c.args.rule c.args.payload.now g.T.ComposeTable.definitions (Err VerdictNo)) c.self.view_is
-    (not_valid inside c.args.rule c.args.payload.now g.T.ComposeTable.definitions b (found c.args.payload.now b c.in_ok-bundle.ensures) c.in_ok-table.table c.in_ok-table.ensures.value c.in_ok-certificate.certificate c.in_ok-certificate.ensures.exact
+    (not_valid inside c.args.rule c.args.payload.now g.T.ComposeTable.definitions b
+    (found c.args.payload.now b c.in_ok-bundle.ensures) c.in_ok-table.table c.in_ok-table.ensures.value c.in_ok-certificate.certificate c.in_ok-certificate.ensures.exact
     (λ v. c.in_default.not-Yes (c.check-verdict.ensures.only v)))
 
 pub returns : goal.returns
 returns g c =
-    let inside : ServiceState = record { table = g.T.ComposeTable.definitions c.self.inside.table; names = c.self.inside.names; repertoire = c.self.inside.repertoire; loads = c.self.inside.loads; sessions = c.self.inside.sessions } in
+    let inside : ServiceState =
+    record {
+      table = g.T.ComposeTable.definitions c.self.inside.table;
+      names = c.self.inside.names;
+      repertoire = c.self.inside.repertoire;
+      loads = c.self.inside.loads;
+      sessions =
+          c.self.inside.sessions;
+    } in
     let b : Bundle = record { sources = c.in_ok-bundle.bundle.sources; certificate = c.in_ok-bundle.bundle.certificate.now } in
     subst (λ (s : ServiceState). Checked s c.args.rule c.args.payload.now g.T.ComposeTable.definitions (Ok (c.in_ok-table.table, c.in_ok-certificate.certificate))) c.self.view_is
-    (valid inside c.args.rule c.args.payload.now g.T.ComposeTable.definitions b (found c.args.payload.now b c.in_ok-bundle.ensures) c.in_ok-table.table c.in_ok-table.ensures.value c.in_ok-certificate.certificate c.in_ok-certificate.ensures.exact
+    (valid inside c.args.rule c.args.payload.now g.T.ComposeTable.definitions b
+    (found c.args.payload.now b c.in_ok-bundle.ensures) c.in_ok-table.table c.in_ok-table.ensures.value c.in_ok-certificate.certificate c.in_ok-certificate.ensures.exact
     c.node_count-nodes.ensures.settled.prefix_free (c.check-verdict.ensures.valid c.in-Yes.is))

@@ -19,7 +19,9 @@ loop-request-preserved g c =
     let q = c.request-item.result in
     let pushed : c.push.new.self.items ≡ c.loop-request.replies.items ++ c.answer-reply.result ∷ [] = search rules in
     record {
-      answered = run_more reading (seen c.args.self.now) (seen c.loop-request.self) (seen c.answer-reply.new.self) c.args.requests.now c.loop-request.request-index q q c.loop-request.replies.items c.push.new.self.items c.answer-reply.result
+      answered =
+          run_more reading (seen c.args.self.now) (seen c.loop-request.self)
+          (seen c.answer-reply.new.self) c.args.requests.now c.loop-request.request-index q q c.loop-request.replies.items c.push.new.self.items c.answer-reply.result
           c.loop-request-test.true c.request-item.is pushed c.loop-request.invariant.answered c.answer-reply.ensures.step;
       many = search rules;
       room = omega (arith, c.push.ensures.capacity);

@@ -18,7 +18,8 @@ returns g c =
     let told = c.refeed_and_feed-fed.ensures.told in (
       c.in-Some.session.now,
       session_is n es c.args.self.now c.self.view_is ∙ sym c.in-Some.ensures.value,
-      one_changes n es c.args.self.now c.self.view_is (λ s. now) c.in-Some.session.now (c.get_mut.follows.lender c.refeed_and_feed-fed.new.self).entries c.get_mut.ensures.unique (sym c.in-Some.ensures.value)
+      one_changes n es c.args.self.now c.self.view_is (λ s. now) c.in-Some.session.now (c.get_mut.follows.lender c.refeed_and_feed-fed.new.self).entries c.get_mut.ensures.unique
+          (sym c.in-Some.ensures.value)
           ((c.get_mut.follows.holds c.refeed_and_feed-fed.new.self).0 ∙ ap (set_value (nat_eq n) es) c.refeed_and_feed-fed.ensures.state),
       told.status,
       told.accepted,

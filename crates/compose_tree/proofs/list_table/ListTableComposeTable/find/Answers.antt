@@ -16,4 +16,5 @@ overflow_cast-result c =
 
 pub returns : goal.returns
 returns c =
-    scan_found c.args.self.now (node c.args.self.now c.args.node.0) c.args.keysym c.in-Some.index c.edges.result.now (c.edges.ensures ∙ ap (λ r. r.edges) c.row.ensures.value) c.in-Some.ensures.0 c.in-Some.ensures.1
+    scan_found c.args.self.now (node c.args.self.now c.args.node.0) c.args.keysym c.in-Some.index c.edges.result.now
+    (c.edges.ensures ∙ ap (λ r. r.edges) c.row.ensures.value) c.in-Some.ensures.0 c.in-Some.ensures.1

@@ -13,4 +13,5 @@ pub pack_edges-requires-clause-numbers : goal.pack_edges-requires-clause-numbers
 pack_edges-requires-clause-numbers c =
     let built = c.in_ok-rows.ensures in
     let leaves = leaves_count c.args.sequences built.settled in
-    numbers_few c.args.sequences c.parts.result.0.now c.parts.result.1.now 2147483648 (omega (arith, built.few)) (omega (arith, built.leaves, leaves)) c.parts.ensures.at_nodes (c.parts.ensures.rows ∙ built.rows)
+    numbers_few c.args.sequences c.parts.result.0.now c.parts.result.1.now 2147483648 (omega (arith, built.few)) (omega (arith, built.leaves, leaves)) c.parts.ensures.at_nodes
+    (c.parts.ensures.rows ∙ built.rows)

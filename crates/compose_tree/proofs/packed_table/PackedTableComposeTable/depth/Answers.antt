@@ -14,11 +14,16 @@ index-requires c =
 pub returns-clause-value : goal.returns-clause-value
 returns-clause-value c =
     let p = packed_as c.self.inside.nodes.items c.self.inside.edges.items c.self.inside.offsets.items (string_bytes c.self.inside.texts) c.args.self.now c.self.invariant c.self.view_is in
-    ap (λ (n : PackedNode). n.depth) c.index.ensures ∙ (node_entries c.self.inside.nodes.items c.self.inside.edges.items c.self.inside.offsets.items (string_bytes c.self.inside.texts) c.args.self.now p c.args.node.0 c.requires).depth c.index.result.now
+    ap (λ (n : PackedNode). n.depth) c.index.ensures
+    ∙ (node_entries c.self.inside.nodes.items c.self.inside.edges.items c.self.inside.offsets.items
+    (string_bytes c.self.inside.texts) c.args.self.now p c.args.node.0 c.requires).depth c.index.result.now
 
 pub returns-clause-few : goal.returns-clause-few
 returns-clause-few c =
     let p = packed_as c.self.inside.nodes.items c.self.inside.edges.items c.self.inside.offsets.items (string_bytes c.self.inside.texts) c.args.self.now c.self.invariant c.self.view_is in
-    let e : c.index.result.now.depth ≡ length (node c.args.self.now c.args.node.0) = ap (λ (n : PackedNode). n.depth) c.index.ensures ∙ (node_entries c.self.inside.nodes.items c.self.inside.edges.items c.self.inside.offsets.items (string_bytes c.self.inside.texts) c.args.self.now p c.args.node.0 c.requires).depth c.index.result.now in
+    let e : c.index.result.now.depth ≡ length (node c.args.self.now c.args.node.0) =
+    ap (λ (n : PackedNode). n.depth) c.index.ensures
+    ∙ (node_entries c.self.inside.nodes.items c.self.inside.edges.items c.self.inside.offsets.items
+    (string_bytes c.self.inside.texts) c.args.self.now p c.args.node.0 c.requires).depth c.index.result.now in
     let few = node_few c.args.self.now (node c.args.self.now c.args.node.0) p.settled.definitions (node_listed c.args.self.now c.args.node.0 c.requires) in
     omega (arith, e, few)

@@ -18,5 +18,7 @@ returns c =
     let es = c.edges_of-edges.result.now in
     let e = c.index-edges-index.result in
     let there = key_there es c.in-Some.index e c.in-Some.ensures.0 c.index-edges-index.is in
-    let read = edge_read c.args.self.now x c.in-Some.index es e c.unpack_target.result c.edges_of-edges.ensures.value c.in-Some.ensures.0 c.index-edges-index.is (c.unpack_target.ensures ∙ ap (λ (y : PackedEdge). unpacked_target y.target) (sym c.index-edges-index.is)) in
+    let read =
+    edge_read c.args.self.now x c.in-Some.index es e c.unpack_target.result c.edges_of-edges.ensures.value c.in-Some.ensures.0 c.index-edges-index.is
+    (c.unpack_target.ensures ∙ ap (λ (y : PackedEdge). unpacked_target y.target) (sym c.index-edges-index.is)) in
     sym read.1 ∙ ap (target_of c.args.self.now x) (sym there ∙ c.in-Some.ensures.1)

@@ -12,5 +12,6 @@ overflow_cast-node c =
 pub returns : goal.returns
 returns c =
     let row : NodeRow = record { depth = c.args.depth; edges = c.args.edge ∷ [] } in
-    row_opened c.self.inside.depths.items c.push.new.self.items c.self.inside.edges.items c.push-2.new.self.items c.args.depth c.len-node.result c.args.edge c.self.invariant (omega arith) c.in_ok-push.ensures.items c.in_ok-push-2.ensures.items
+    row_opened c.self.inside.depths.items c.push.new.self.items c.self.inside.edges.items c.push-2.new.self.items c.args.depth c.len-node.result c.args.edge c.self.invariant
+    (omega arith) c.in_ok-push.ensures.items c.in_ok-push-2.ensures.items
     ∙ ap (λ rows. rows ++ row ∷ []) c.self.view_is

@@ -16,7 +16,8 @@ loop-node-init g c = record {
 
 pub index-slot-requires : goal.index-slot-requires
 index-slot-requires g c =
-    let n : length c.args.self.now.stands.items ≡ length (nodes (g.T.ComposeTable.definitions c.args._old.now)) = ap length c.requires.stands ∙ length-map (nodes (g.T.ComposeTable.definitions c.args._old.now)) _ in
+    let n : length c.args.self.now.stands.items ≡ length (nodes (g.T.ComposeTable.definitions c.args._old.now)) =
+    ap length c.requires.stands ∙ length-map (nodes (g.T.ComposeTable.definitions c.args._old.now)) _ in
     let below = c.loop-node.invariant.in_range in
     omega (arith, c.args.self.now.stands.ok.0)
 
@@ -24,7 +25,8 @@ pub unwrap-stand-requires : goal.unwrap-stand-requires
 unwrap-stand-requires g c =
     let old = g.T.ComposeTable.definitions c.args._old.now in
     let new = g.U.ComposeTable.definitions c.args._new.now in
-    ap is_some (some_stand c.args._names.now old new c.requires.table c.loop-node.node c.loop-node.invariant.in_range c.loop-node.invariant.agree c.args.self.now.stands.items c.requires.stands c.index-slot.result.now c.index-slot.ensures)
+    ap is_some
+    (some_stand c.args._names.now old new c.requires.table c.loop-node.node c.loop-node.invariant.in_range c.loop-node.invariant.agree c.args.self.now.stands.items c.requires.stands c.index-slot.result.now c.index-slot.ensures)
     ∙ is_there c.args._names.now old new c.requires.table c.loop-node.node c.loop-node.invariant.in_range c.loop-node.invariant.agree
 
 pub insert-requires : goal.insert-requires
@@ -32,8 +34,12 @@ insert-requires g c =
     let names = c.args._names.now in
     let old = g.T.ComposeTable.definitions c.args._old.now in
     let new = g.U.ComposeTable.definitions c.args._new.now in
-    let at = sym (some_stand names old new c.requires.table c.loop-node.node c.loop-node.invariant.in_range c.loop-node.invariant.agree c.args.self.now.stands.items c.requires.stands c.index-slot.result.now c.index-slot.ensures) ∙ c.unwrap-stand.ensures in
-    let fits = room names old new c.requires.table c.loop-node.node c.loop-node.invariant.in_range c.loop-node.invariant.agree c.unwrap-stand.result at (ne_eqb c.loop-node.node 0 c.loop-node-test.true)
+    let at =
+    sym
+    (some_stand names old new c.requires.table c.loop-node.node c.loop-node.invariant.in_range c.loop-node.invariant.agree c.args.self.now.stands.items c.requires.stands c.index-slot.result.now c.index-slot.ensures)
+    ∙ c.unwrap-stand.ensures in
+    let fits =
+    room names old new c.requires.table c.loop-node.node c.loop-node.invariant.in_range c.loop-node.invariant.agree c.unwrap-stand.result at (ne_eqb c.loop-node.node 0 c.loop-node-test.true)
     (node old c.args.number) c.args.keysym c.loop-node.keys.items (node_is_node old c.args.number c.requires.in_range) c.loop-node.invariant.keys in
     omega arith
 
@@ -42,7 +48,10 @@ loop-node-smaller g c =
     let names = c.args._names.now in
     let old = g.T.ComposeTable.definitions c.args._old.now in
     let new = g.U.ComposeTable.definitions c.args._new.now in
-    let at = sym (some_stand names old new c.requires.table c.loop-node.node c.loop-node.invariant.in_range c.loop-node.invariant.agree c.args.self.now.stands.items c.requires.stands c.index-slot.result.now c.index-slot.ensures) ∙ c.unwrap-stand.ensures in
+    let at =
+    sym
+    (some_stand names old new c.requires.table c.loop-node.node c.loop-node.invariant.in_range c.loop-node.invariant.agree c.args.self.now.stands.items c.requires.stands c.index-slot.result.now c.index-slot.ensures)
+    ∙ c.unwrap-stand.ensures in
     parent_below names old new c.requires.table c.loop-node.node c.loop-node.invariant.in_range c.loop-node.invariant.agree c.unwrap-stand.result at (ne_eqb c.loop-node.node 0 c.loop-node-test.true)
 
 pub loop-node-preserved : goal.loop-node-preserved
@@ -50,7 +59,10 @@ loop-node-preserved g c =
     let names = c.args._names.now in
     let old = g.T.ComposeTable.definitions c.args._old.now in
     let new = g.U.ComposeTable.definitions c.args._new.now in
-    let at = sym (some_stand names old new c.requires.table c.loop-node.node c.loop-node.invariant.in_range c.loop-node.invariant.agree c.args.self.now.stands.items c.requires.stands c.index-slot.result.now c.index-slot.ensures) ∙ c.unwrap-stand.ensures in
+    let at =
+    sym
+    (some_stand names old new c.requires.table c.loop-node.node c.loop-node.invariant.in_range c.loop-node.invariant.agree c.args.self.now.stands.items c.requires.stands c.index-slot.result.now c.index-slot.ensures)
+    ∙ c.unwrap-stand.ensures in
     let other = ne_eqb c.loop-node.node 0 c.loop-node-test.true in
     record {
       in_range = parent_in_range names old new c.requires.table c.loop-node.node c.loop-node.invariant.in_range c.loop-node.invariant.agree c.unwrap-stand.result at other;

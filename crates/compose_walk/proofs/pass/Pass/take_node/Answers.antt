@@ -14,8 +14,11 @@ loop-index-preserved g c =
     let at = slice_get_at es c.loop-index.index below in
     record {
       stands = c.in_ok-take_edge.ensures.stands;
-      found = found_more (found_at old (node old c.args.node.0)) (differs_at c.args.names.now old (g.U.ComposeTable.definitions c.args.new.now) (node old c.args.node.0)) es c.loop-index.index (get_or es c.loop-index.index 0)
-          c.args.self.now.found.items c.loop-index.self.found.items c.take_edge.new.self.found.items at c.loop-index.invariant.found (c.in_ok-take_edge.ensures.found (get_or es c.loop-index.index 0) at);
+      found =
+          found_more (found_at old (node old c.args.node.0)) (differs_at c.args.names.now old (g.U.ComposeTable.definitions c.args.new.now) (node old c.args.node.0)) es c.loop-index.index
+          (get_or es c.loop-index.index 0)
+          c.args.self.now.found.items c.loop-index.self.found.items c.take_edge.new.self.found.items at c.loop-index.invariant.found
+          (c.in_ok-take_edge.ensures.found (get_or es c.loop-index.index 0) at);
     }
 
 pub returns-clause-stands : goal.returns-clause-stands

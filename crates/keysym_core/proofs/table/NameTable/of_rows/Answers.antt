@@ -16,7 +16,9 @@ add_name-requires c =
     let some = c.new.ensures.some t.keysym in
     let unwrapped = c.unwrap-keysym.ensures in
     let same : (slice_index_or c.args.rows.now c.loop-name.name-index (record { ref_ptr = (0, 0); now = [] }, 0)).1 ≡ c.unwrap-keysym.result = cc in
-    subst (λ v. IsTrue (is_addable c.loop-name.table.names (record { name = (slice_index_or c.args.rows.now c.loop-name.name-index (record { ref_ptr = (0, 0); now = [] }, 0)).0.now; value = v }))) same t.addable
+    subst
+    (λ v. IsTrue
+    (is_addable c.loop-name.table.names (record { name = (slice_index_or c.args.rows.now c.loop-name.name-index (record { ref_ptr = (0, 0); now = [] }, 0)).0.now; value = v }))) same t.addable
 
 pub loop-name-preserved : goal.loop-name-preserved
 loop-name-preserved c =
@@ -26,7 +28,8 @@ loop-name-preserved c =
     let same : c.unwrap-keysym.result ≡ (slice_index_or c.args.rows.now c.loop-name.name-index (record { ref_ptr = (0, 0); now = [] }, 0)).1 = cc in
     let added = c.in_ok-add_name.ensures in
     let names : c.add_name.new.self.names ≡ c.loop-name.table.names ++ listed_row (slice_index_or c.args.rows.now c.loop-name.name-index (record { ref_ptr = (0, 0); now = [] }, 0)) ∷ [] =
-    ap (λ (t : KeysymNames). t.names) added ∙ ap (λ v. c.loop-name.table.names ++ record { name = (slice_index_or c.args.rows.now c.loop-name.name-index (record { ref_ptr = (0, 0); now = [] }, 0)).0.now; value = v } ∷ []) same in (
+    ap (λ (t : KeysymNames). t.names) added
+    ∙ ap (λ v. c.loop-name.table.names ++ record { name = (slice_index_or c.args.rows.now c.loop-name.name-index (record { ref_ptr = (0, 0); now = [] }, 0)).0.now; value = v } ∷ []) same in (
       ap (λ n. n ++ map listed_row (drop (c.loop-name.name-index + 1) c.args.rows.now)) names ∙ t.whole,
       ap (λ (t : KeysymNames). t.characters) added ∙ c.loop-name.invariant.1,
       ap (λ n. are_addable n (map listed_row (drop (c.loop-name.name-index + 1) c.args.rows.now))) names ∙ t.others,
