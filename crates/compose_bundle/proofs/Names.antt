@@ -17,6 +17,7 @@ flipped a b h = elim (cases_Bool (bytes_eq b a)) [
   | inr e ↦ e
 ]
 
+-- a name under which no source is found is new
 pub new_from : (name : List ℕ) (sources : List Source) → nat_lt (source_named sources name) (length sources) ≡ false → IsNew sources name
 new_from name [] h = tt
 new_from name (s ∷ ss) h = go (bytes_eq name s.name) refl h (new_from name ss)
@@ -26,6 +27,7 @@ new_from name (s ∷ ss) h = go (bytes_eq name s.name) refl h (new_from name ss)
     go true e h later = absurd (let l = ltb-false 0 (suc (length ss)) h in omega arith)
     go false e h later = (e, later (le-ltb (source_named ss name) (length ss) (let l = ltb-false (1 + source_named ss name) (suc (length ss)) h in omega arith)))
 
+-- under a new name no source is found
 pub not_taken : (name : List ℕ) (sources : List Source) → IsNew sources name → nat_lt (source_named sources name) (length sources) ≡ false
 not_taken name [] a = refl
 not_taken name (s ∷ ss) a =
@@ -52,6 +54,7 @@ unfolding IsDistinct
 new_among [] s after d = tt
 new_among (x ∷ before) s after d = (flipped x.name s.name (at_middle (λ y. bytes_eq x.name y ≡ false) before s after d.0), new_among before s after d.1)
 
+-- the names of no sources are distinct
 pub none_distinct : IsDistinct bytes_eq (names_of [])
 unfolding IsDistinct
 none_distinct = tt

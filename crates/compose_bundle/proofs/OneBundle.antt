@@ -86,9 +86,11 @@ bundle_again b f =
     ∙ ap (λ (c : List ℕ). sized_by_4 (to_be_bytes w32 (length b.certificate) ++ c) >>= (λ c. ended b.sources c)) (sym (append-nil b.certificate))
     ∙ ap (λ o. o >>= (λ c. ended b.sources c)) (sized_4 b.certificate [] f.certificate)
 
+-- a payload that is a bundle is decoded as this bundle
 pub found : (payload : List ℕ) (b : Bundle) → IsBundle payload b → bundle_of payload ≡ Some b
 found payload b h = ap bundle_of h.is ∙ bundle_again b h.fits
 
+-- a payload is at most one bundle
 pub one : (payload : List ℕ) (a b : Bundle) → IsBundle payload a → IsBundle payload b → a ≡ b
 one payload a b h k = same_Some a b (sym (found payload a h) ∙ found payload b k)
 
@@ -229,6 +231,7 @@ module _ (payload head rest : List ℕ) (b : Bundle) (whole : payload ≡ head +
                 ∙ sym (bundle_in_parts b);
           }
 
+-- the bundle that is decoded of a payload of bytes is the one that the payload is
 pub only : (payload : List ℕ) (b : Bundle) → AreBytes payload → bundle_of payload ≡ Some b → IsBundle payload b
 only payload b are h =
     let p = bound (split 2 payload) (λ p. counted (from_be_bytes w16 p.0) p.1) b h in

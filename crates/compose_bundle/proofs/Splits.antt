@@ -17,23 +17,27 @@ pub record Bound {A B : Type 0} (o : Option A) (f : A → Option B) (y : B) : Ty
   pub is : o ≡ Some value
   pub gives : f value ≡ Some y
 
+-- where two steps together give something, the first gave a value and the second gave this from it
 pub bound : {A B : Type 0} (o : Option A) (f : A → Option B) (y : B) → (o >>= f) ≡ Some y → Bound o f y
 bound None f y h = cc
 bound (Some a) f y h = record { value = a; is = refl; gives = h }
 
 -- ---- together, then split
 
+-- two parts that were put together are split again at the length of the first
 pub split_append : (a x : List ℕ) (n : ℕ) → n ≡ length a → split n (a ++ x) ≡ Some (a, x)
 split_append a x n e =
     ap (λ m. split m (a ++ x)) e
     ∙ ap (λ b. cond {A = Option (List ℕ × List ℕ)} b (Some (take (length a) (a ++ x), drop (length a) (a ++ x))) None) (le-leb (length a) (length (a ++ x)) (omega (arith, length-append a x)))
     ∙ ap₂ (λ (p q : List ℕ). let r : Option (List ℕ × List ℕ) = Some (p, q) in r) (take-append_seam a x) (drop-append_seam a x)
 
+-- a part behind its length in two bytes is read back, with what follows it
 pub sized_2 : (a x : List ℕ) → length a < 2 ^ 16 → sized_by_2 (to_be_bytes w16 (length a) ++ (a ++ x)) ≡ Some (a, x)
 sized_2 a x l =
     ap (λ o. o >>= (λ p. split (from_be_bytes w16 p.0) p.1)) (split_append (to_be_bytes w16 (length a)) (a ++ x) 2 refl)
     ∙ split_append a x (from_be_bytes w16 (to_be_bytes w16 (length a))) (from_be_bytes-to_be_bytes_2 (length a) l)
 
+-- a part behind its length in four bytes is read back, with what follows it
 pub sized_4 : (a x : List ℕ) → length a < 2 ^ 32 → sized_by_4 (to_be_bytes w32 (length a) ++ (a ++ x)) ≡ Some (a, x)
 sized_4 a x l =
     ap (λ o. o >>= (λ p. split (from_be_bytes w32 p.0) p.1)) (split_append (to_be_bytes w32 (length a)) (a ++ x) 4 refl)
@@ -45,6 +49,7 @@ pub record Split (n : ℕ) (bytes a x : List ℕ) : Type 0 where
   pub long : length a ≡ n
   pub whole : bytes ≡ a ++ x
 
+-- bytes that are split are the two parts together, and the first is as long as was asked
 pub split_whole : (n : ℕ) (bytes a x : List ℕ) → split n bytes ≡ Some (a, x) → Split n bytes a x
 split_whole n bytes a x h = go (nat_le n (length bytes)) refl h
   where
@@ -56,10 +61,12 @@ split_whole n bytes a x h = go (nat_le n (length bytes)) refl h
         record { long = ap length (sym first) ∙ length-take-le n bytes (leb-true n (length bytes) e); whole = sym (take-append-drop n bytes) ∙ ap₂ (λ (p q : List ℕ). p ++ q) first second }
     go false e h = cc
 
+-- where two parts together are bytes, the first part is
 pub left_bytes : (a x : List ℕ) → AreBytes (a ++ x) → AreBytes a
 left_bytes [] x h = tt
 left_bytes (y ∷ a) x h = (h.0, left_bytes a x h.1)
 
+-- where two parts together are bytes, the second part is
 pub right_bytes : (a x : List ℕ) → AreBytes (a ++ x) → AreBytes x
 right_bytes [] x h = h
 right_bytes (y ∷ a) x h = right_bytes a x h.1
@@ -69,6 +76,7 @@ byte_at [] a i = lit< tt
 byte_at (x ∷ p) a zero = a.0
 byte_at (x ∷ p) a (suc i) = byte_at p a.1 i
 
+-- a number that was read from two bytes is written as the same two bytes
 pub two_again : (p : List ℕ) → length p ≡ 2 → AreBytes p → to_be_bytes w16 (from_be_bytes w16 p) ≡ p
 two_again p l a = be_bytes_2 p (from_be_bytes w16 p) l (byte_at p a) refl
 
@@ -95,6 +103,7 @@ pub record Sized (head : List ℕ) (most : ℕ) (bytes a x : List ℕ) : Type 0 
   pub fits : length a < most
   pub left : AreBytes x
 
+-- a part that is read by its length in two bytes stands behind that length, and what follows it is bytes
 pub sized_2_whole : (bytes a x : List ℕ) → AreBytes bytes → sized_by_2 bytes ≡ Some (a, x) → Sized (to_be_bytes w16 (length a)) (2 ^ 16) bytes a x
 sized_2_whole bytes a x are h =
     let b = bound (split 2 bytes) (λ p. split (from_be_bytes w16 p.0) p.1) (a, x) h in
@@ -109,6 +118,7 @@ sized_2_whole bytes a x are h =
       left = right_bytes a x (subst AreBytes second.whole (right_bytes head b.value.1 are'));
     }
 
+-- a part that is read by its length in four bytes stands behind that length, and what follows it is bytes
 pub sized_4_whole : (bytes a x : List ℕ) → AreBytes bytes → sized_by_4 bytes ≡ Some (a, x) → Sized (to_be_bytes w32 (length a)) (2 ^ 32) bytes a x
 sized_4_whole bytes a x are h =
     let b = bound (split 4 bytes) (λ p. split (from_be_bytes w32 p.0) p.1) (a, x) h in

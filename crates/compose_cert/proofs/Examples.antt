@@ -22,7 +22,8 @@ typed = record {
 }
 
 abbrev typed_text : List ℕ
-typed_text = ended (codes "compose-certificate 1" ∷ codes "bound 2" ∷ codes "pairs 4" ∷ codes "0 0" ∷ codes "1 1" ∷ codes "2 2" ∷ codes "3 3" ∷ codes "typings 2" ∷ codes "U+00E1 ff20 27 61" ∷ codes "U+00E9 fe51 65" ∷ [])
+typed_text = ended (codes "compose-certificate 1" ∷ codes "bound 2" ∷ codes "pairs 4" ∷ codes "0 0" ∷ codes "1 1"
+    ∷ codes "2 2" ∷ codes "3 3" ∷ codes "typings 2" ∷ codes "U+00E1 ff20 27 61" ∷ codes "U+00E9 fe51 65" ∷ [])
 
 typed_written : text_of typed ≡ typed_text
 unfolding digits

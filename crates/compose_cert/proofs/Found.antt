@@ -231,7 +231,8 @@ pair_line_was n lines x h =
     (line.0, was.1 ∙ ap (λ l. l ∷ x.1) line.1)
 
 -- counted keysyms, and nothing behind them
-fresh_joined : (version count : ℕ) (lines rest : List (List ℕ)) (fresh : List ℕ) → (version == 1) ≡ false → (count == 0) ≡ false → nat_le count max_count ≡ true → lines ≡ counted (codes "fresh") count ∷ rest
+fresh_joined : (version count : ℕ) (lines rest : List (List ℕ)) (fresh : List ℕ) → (version == 1) ≡ false
+    → (count == 0) ≡ false → nat_le count max_count ≡ true → lines ≡ counted (codes "fresh") count ∷ rest
     → list_all is_keysym fresh ≡ true → length fresh ≡ count → rest ≡ map keysym_text fresh ++ [] ∷ [] → AreFreshLines version lines fresh
 fresh_joined version count lines rest [] v s few l a size r = absurd (eqb-false count 0 s (sym size))
 fresh_joined version count lines rest (k ∷ ks) v s few l a size r = record {
@@ -315,6 +316,7 @@ parts_spell bytes version bound p q pairs typings fresh v b n ps m ts f =
     ∙ ap head (sym (append_assoc (map pair_text pairs.0) (counted (codes "typings") (length typings.0) ∷ (map typing_text typings.0 ++ fresh_lines fresh)) ([] ∷ []))) in
     record { fits = fits; is = sym (join_divide 10 bytes) ∙ ap (join 10) (lines ∙ grouped) ∙ lines_joined (lines_of_text c) }
 
+-- a certificate that is read is one that the bytes spell
 pub read_is_spelled : (bytes : List ℕ) (c : Certificate) → certificate_of bytes ≡ Ok c → Spells bytes c
 read_is_spelled bytes c h =
     bind_with (line_at version_of 1 (divide 10 bytes)) after_version c h (λ version e0 h0.
@@ -350,9 +352,11 @@ is_counted-certificate c h =
 
 -- ---- what a reader that gives what the lines say gives of a spelled text
 
+-- a reader that gives what is read gives only a certificate that the bytes spell
 pub found_from_exact : (bytes : List ℕ) (r : Result Certificate CertFault) → CertificateGives r (certificate_of bytes) → IfOk r (λ c. Spells bytes c)
 found_from_exact bytes (Ok c) e = read_is_spelled bytes c e
 found_from_exact bytes (Err f) e = tt
 
+-- a reader that gives what is read gives the certificate that the bytes spell, unless memory runs out
 pub only_from_exact : (bytes : List ℕ) (c : Certificate) (r : Result Certificate CertFault) → Spells bytes c → CertificateGives r (certificate_of bytes) → CertificateGives r (Ok c)
 only_from_exact bytes c r s e = subst (CertificateGives r) (spelled_is_read bytes c s) e

@@ -23,6 +23,7 @@ pub record HasFirst (parts : List (List ℕ)) : Type 0 where
   pub others : List (List ℕ)
   pub is : parts ≡ first ∷ others
 
+-- divided bytes have a first part
 pub divide_first : (at : ℕ) (bytes : List ℕ) → HasFirst (divide at bytes)
 divide_first at [] = record { first = []; others = []; is = refl }
 divide_first at (b ∷ bytes) = go (b == at) (divide_first at bytes)
@@ -37,6 +38,7 @@ join at [] = []
 join at (part ∷ []) = part
 join at (part ∷ next ∷ parts) = part ++ at ∷ join at (next ∷ parts)
 
+-- bytes that are divided are joined again
 pub join_divide : (at : ℕ) (bytes : List ℕ) → join at (divide at bytes) ≡ bytes
 join_divide at [] = refl
 join_divide at (b ∷ bytes) = go (b == at) refl (divide_first at bytes) (join_divide at bytes)
@@ -55,6 +57,7 @@ divide_alone at bytes part e = ap (join at) (sym e) ∙ join_divide at bytes
 
 -- ---- two numbers
 
+-- a value that is read of a word passes its test, and the word is its text
 pub written_was : (text : ℕ → List ℕ) (test : ℕ → Bool) (x : ℕ) (word : List ℕ) (v : ℕ) → written text test x word ≡ Some v → (test v ≡ true) × (word ≡ text v)
 written_was text test x word v h = go (test x && bytes_eq word (text x)) refl h
   where
@@ -102,6 +105,7 @@ pub some_from_ok : {X : Type 0} (o : Option X) (e : CertFault) (x : X) → optio
 some_from_ok None e x h = cc
 some_from_ok (Some v) e x h = cc
 
+-- a line of a character and keysyms, each of which is read, is read as their typing
 pub typing_read : (line word words : List ℕ) (character : ℕ) (keys : List ℕ) (n : ℕ) → divide 32 line ≡ word ∷ divide 32 words → Some character ≡ character_of word
     → option_map_or (λ v. Ok v) (keysyms_of (divide 32 words)) (Err (NotText n)) ≡ Ok keys
     → option_map_or (λ v. Ok v) (typing_of line) (Err (NotText n)) ≡ Ok (record { character = character; keys = keys })
@@ -112,6 +116,7 @@ typing_read line word words character keys n d c k =
 
 -- ---- a line before others
 
+-- a line of a form, with another one behind it, is read, and the lines behind it are left
 pub line_read : {A : Type 0} (form : List ℕ → Option A) (n : ℕ) (bytes line rest : List ℕ) (x : A) → divide 10 bytes ≡ line ∷ divide 10 rest → form line ≡ Some x
     → line_at form n (divide 10 bytes) ≡ Ok (x, divide 10 rest)
 line_read form n bytes line rest x d e =
@@ -119,6 +124,7 @@ line_read form n bytes line rest x d e =
     let parts : divide 10 bytes ≡ line ∷ h.first ∷ h.others = d ∙ ap (λ ls. line ∷ ls) h.is in
     ap (line_at form n) parts ∙ rw (h.is, e) refl
 
+-- a line of another form is refused by its number
 pub line_refused : {A : Type 0} (form : List ℕ → Option A) (n : ℕ) (bytes line rest : List ℕ) → divide 10 bytes ≡ line ∷ divide 10 rest → form line ≡ None
     → line_at form n (divide 10 bytes) ≡ Err (NotText n)
 line_refused form n bytes line rest d e =
@@ -126,6 +132,7 @@ line_refused form n bytes line rest d e =
     let parts : divide 10 bytes ≡ line ∷ h.first ∷ h.others = d ∙ ap (λ ls. line ∷ ls) h.is in
     ap (line_at form n) parts ∙ rw e refl
 
+-- a last line, which no newline ends, is refused by its number
 pub line_missing : {A : Type 0} (form : List ℕ → Option A) (n : ℕ) (bytes : List ℕ) → divide 10 bytes ≡ bytes ∷ [] → line_at form n (divide 10 bytes) ≡ Err (NotText n)
 line_missing form n bytes d = ap (line_at form n) d
 
@@ -136,6 +143,7 @@ none_from_err (Some x) e f h = cc
 
 -- ---- the end
 
+-- where bytes are left, the end is missing, and the fault has the number of their line
 pub end_behind : (n : ℕ) (bytes : List ℕ) → 0 < length bytes → end_at n (divide 10 bytes) ≡ Err (NotText n)
 end_behind n bytes l = go (divide 10 bytes) refl
   where
@@ -149,10 +157,12 @@ typing_line : (n : ℕ) (bytes line rest : List ℕ) (t : Typing) → divide 10 
     → line_at typing_of n (divide 10 bytes) ≡ Ok (t, divide 10 rest)
 typing_line n bytes line rest t d h = line_read typing_of n bytes line rest t d (some_from_ok (typing_of line) (NotText n) t h)
 
+-- a typing with at most as many keysyms as may be is read, and the lines behind it are left
 pub typing_few : (n : ℕ) (bytes line rest : List ℕ) (t : Typing) → divide 10 bytes ≡ line ∷ divide 10 rest → option_map_or (λ v. Ok v) (typing_of line) (Err (NotText n)) ≡ Ok t
     → length t.keys ≤ max_count → typing_at n (divide 10 bytes) ≡ Ok (t, divide 10 rest)
 typing_few n bytes line rest t d h l = ap (λ r. r >>= if_few (λ (t : Typing). length t.keys)) (typing_line n bytes line rest t d h) ∙ rw (le-ltb max_count (length t.keys) l) refl
 
+-- a typing with more keysyms than may be is too large
 pub typing_many : (n : ℕ) (bytes line rest : List ℕ) (t : Typing) → divide 10 bytes ≡ line ∷ divide 10 rest → option_map_or (λ v. Ok v) (typing_of line) (Err (NotText n)) ≡ Ok t
     → max_count < length t.keys → typing_at n (divide 10 bytes) ≡ Err TooLarge
 typing_many n bytes line rest t d h l = ap (λ r. r >>= if_few (λ (t : Typing). length t.keys)) (typing_line n bytes line rest t d h) ∙ rw (lt-ltb max_count (length t.keys) l) refl

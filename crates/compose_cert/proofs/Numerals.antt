@@ -90,6 +90,7 @@ onto_digits upper (suc k) n acc h = go (n / 16 == 0) (onto_digits upper k (n / 1
     go true g = more
     go false g = g
 
+-- a number that isn't 0 is above it
 pub positive : (n : ℕ) → (n == 0) ≡ false → 0 < n
 positive n e = omega (arith, eqb-false n 0 e)
 
@@ -243,6 +244,7 @@ digits_decimal_again (c ∷ ds) h =
     let parts = and_parts (is_between 48 57 c) (list_all (is_digit Decimal) ds) h in
     (omega (arith, digit_value_digit c (from 48 57 c parts.0, up_to 48 57 c parts.0), up_to 48 57 c parts.0), digits_decimal_again ds parts.1)
 
+-- the numeral of a number has digits of its notation, no zero before them, and the number for its value
 pub is_written : (k : Notation) (n : ℕ) → is_one_case k ≡ true → n < 2 ^ 32 → IsWritten k n (numeral k n)
 is_written EitherHexadecimal n o l = absurd (false≢true o)
 is_written Decimal n o l =
@@ -255,6 +257,7 @@ is_written Decimal n o l =
 is_written LowerHexadecimal n o l = let w = hex_written false n l in record { digits = (hex_parts false n l).0; some = w.0; no_zero = w.1; value = w.2 }
 is_written UpperHexadecimal n o l = let w = hex_written true n l in record { digits = (hex_parts true n l).0; some = w.0; no_zero = w.1; value = w.2 }
 
+-- digits without a zero before them are the numeral of their value
 pub written_again : (k : Notation) (ds : List ℕ) → is_one_case k ≡ true → list_all (is_digit k) ds ≡ true → 0 < length ds → (get_or ds 0 0 ≡ 48 → length ds ≡ 1) → digits_value (radix k) ds < 2 ^ 32
     → numeral k (digits_value (radix k) ds) ≡ ds
 written_again EitherHexadecimal ds o a s f l = absurd (false≢true o)
@@ -264,6 +267,7 @@ written_again UpperHexadecimal ds o a s f l = hex_again true ds a s f l
 
 -- ---- what a word spells
 
+-- the value of digits, if they are digits of the notation and the value is no greater than the most
 abbrev pub value_up_to : Notation → ℕ → List ℕ → Option ℕ
 value_up_to k most word = if list_all (is_digit k) word && nat_le (digits_value (radix k) word) most then Some (digits_value (radix k) word) else None
 
@@ -285,6 +289,7 @@ too_great k most more i word l v =
     let both : (list_all (is_digit k) word && nat_le (digits_value (radix k) word) most) ≡ false = and_right (list_all (is_digit k) word) (nat_le (digits_value (radix k) word) most) e in
     rw both refl
 
+-- a word without a zero before it spells its value, or no number where it has none
 pub spelled_by_value : (k : Notation) (most : ℕ) (word : List ℕ) → is_one_case k ≡ true → most < 2 ^ 32 → 0 < length word → (get_or word 0 0 ≡ 48 → length word ≡ 1)
     → IsSpelled (numeral k) most word (value_up_to k most word)
 spelled_by_value k most word o m s f = go (list_all (is_digit k) word && nat_le (digits_value (radix k) word) most) refl
@@ -299,8 +304,10 @@ spelled_by_value k most word o m s f = go (list_all (is_digit k) word && nat_le 
         let both = and_from (list_all (is_digit k) word) (nat_le (digits_value (radix k) word) most) w.digits (le-leb (digits_value (radix k) word) most (omega (arith, w.value))) in
         false≢true (sym e ∙ both)
 
+-- an empty word spells no number
 pub empty_spells_none : (k : Notation) (most : ℕ) (word : List ℕ) → is_one_case k ≡ true → most < 2 ^ 32 → length word ≡ 0 → (n : ℕ) → n ≤ most → word ≡ numeral k n → ⊥
 empty_spells_none k most word o m e n l is = let w = subst (IsWritten k n) (sym is) (is_written k n o (omega arith)) in omega (arith, w.some)
 
+-- a word with a zero before other digits spells no number
 pub zero_spells_none : (k : Notation) (most : ℕ) (word : List ℕ) → is_one_case k ≡ true → most < 2 ^ 32 → 1 < length word → get_or word 0 0 ≡ 48 → (n : ℕ) → n ≤ most → word ≡ numeral k n → ⊥
 zero_spells_none k most word o m s z n l is = let w = subst (IsWritten k n) (sym is) (is_written k n o (omega arith)) in omega (arith, w.no_zero z)

@@ -74,9 +74,11 @@ is_padded n l =
         absurd (omega (arith, w.no_zero bare))
     first (suc count) e w size z = omega arith
 
+-- the digits of a character's number, with zeros before them, have that number for their value
 pub padded_value : (n : ℕ) → n ≤ 0x10ffff → digits_value 16 (padded n) ≡ n
 padded_value n l = (is_padded n (omega arith)).value
 
+-- a word of four digits or more, without a zero before a longer one, spells its value, or no character where it has none
 pub padded_by_value : (word : List ℕ) → 4 ≤ length word → (get_or word 0 0 ≡ 48 → length word ≡ 4) → IsSpelled padded 0x10ffff word (value_up_to UpperHexadecimal 0x10ffff word)
 padded_by_value word l f = go (list_all (is_digit UpperHexadecimal) word && nat_le (digits_value 16 word) 0x10ffff) refl
   where
@@ -90,5 +92,6 @@ padded_by_value word l f = go (list_all (is_digit UpperHexadecimal) word && nat_
         let both = and_from (list_all (is_digit UpperHexadecimal) word) (nat_le (digits_value 16 word) 0x10ffff) w.digits (le-leb (digits_value 16 word) 0x10ffff (omega (arith, w.value))) in
         false≢true (sym e ∙ both)
 
+-- a word of more than four digits with a zero before them spells no character
 pub zero_pads_none : (word : List ℕ) → 4 < length word → get_or word 0 0 ≡ 48 → (n : ℕ) → n ≤ 0x10ffff → word ≡ padded n → ⊥
 zero_pads_none word l z n small is = let w = subst (IsPadded n) (sym is) (is_padded n (omega arith)) in omega (arith, w.no_zero z)

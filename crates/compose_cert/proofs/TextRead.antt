@@ -50,12 +50,14 @@ keysyms_again (k ∷ keys) a =
     let first : keysym_of (keysym_text k) ≡ Some k = keysym_again k parts.0 in
     rw (first, keysyms_again keys parts.1) refl
 
+-- the parts of what a typing keeps to
 pub record IsTyping (t : Typing) : Type 0 where
   pub character : is_character t.character ≡ true
   pub some : nat_lt 0 (length t.keys) ≡ true
   pub few : nat_le (length t.keys) max_count ≡ true
   pub keysyms : list_all is_keysym t.keys ≡ true
 
+-- what a typing keeps to, part by part
 pub typing_parts : (t : Typing) → is_typing t ≡ true → IsTyping t
 typing_parts t h =
     let a = and_parts (is_character t.character && nat_lt 0 (length t.keys) && nat_le (length t.keys) max_count) (list_all is_keysym t.keys) h in
@@ -177,6 +179,7 @@ fresh_again (k ∷ ks) n few a =
     times_again (line_at keysym_of) keysym_text is_keysym (λ n k rest h l. line_again keysym_of n (keysym_text k) rest k (keysym_again k h) l) (k ∷ ks) (1 + n) ([] ∷ []) a (omega arith) in
     rw (counts, not_zero k ks, keys) refl
 
+-- the parts of what a certificate keeps to
 pub record IsCertificate (c : Certificate) : Type 0 where
   pub bound : is_number c.bound ≡ true
   pub few_pairs : nat_le (length c.pairs) max_count ≡ true
@@ -186,6 +189,7 @@ pub record IsCertificate (c : Certificate) : Type 0 where
   pub few_fresh : nat_le (length c.fresh) max_count ≡ true
   pub fresh : list_all is_keysym c.fresh ≡ true
 
+-- what a certificate keeps to, part by part
 pub certificate_parts : (c : Certificate) → is_certificate c ≡ true → IsCertificate c
 certificate_parts c h =
     let x1 = is_number c.bound in
@@ -230,21 +234,27 @@ lines_are c p =
 abbrev pub after_fresh : ℕ → List (ℕ × ℕ) → List Typing → List ℕ → Result Certificate CertFault
 after_fresh bound pairs typings fresh = Ok (record { bound = bound; pairs = pairs; typings = typings; fresh = fresh })
 
+-- the certificate that is read behind the typings
 abbrev pub after_typings : ℕ → ℕ → ℕ → List (ℕ × ℕ) → ℕ → List Typing × List (List ℕ) → Result Certificate CertFault
 after_typings version bound p pairs q typings = fresh_at version (5 + p + q) typings.1 >>= after_fresh bound pairs typings.0
 
+-- the certificate that is read behind the number of typings
 abbrev pub after_typing_count : ℕ → ℕ → ℕ → List (ℕ × ℕ) → ℕ × List (List ℕ) → Result Certificate CertFault
 after_typing_count version bound p pairs q = times typing_at q.0 (5 + p) q.1 >>= after_typings version bound p pairs q.0
 
+-- the certificate that is read behind the pairs
 abbrev pub after_pairs : ℕ → ℕ → ℕ → List (ℕ × ℕ) × List (List ℕ) → Result Certificate CertFault
 after_pairs version bound p pairs = count_at (codes "typings") (4 + p) pairs.1 >>= after_typing_count version bound p pairs.0
 
+-- the certificate that is read behind the number of pairs
 abbrev pub after_count : ℕ → ℕ → ℕ × List (List ℕ) → Result Certificate CertFault
 after_count version bound p = times (line_at pair_of) p.0 4 p.1 >>= after_pairs version bound p.0
 
+-- the certificate that is read behind the bound
 abbrev pub after_bound : ℕ → ℕ × List (List ℕ) → Result Certificate CertFault
 after_bound version bound = count_at (codes "pairs") 3 bound.1 >>= after_count version bound.0
 
+-- the certificate that is read behind the version
 abbrev pub after_version : ℕ × List (List ℕ) → Result Certificate CertFault
 after_version version = line_at (number_behind (codes "bound")) 2 version.1 >>= after_bound version.0
 
@@ -279,11 +289,14 @@ lines_again c p =
     ∙ ap (λ r. r >>= after_pairs (version c.fresh) c.bound (length c.pairs)) pairs ∙ ap (λ r. r >>= after_typing_count (version c.fresh) c.bound (length c.pairs) c.pairs) typing_counts
     ∙ ap (λ r. r >>= after_typings (version c.fresh) c.bound (length c.pairs) c.pairs (length c.typings)) typings ∙ ap (λ r. r >>= after_fresh c.bound c.pairs c.typings) fresh
 
+-- the text of a certificate is read back
 pub certificate_again : (c : Certificate) → is_certificate c ≡ true → certificate_of (text_of c) ≡ Ok c
 certificate_again c h = let p = certificate_parts c h in ap certificate_at (lines_divided (lines_of_text c) (lines_are c p)) ∙ lines_again c p
 
+-- a certificate that the bytes spell is read of them
 pub spelled_is_read : (bytes : List ℕ) (c : Certificate) → Spells bytes c → certificate_of bytes ≡ Ok c
 spelled_is_read bytes c s = ap certificate_of s.is ∙ certificate_again c s.fits
 
+-- bytes spell at most one certificate
 pub spells_one : (bytes : List ℕ) (c d : Certificate) → Spells bytes c → Spells bytes d → c ≡ d
 spells_one bytes c d s t = let e = spelled_is_read bytes c s in let f = spelled_is_read bytes d t in cc

@@ -20,10 +20,12 @@ use Rattle.compose_cert.specs.Reading.{written, number_of, keysym_of, character_
 abbrev pub plain : List ℕ → Bool
 plain bs = list_all (λ b. nat_lt 32 b) bs
 
+-- bytes above the blank, two lists in a row, are bytes above the blank
 pub plain_append : (a b : List ℕ) → plain a ≡ true → plain b ≡ true → plain (a ++ b) ≡ true
 plain_append [] b p q = q
 plain_append (x ∷ a) b p q = let parts = and_parts (nat_lt 32 x) (plain a) p in and_from (nat_lt 32 x) (plain (a ++ b)) parts.0 (plain_append a b parts.1 q)
 
+-- bytes are divided at the first divider, where none stands before it
 pub divide_at : (at : ℕ) (p : ℕ → Bool) → ((b : ℕ) → p b ≡ true → (b == at) ≡ false) → (part rest : List ℕ) → list_all p part ≡ true → divide at (part ++ at ∷ rest) ≡ part ∷ divide at rest
 divide_at at p differs [] rest h = go (at == at) refl
   where
@@ -34,6 +36,7 @@ divide_at at p differs (b ∷ part) rest h =
     let parts = and_parts (p b) (list_all p part) h in
     rw (differs b parts.0, divide_at at p differs part rest parts.1) refl
 
+-- bytes without the divider are one part
 pub divide_last : (at : ℕ) (p : ℕ → Bool) → ((b : ℕ) → p b ≡ true → (b == at) ≡ false) → (part : List ℕ) → list_all p part ≡ true → divide at part ≡ part ∷ []
 divide_last at p differs [] h = refl
 divide_last at p differs (b ∷ part) h =
@@ -47,9 +50,11 @@ above_differs at b l h = go (b == at) refl
     go true e = absurd (omega (arith, eqb-true b at e, ltb-true 32 b h))
     go false e = refl
 
+-- a word of bytes above the blank is the first part of what is divided at the blank behind it
 pub word_divided : (word rest : List ℕ) → plain word ≡ true → divide 32 (word ++ 32 ∷ rest) ≡ word ∷ divide 32 rest
 word_divided word rest h = divide_at 32 (λ b. nat_lt 32 b) (λ b h. above_differs 32 b (omega arith) h) word rest h
 
+-- a word of bytes above the blank is its only part
 pub word_alone : (word : List ℕ) → plain word ≡ true → divide 32 word ≡ word ∷ []
 word_alone word h = divide_last 32 (λ b. nat_lt 32 b) (λ b h. above_differs 32 b (omega arith) h) word h
 
@@ -57,6 +62,7 @@ word_alone word h = divide_last 32 (λ b. nat_lt 32 b) (λ b h. above_differs 32
 abbrev pub is_line : List ℕ → Bool
 is_line bs = list_all (λ b. not (b == 10)) bs
 
+-- lines that end with a newline are divided into themselves, and nothing behind the last
 pub lines_divided : (lines : List (List ℕ)) → list_all is_line lines ≡ true → divide 10 (ended lines) ≡ lines ++ [] ∷ []
 lines_divided [] h = refl
 lines_divided (line ∷ lines) h =
@@ -68,6 +74,7 @@ lines_divided (line ∷ lines) h =
     negated true e = cc
     negated false e = refl
 
+-- bytes above the blank are a line
 pub plain_line : (bs : List ℕ) → plain bs ≡ true → is_line bs ≡ true
 plain_line [] h = refl
 plain_line (b ∷ bs) h =
@@ -90,29 +97,36 @@ digits_plain radix (d ∷ ds) l a = and_from (nat_lt 32 d) (plain ds) (digit_abo
 same_bytes : (a : List ℕ) → bytes_eq a a ≡ true
 same_bytes a = (bytes_decides a a).1 refl
 
+-- a decimal numeral has only bytes above the blank
 pub decimal_plain : (n : ℕ) → n < 10 ^ 64 → plain (decimal n) ≡ true
 decimal_plain n h = digits_plain 10 (decimal n) (omega arith) (digits_is_IsNumeral 10 false (omega arith) (omega arith) n h).0.1
 
+-- a hexadecimal numeral has only bytes above the blank
 pub hex_plain : (upper : Bool) (n : ℕ) → n < 16 ^ 64 → plain (digits 16 upper n) ≡ true
 hex_plain upper n h = digits_plain 16 (digits 16 upper n) (omega arith) (digits_is_IsNumeral 16 upper (omega arith) (omega arith) n h).0.1
 
 written_again : (text : ℕ → List ℕ) (test : ℕ → Bool) (x y : ℕ) → y ≡ x → test x ≡ true → written text test y (text x) ≡ Some x
 written_again text test x y e h = rw (e, h, same_bytes (text x)) refl
 
+-- the number of 32 bits that is written is read back
 pub number_again : (n : ℕ) → is_number n ≡ true → number_of (decimal n) ≡ Some n
 number_again n h = let l = ltb-true n 0x100000000 h in written_again decimal is_number n (digits_value 10 (decimal n)) (digits_is_IsNumeral 10 false (omega arith) (omega arith) n (omega arith)).1 h
 
+-- the keysym that is written is read back
 pub keysym_again : (k : ℕ) → is_keysym k ≡ true → keysym_of (keysym_text k) ≡ Some k
 keysym_again k h =
     let l = leb-true k 0x1fffffff h in written_again keysym_text is_keysym k (digits_value 16 (keysym_text k)) (digits_is_IsNumeral 16 false (omega arith) (omega arith) k (omega arith)).1 h
 
+-- zeros before hexadecimal digits leave their value
 pub zeros : (k : ℕ) (ds : List ℕ) → digits_value 16 (replicate k 48 ++ ds) ≡ digits_value 16 ds
 zeros zero ds = refl
 zeros (suc k) ds = zeros k ds
 
+-- a character is at most 10FFFF
 pub character_below : (c : ℕ) → is_character c ≡ true → c ≤ 0x10ffff
 character_below c h = leb-true c 0x10ffff (and_parts (nat_le c 0x10ffff) (not (is_surrogate c)) h).0
 
+-- the character that is written is read back
 pub character_again : (c : ℕ) → is_character c ≡ true → character_of (character_text c) ≡ Some c
 character_again c h =
     let l = character_below c h in
@@ -123,6 +137,7 @@ zeros_plain : (k : ℕ) → plain (replicate k 48) ≡ true
 zeros_plain zero = refl
 zeros_plain (suc k) = zeros_plain k
 
+-- the text of a character has only bytes above the blank
 pub character_plain : (c : ℕ) → is_character c ≡ true → plain (character_text c) ≡ true
 character_plain c h =
     let l = character_below c h in

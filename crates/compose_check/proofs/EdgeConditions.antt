@@ -27,6 +27,7 @@ pub record AtEdge (old new : List Definition) (u : List ℕ) (n k : ℕ) (target
   pub fed : is_ignored k ≡ false
   pub root : is_empty (node new n) ≡ (n == 0)
 
+-- where a key leads on from an old node and lands from a new one, it is not ignored, and the new node is the root exactly where its number is 0
 pub at_edge : (old new : List Definition) (u : List ℕ) (n k : ℕ) (target : Target) (landing : Option Target) → target_of old u k ≡ Some target → target_of new (node new n) k ≡ landing
     → is_table old ≡ true → n < length (nodes new) → AtEdge old new u n k target landing
 at_edge old new u n k target landing from to sound in_range = record { from = from; to = to; fed = target_fed old u k target sound from; root = root_alone new n in_range }

@@ -26,6 +26,7 @@ none_empty ([] ∷ xs) zero a h = absurd (let clash = a.0 in cc)
 none_empty ((k ∷ s) ∷ xs) zero a h = refl
 none_empty (x ∷ xs) (suc m) a h = none_empty xs m a.1 (omega arith)
 
+-- a node is the root exactly where its number is 0
 pub root_alone : (table : List Definition) (n : ℕ) → n < length (nodes table) → is_empty (node table n) ≡ (n == 0)
 unfolding IsStrictlySortedBy
 root_alone table n h = go (nodes table) (root_first table).0 (root_first table).1 (nodes_sorted table) n h

@@ -17,6 +17,7 @@ pub none_passes : {X : Type 0} (q : X → Bool) (d : X) (xs : List X) → ((k : 
 none_passes q d [] f = refl
 none_passes q d (x ∷ xs) f = or_from (q x) (list_any q xs) (f 0 (omega arith)) (none_passes q d xs (λ k h. f (suc k) (omega arith)))
 
+-- where the element at an index passes, one of the list passes
 pub one_passes : {X : Type 0} (q : X → Bool) (d : X) (xs : List X) (k : ℕ) → k < length xs → q (get_or xs k d) ≡ true → list_any q xs ≡ true
 one_passes q d [] k h e = absurd (omega arith)
 one_passes q d (x ∷ xs) zero h e = or_left (q x) (list_any q xs) e

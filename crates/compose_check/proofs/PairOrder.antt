@@ -10,6 +10,7 @@ use Rattle.compose_fresh.proofs.Unmet.{drop_at}
 abbrev pub Before : ℕ × ℕ → ℕ × ℕ → Type 0
 Before p q = (p.0 < q.0) ⊎ ((p.0 ≡ q.0) × (p.1 < q.1))
 
+-- a pair that comes before another has the lesser old node, or the same one and the lesser new node
 pub before_means : (p q : ℕ × ℕ) → is_pair_before p q ≡ true → Before p q
 before_means p q h = elim (or_cases (nat_lt p.0 q.0) (p.0 == q.0 && nat_lt p.1 q.1) h) [
   | inl e ↦ inl (ltb-true p.0 q.0 e)
@@ -20,6 +21,7 @@ before_from : (p q : ℕ × ℕ) → Before p q → is_pair_before p q ≡ true
 before_from p q (inl h) = or_left (nat_lt p.0 q.0) (p.0 == q.0 && nat_lt p.1 q.1) (lt-ltb p.0 q.0 h)
 before_from p q (inr h) = or_right (nat_lt p.0 q.0) (p.0 == q.0 && nat_lt p.1 q.1) (and_from (p.0 == q.0) (nat_lt p.1 q.1) (eq-eqb p.0 q.0 h.0) (lt-ltb p.1 q.1 h.1))
 
+-- what comes before a pair comes before all that this pair comes before
 pub before_trans : (p q r : ℕ × ℕ) → is_pair_before p q ≡ true → is_pair_before q r ≡ true → is_pair_before p r ≡ true
 before_trans p q r g h = before_from p r (go (before_means p q g) (before_means q r h))
   where
@@ -36,6 +38,7 @@ other_before p i j h = elim (before_means p (i, j) h) [
   | inr a ↦ and_right (p.0 == i) (p.1 == j) (ne_eqb p.1 j (λ e. absurd (omega (arith, a.1))))
 ]
 
+-- a pair that comes behind the numbers i and j is not the pair of them
 pub other_behind : (p : ℕ × ℕ) (i j : ℕ) → is_pair_before (i, j) p ≡ true → p.0 == i && p.1 == j ≡ false
 other_behind p i j h = elim (before_means (i, j) p h) [
   | inl a ↦ and_left (p.0 == i) (p.1 == j) (ne_eqb p.0 i (λ e. absurd (omega arith)))
@@ -67,6 +70,7 @@ next_rises xs i p q low e f =
     ap pairs_rise (drop_at xs (i - 1) p e ∙ ap (λ n. p ∷ drop n xs) same ∙ ap (λ ys. p ∷ ys) this)
     ∙ ap (λ ys. is_pair_before p q && pairs_rise ys) (sym this ∙ ap (λ n. drop n xs) back)
 
+-- at most one pair always rises
 pub short_rises : (xs : List (ℕ × ℕ)) → length xs ≤ 1 → pairs_rise xs ≡ true
 short_rises [] h = refl
 short_rises (p ∷ []) h = refl

@@ -74,7 +74,8 @@ rises_compared : (i j : ℕ) (pairs : List (ℕ × ℕ)) → pairs_rise pairs �
 rises_compared i j pairs rise = IsNonDecreasingBy-from_default (λ p. ordering_index (compared i j p)) pairs (0, 0) (λ a b low high. elim (cases_lt a b) [
   | inl less ↦ no_more i j (get_or pairs a (0, 0)) (get_or pairs b (0, 0)) (earlier_before pairs rise a b less high)
   | inr more ↦
-      (let is : a ≡ b = omega arith in let e : ordering_index (compared i j (get_or pairs a (0, 0))) ≡ ordering_index (compared i j (get_or pairs b (0, 0))) = ap (λ n. ordering_index (compared i j (get_or pairs n (0, 0)))) is in omega arith)
+      (let is : a ≡ b = omega arith in let e : ordering_index (compared i j (get_or pairs a (0, 0))) ≡ ordering_index (compared i j (get_or pairs b (0, 0))) = ap
+      (λ n. ordering_index (compared i j (get_or pairs n (0, 0)))) is in omega arith)
 ])
 
 -- ---- the search

@@ -55,6 +55,7 @@ module _ (old new : migrations.TableSources) (index : ℕ) where
   names_is (Ok names) e = old_is (record { names = names; keys = [] }) (first_table names old.sources old.rule) e
   names_is (Err fault) e = cc
 
+-- a migration that was given no key names is never refused for one
 pub no_key_name : (header : List ℕ) (old new : migrations.TableSources) (index : ℕ) → migration_of (record { header = header; key_names = []; old = old; new = new }) ≡ Err (no_key index) → ⊥
 no_key_name header old new index e = names_is old new index (names_of header) e
 
@@ -101,6 +102,7 @@ module _ (input : Input) where
   abbrev with_migration : migrations.Parts → Result Parts Unread
   with_migration m = or_because no_repertoire (repertoire_of input.repertoire) >>= with_repertoire m
 
+  -- a fault of the migration is the fault of the whole input
   pub migration_refused : (fault : InputFault) → InputRefused fault (or_because no_migration (migration_of input.migration)) → InputRefused fault (parts_of input)
   migration_refused fault h = step_refused fault (or_because no_migration (migration_of input.migration)) with_migration h
 
@@ -108,6 +110,7 @@ module _ (input : Input) where
     after_migration : parts_of input ≡ (or_because no_repertoire (repertoire_of input.repertoire) >>= with_repertoire m)
     after_migration = ap (λ r. r >>= with_migration) (is_read (or_because no_migration (migration_of input.migration)) m m_read)
 
+    -- where the migration is read, a fault of the repertoire is the fault of the whole input
     pub repertoire_refused : (fault : InputFault) → InputRefused fault (or_because no_repertoire (repertoire_of input.repertoire)) → InputRefused fault (parts_of input)
     repertoire_refused fault h =
         subst (λ (s : Result Parts Unread). InputRefused fault s) (sym after_migration) (step_refused fault (or_because no_repertoire (repertoire_of input.repertoire)) (with_repertoire m) h)
@@ -116,10 +119,12 @@ module _ (input : Input) where
       after_repertoire : parts_of input ≡ (or_because no_certificate (certificate_of input.certificate) >>= with_certificate m r)
       after_repertoire = after_migration ∙ ap (λ x. x >>= with_repertoire m) (is_read (or_because no_repertoire (repertoire_of input.repertoire)) r r_read)
 
+      -- where the migration and the repertoire are read, a fault of the certificate is the fault of the whole input
       pub certificate_refused : (fault : InputFault) → InputRefused fault (or_because no_certificate (certificate_of input.certificate)) → InputRefused fault (parts_of input)
       certificate_refused fault h =
           subst (λ (s : Result Parts Unread). InputRefused fault s) (sym after_repertoire) (step_refused fault (or_because no_certificate (certificate_of input.certificate)) (with_certificate m r) h)
 
+      -- where the migration, the repertoire and the certificate are read, the input says these parts
       pub all_read : (c : Certificate) → IsRead (or_because no_certificate (certificate_of input.certificate)) c
           → parts_of input ≡ Ok (record { names = m.names; old = m.old; new = m.new; repertoire = r; certificate = c })
       all_read c c_read = after_repertoire ∙ ap (λ x. x >>= with_certificate m r) (is_read (or_because no_certificate (certificate_of input.certificate)) c c_read)

@@ -45,9 +45,11 @@ module _ (names : KeysymNames) (new : List Definition) (repertoire : Repertoire)
           ∙ ap (λ us. first_unmet (typing_conditions names new repertoire (c ∷ drop (i + 1) chars) us)) (drop_at ts i t at_t)
           ∙ side_by_side c t (drop (i + 1) chars) (drop (i + 1) ts)
 
+      -- a typing that has a fault beside its character gives the first fault from its index on
       pub typing_unmet : (fault : CheckFault) → typing_fault names new repertoire c t ≡ Some fault → left i ≡ Some fault
       typing_unmet fault h = both_left ∙ ap (λ o. option_or o (left (i + 1))) h
 
+      -- past a typing that has no fault, the first fault is that of the typings behind it
       pub typing_met : typing_fault names new repertoire c t ≡ None → left (i + 1) ≡ left i
       typing_met h = sym (both_left ∙ ap (λ o. option_or o (left (i + 1))) h)
 
@@ -101,6 +103,7 @@ character_not_empty c = go (encode_utf8 c) (omega (arith, length-encode c, len_u
     go [] h = absurd (omega arith)
     go (b ∷ s) h = refl
 
+-- the text of a character is never empty
 pub character_not_none : (c : ℕ) → same [] (encode_utf8 c) ≡ false
 character_not_none c = go (encode_utf8 c) (omega (arith, length-encode c, len_utf8_bounds c))
   where

@@ -171,6 +171,7 @@ module _ (names : KeysymNames) (old new : List Definition) (repertoire : Reperto
       ∙ ap (λ b. all_met starts && b) (list_all-append (λ (d : Condition). d.met) kept (bound ++ typings)
       ∙ ap (λ b. all_met kept && b) (list_all-append (λ (d : Condition). d.met) bound typings))))
 
+  -- a certificate on which no condition fails is valid
   pub valid_from_none : fault_of names old new repertoire c ≡ None → IsValid names old new repertoire c
   valid_from_none h =
       let all = sym all_are ∙ met_from_none (conditions names old new repertoire c) h in
@@ -197,6 +198,7 @@ module _ (names : KeysymNames) (old new : List Definition) (repertoire : Reperto
         fresh = are_fresh old c.fresh (none_from_met fresh of_fresh.0);
       }
 
+  -- on a valid certificate no condition fails
   pub none_from_valid : IsValid names old new repertoire c → fault_of names old new repertoire c ≡ None
   none_from_valid v =
       none_from_met (conditions names old new repertoire c) (all_are

@@ -57,6 +57,7 @@ module _ (r : Reply) (more : List ℕ) (f : ReplyFits r) where
     long = within;
   }
 
+-- the reply with whose frame bytes begin is the one that is read of them
 pub is_read : (bytes : List ℕ) → BeginsWithReply bytes → IsRead bytes
 is_read bytes b = subst (λ (h : List ℕ). IsRead h) (sym b.3) (read_again b.0 b.1 b.2)
 
@@ -83,6 +84,7 @@ module _ (h : List ℕ) (n : ℕ) (sized : IsSize (Ok (Some n)) h) where
   prefix_said : (BeginsWithReply h) → reply_bytes (reply_at h) ≡ take (9 + n) h
   prefix_said b = (is_read h b).prefix ∙ ap (λ m. take (9 + m) h) (sym sized.1)
 
+  -- a whole frame with a right head that is no reply's has a bad payload
   pub bad_payload : (BeginsWithReply h → ⊥) → HasBadPayload h
   bad_payload none =
       let said = sized.1 in
@@ -106,6 +108,7 @@ module _ (h : List ℕ) (n : ℕ) (sized : IsSize (Ok (Some n)) h) where
       same_answer : answer_at (get_or h 0 0) (take n (drop 9 h)) ≡ (reply_at h).answer
       same_answer = ap (λ m. answer_at (get_or h 0 0) (take m (drop 9 h))) sized.1
 
+      -- the session and the answer that are read of a whole frame are its reply
       pub says : SaysReply (record { session = session; answer = answer }) (reply_at h)
       says = (same_session, subst (λ (v : Answer). SaysAnswer answer v) same_answer read.0)
 

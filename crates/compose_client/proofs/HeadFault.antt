@@ -46,6 +46,7 @@ eight_bytes s l p x = le-ltb (length ((to_be_bytes w32 s ++ to_be_bytes w32 l ++
 told : ℕ → List ℕ → Bool → Bool → Option Fault
 told kind rest known short = cond (not known) (Some unknown_kind) (cond short None (cond (is_reply_length kind (from_be_bytes w32 (take 4 (drop 4 rest)))) None (Some bad_length)))
 
+-- the frame of a reply has no fault in its head, whatever comes behind it
 pub no_fault : (r : Reply) (x : List ℕ) → ReplyFits r → head_fault (reply_bytes r ++ x) ≡ None
 unfolding told
 no_fault r x f =
@@ -74,6 +75,7 @@ head_same kind rest more l =
     ∙ ap (λ bytes. cond (not (is_reply_kind kind)) (Some unknown_kind) (cond (nat_lt (length rest) 8) None (cond (is_reply_length kind (from_be_bytes w32 bytes)) None (Some bad_length))))
     (four_stay 4 rest more l)
 
+-- the fault of a head stays where more bytes come
 pub head_stays : (held more : List ℕ) (fault : Fault) → head_fault held ≡ Some fault → head_fault (held ++ more) ≡ Some fault
 unfolding told
 head_stays [] more fault e = cc
@@ -91,6 +93,7 @@ head_stays (kind ∷ rest) more fault e = elim (cases_Bool (nat_lt (length rest)
 pub no_reply : (bytes : List ℕ) (fault : Fault) → head_fault bytes ≡ Some fault → BeginsWithReply bytes → ⊥
 no_reply bytes fault e b = let n : None ≡ Some fault = sym (no_fault b.0 b.1 b.2) ∙ ap head_fault (sym b.3) ∙ e in cc
 
+-- bytes with a fault in their head never begin with a reply, whatever comes behind them
 pub never : (bytes more : List ℕ) (fault : Fault) → head_fault bytes ≡ Some fault → BeginsWithReply (bytes ++ more) → ⊥
 never bytes more fault e = no_reply (bytes ++ more) fault (head_stays bytes more fault e)
 
@@ -107,6 +110,7 @@ cut_back held more whole said b =
     let prefix : reply_bytes (reply_at (held ++ more)) ≡ take n held = r.prefix ∙ ap (λ m. take (9 + m) (held ++ more)) size ∙ take-append-le n held more said in
     (reply_at (held ++ more), drop n held, r.fits, sym (take-append-drop n held) ∙ ap (λ y. y ++ drop n held) (sym prefix))
 
+-- a payload that no reply has stays one where more bytes come
 pub payload_stays : (held more : List ℕ) → HasBadPayload held → HasBadPayload (held ++ more)
 payload_stays held more b =
     let size : size_said (held ++ more) ≡ size_said held = ap (from_be_bytes w32) (four_stay 5 held more b.whole) in

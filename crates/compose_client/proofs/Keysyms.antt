@@ -24,6 +24,7 @@ no_keysyms (a ∷ b ∷ []) l = refl
 no_keysyms (a ∷ b ∷ c ∷ []) l = refl
 no_keysyms (a ∷ b ∷ c ∷ d ∷ rest) l = absurd (omega arith)
 
+-- keysyms and one more keysym are keysyms
 pub one_more : (ks : List ℕ) (k : ℕ) → AreKeysyms ks → k ≤ 0x1fffffff → AreKeysyms (ks ++ k ∷ [])
 one_more [] k a l = (l, tt)
 one_more (j ∷ ks) k a l = (a.0, one_more ks k a.1 l)
@@ -33,6 +34,7 @@ pub is_keysym : (ks : List ℕ) (k : ℕ) (more : List ℕ) → AreKeysyms (ks +
 is_keysym [] k more a = a.0
 is_keysym (j ∷ ks) k more a = is_keysym ks k more a.1
 
+-- four bytes for each keysym that is read are no more than there are
 pub few_keysyms : (bytes : List ℕ) → 4 * length (keysyms_at bytes) ≤ length bytes
 few_keysyms [] = omega arith
 few_keysyms (a ∷ []) = omega arith

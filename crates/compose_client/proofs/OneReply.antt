@@ -34,12 +34,14 @@ refusal_again verdict_no = refl
 refusal_again no_memory = refl
 refusal_again malformed = refl
 
+-- keysyms that are written in four bytes each are read back
 pub keysyms_again : (ks : List ℕ) → AreKeysyms ks → keysyms_at (flat_map (to_be_bytes w32) ks) ≡ ks
 keysyms_again [] a = refl
 keysyms_again (k ∷ ks) a =
     let small = a.0 in
     ap₂ (λ n ns. n ∷ ns) (from_be_bytes-to_be_bytes_4 k (omega arith)) (keysyms_again ks a.1)
 
+-- the answer of a reply that fits is read back from its kind and payload
 pub answer_again : (v : Answer) → AnswerFits v → answer_at (answer_kind v) (answer_payload v) ≡ v
 answer_again opened f = refl
 answer_again (fed status accepted text) f = ap₂ (λ s b. fed s b text) (status_again status) (flag_again accepted)
@@ -59,9 +61,11 @@ payload_short (loaded count) f = omega arith
 payload_short (state status pending) f = let few = f.1 in let long = keysym_bytes_length pending in omega arith
 payload_short (refused why) f = omega arith
 
+-- the length of an answer's payload is read back from its four bytes
 pub length_again : (v : Answer) → AnswerFits v → from_be_bytes w32 (to_be_bytes w32 (length (answer_payload v))) ≡ length (answer_payload v)
 length_again v f = let short = payload_short v f in from_be_bytes-to_be_bytes_4 (length (answer_payload v)) (omega arith)
 
+-- bytes begin with the frame of at most one reply, and are the same behind it
 pub one_reply : (q r : Reply) (x y : List ℕ) → ReplyFits q → ReplyFits r → reply_bytes q ++ x ≡ reply_bytes r ++ y → (q ≡ r) × (x ≡ y)
 one_reply q r x y f g e =
     let kinds : answer_kind q.answer ≡ answer_kind r.answer = cc in

@@ -16,10 +16,12 @@ no_slash (b ∷ rest) h = go (slash b) refl (no_slash rest (λ i less. h (suc i)
     go true e more = absurd (h 0 (omega arith) e)
     go false e more = more
 
+-- the folder of a path without a slash is empty
 pub folder_none : (path : List ℕ) → ((i : ℕ) → i < length path → slash (get_or path i 0) ≡ true → ⊥) → folder_of path ≡ []
 folder_none [] h = refl
 folder_none (b ∷ rest) h = rw (no_slash (b ∷ rest) h) refl
 
+-- the folder of a path is what stands up to its last slash
 pub folder_some : (path : List ℕ) (at : ℕ) → at < length path → slash (get_or path at 0) ≡ true → ((i : ℕ) → at + 1 ≤ i → i < length path → slash (get_or path i 0) ≡ true → ⊥)
     → folder_of path ≡ take (at + 1) path
 folder_some [] at less is h = absurd (omega arith)

@@ -353,6 +353,7 @@ module _ (files : List TriedFile) (words : Words) where
 
 -- ---- from the root on
 
+-- what a search that ends well finds are the sources of the root
 pub finds_sources : FindsSources
 unfolding IsDistinct
 finds_sources files words root sources e = all_found files words root 64 0 (first ∷ []) sources (omega arith) (record {

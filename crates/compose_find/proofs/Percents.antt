@@ -28,11 +28,13 @@ within (b ∷ rest) = go (b == 37) (within rest)
     go true h = omega arith
     go false h = omega arith
 
+-- a text may be cut before its first percent sign
 pub cut_at_percent : (text : List ℕ) → IsUtf8 text → IsCharBoundary text (prefix_len is_plain text)
 cut_at_percent text u = (within text, λ less high. absurd (let at = stops text less in omega (arith, at)))
 
 -- ---- what the parts stand for
 
+-- nothing put before a path leaves it as it is
 pub onto-none : (r : Result (List ℕ) IncludeFault) → onto [] r ≡ r
 onto-none (Ok path) = refl
 onto-none (Err e) = refl
@@ -41,6 +43,7 @@ one_more : (b : ℕ) (xs : List ℕ) (r : Result (List ℕ) IncludeFault) → on
 one_more b xs (Ok path) = refl
 one_more b xs (Err e) = refl
 
+-- a text stands for its bytes before the first percent sign and for what the rest stands for
 pub plain_first : (words : Words) (text : List ℕ) → path_of words text ≡ onto (leading is_plain text) (path_of words (behind is_plain text))
 plain_first words [] = refl
 plain_first words (b ∷ rest) = go (b == 37) refl (plain_first words rest)
@@ -64,6 +67,7 @@ meaning_first words (b ∷ rest) x e = go (meaning words b) e
     go (Ok word) e = let same : (word, rest) ≡ x = cc in joined word (path_of words rest) ∙ ap (λ y. onto y.0 (path_of words y.1)) same
     go (Err fault) e = cc
 
+-- a percent sign whose meaning has a fault gives that fault to the path
 pub meaning_faults : (words : Words) (rest : List ℕ) (fault : IncludeFault) → meaning_at words rest ≡ Err fault → path_from words true rest ≡ Err fault
 meaning_faults words [] fault e = cc
 meaning_faults words (b ∷ rest) fault e = go (meaning words b) e
@@ -109,11 +113,13 @@ divided : (text : List ℕ) (b : ℕ) (rest : List ℕ) → Some b ≡ slice_get
 divided [] b rest first left = cc
 divided (a ∷ text) b rest first left = cc
 
+-- a percent sign and what stands behind it give a piece, or the fault of its meaning
 pub percent_piece : (words : Words) (text : List ℕ) (b : ℕ) (rest : List ℕ) (r : Result (Bor (List ℕ) × Bor (List ℕ)) IncludeFault) → Some b ≡ slice_get text 0 → b ≡ 37 → rest ≡ drop 1 text
     → Gives (λ x. (x.0.now, x.1.now)) r (meaning_at words rest) → IsPiece words text r
 percent_piece words text b rest r first is left gives =
     subst (λ t. IsPiece words t r) (ap (λ k. k ∷ rest) (sym is) ∙ divided text b rest first left) (percent_first words rest r gives)
 
+-- the bytes before the first percent sign are a piece that stands for itself
 pub plain_piece : (words : Words) (text plain rest : List ℕ) → 0 < length text → ((b : ℕ) → Some b ≡ slice_get text 0 → b ≡ 37 → ⊥) → plain ≡ leading is_plain text → rest ≡ behind is_plain text
     → (path_of words text ≡ onto plain (path_of words rest)) × (length rest < length text)
 plain_piece words [] plain rest some other p r = absurd (omega arith)
@@ -129,10 +135,12 @@ onto-append : (xs ys : List ℕ) (r : Result (List ℕ) IncludeFault) → onto x
 onto-append xs ys (Ok path) = ap Ok (sym (append_assoc xs ys path))
 onto-append xs ys (Err e) = refl
 
+-- one more piece put behind the path that is expanded leaves what the whole text stands for
 pub piece_more : (words : Words) (text done : List ℕ) (piece rest all : List ℕ) (path : List ℕ) → path ≡ done ++ piece → path_of words text ≡ onto piece (path_of words rest)
     → onto done (path_of words text) ≡ path_of words all → onto path (path_of words rest) ≡ path_of words all
 piece_more words text done piece rest all path is more before =
     ap (λ p. onto p (path_of words rest)) is ∙ sym (onto-append done piece (path_of words rest)) ∙ ap (onto done) (sym more) ∙ before
 
+-- the fault of what is left of a text is that of the whole text
 pub piece_faults : (words : Words) (text done all : List ℕ) (fault : IncludeFault) → path_of words text ≡ Err fault → onto done (path_of words text) ≡ path_of words all → path_of words all ≡ Err fault
 piece_faults words text done all fault e before = sym before ∙ ap (onto done) e

@@ -21,6 +21,7 @@ pub search_goes : (files : List TriedFile) (words : Words) (left index : ℕ) (s
 unfolding found_on
 search_goes files words left index sources from more at is = rw (at, is) refl
 
+-- a search stops where the includes of its next source do
 pub search_stops : (files : List TriedFile) (words : Words) (left index : ℕ) (sources : List FoundSource) (from : FoundSource) (stop : Stop) → slice_get sources index ≡ Some from
     → with_includes_of files words from sources ≡ Err stop
     → found_on files words (suc left) index sources ≡ Err stop
@@ -36,6 +37,7 @@ moved view other (MissingRoot path) said whole f h = f (missing_root (string_byt
 moved view other (MissingFile from line path) said whole f h = f (missing_file (string_bytes from) line (string_bytes path)) h
 moved view other (Include from line fault) said whole f h = f (refused (string_bytes from) line fault) h
 
+-- a fault that a step of the search passes on is that of the whole search
 pub passed : {X Y Z W : Type 0} (view : X → Z) (other : Y → W) (fault : FindFault) (result : Result Y FindFault) (said : Result Z Stop) (whole : Result W Stop) → result ≡ Err fault
     → ((stop : Stop) → said ≡ Err stop → whole ≡ Err stop)
     → FindGives view (Err fault) said → FindGives other result whole

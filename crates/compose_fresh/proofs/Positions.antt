@@ -46,14 +46,17 @@ any_last q xs x = list_any-append q xs (x ∷ []) ∙ ap (λ b. list_any q xs ||
     or_false true = refl
     or_false false = refl
 
+-- one of the first elements up to this index passes exactly where an earlier one passes or this one does
 pub any_more : {X : Type 0} (q : X → Bool) (xs : List X) (i : ℕ) (d : X) → i < length xs → list_any q (take (i + 1) xs) ≡ list_any q (take i xs) || q (get_or xs i d)
 any_more q xs i d h = ap (list_any q) (take_more xs i d h) ∙ any_last q (take i xs) (get_or xs i d)
 
+-- a keysym stands among those up to this index exactly where it stands among the earlier ones or is this one
 pub key_more : (es : List ℕ) (i j k : ℕ) → slice_get es i ≡ Some j → has_key (take (i + 1) es) k ≡ has_key (take i es) k || k == j
 key_more es i j k e = any_more (λ x. k == x) es i 0 (slice_get_within es i j e) ∙ ap (λ x. has_key (take i es) k || k == x) (get_or_from_slice_get es i j 0 e)
 
 -- ---- rising lists
 
+-- the first keysym of a rising list is less than each later one
 pub rises_head : (x : ℕ) (xs : List ℕ) → keys_rise (x ∷ xs) ≡ true → (j : ℕ) → j < length xs → x < get_or xs j 0
 rises_head x [] r j h = absurd (omega arith)
 rises_head x (y ∷ xs) r zero h = ltb-true x y (and_parts (nat_lt x y) (keys_rise (y ∷ xs)) r).0
@@ -62,6 +65,7 @@ rises_head x (y ∷ xs) r (suc j) h =
     let a : x < y = ltb-true x y parts.0 in
     let b : y < get_or xs j 0 = rises_head y xs parts.1 j (omega arith) in omega arith
 
+-- a rising list rises without its first keysym
 pub rises_tail : (x : ℕ) (xs : List ℕ) → keys_rise (x ∷ xs) ≡ true → keys_rise xs ≡ true
 rises_tail x [] r = refl
 rises_tail x (y ∷ xs) r = (and_parts (nat_lt x y) (keys_rise (y ∷ xs)) r).1
@@ -109,6 +113,7 @@ key_absent : (xs : List ℕ) (k : ℕ) → ((i : ℕ) → i < length xs → get_
 key_absent [] k n = refl
 key_absent (x ∷ xs) k n = or_from (k == x) (has_key xs k) (ne_eqb k x (λ e. n zero (omega arith) (sym e))) (key_absent xs k (λ i h e. n (suc i) (omega arith) e))
 
+-- a binary search in a rising list finds a keysym exactly where the list has it
 pub among : (xs : List ℕ) (k : ℕ) (r : Result ℕ ℕ) → keys_rise xs ≡ true → IsBinarySearchResult (λ y. nat_cmp y k) xs r → is_ok r ≡ has_key xs k
 among xs k r rise found = go r (searched xs k r found (rises_weakly xs rise))
   where

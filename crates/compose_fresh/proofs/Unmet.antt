@@ -20,10 +20,12 @@ first_unmet-append xs ys =
     go None = refl
     go (Some d) = refl
 
+-- a first condition that is met is passed over
 pub first_unmet-met : (met : Bool) (fault : CheckFault) (ds : List Condition) → met ≡ true → first_unmet (condition met fault ∷ ds) ≡ first_unmet ds
 first_unmet-met true fault ds h = refl
 first_unmet-met false fault ds h = cc
 
+-- a first condition that is not met gives its fault
 pub first_unmet-fault : (met : Bool) (fault : CheckFault) (ds : List Condition) → met ≡ false → first_unmet (condition met fault ∷ ds) ≡ Some fault
 first_unmet-fault true fault ds h = cc
 first_unmet-fault false fault ds h = refl
@@ -35,6 +37,7 @@ none_left (Some x) h = absurd (h x refl)
 
 -- ---- where all are met
 
+-- each of the conditions is met
 abbrev pub all_met : List Condition → Bool
 all_met ds = list_all (λ (d : Condition). d.met) ds
 
@@ -48,6 +51,7 @@ met_from_none (d ∷ ds) h = go d.met refl h (met_from_none ds)
     go true e h later = and_from d.met (all_met ds) e (later h)
     go false e h later = cc
 
+-- where all conditions are met, there is no fault
 pub none_from_met : (ds : List Condition) → all_met ds ≡ true → first_unmet ds ≡ None
 none_from_met [] h = refl
 none_from_met (d ∷ ds) h = go d.met refl (and_parts d.met (all_met ds) h) (none_from_met ds)
@@ -57,6 +61,7 @@ none_from_met (d ∷ ds) h = go d.met refl (and_parts d.met (all_met ds) h) (non
     go true e h later = later h.1
     go false e h later = absurd (let clash : false ≡ true = sym e ∙ h.0 in cc)
 
+-- all conditions of all elements are met exactly where each element's own are
 pub all_met-flat_map : {X : Type 0} (f : X → List Condition) (xs : List X) → all_met (flat_map f xs) ≡ list_all (λ x. all_met (f x)) xs
 all_met-flat_map f [] = refl
 all_met-flat_map f (x ∷ xs) = list_all-append (λ (d : Condition). d.met) (f x) (flat_map f xs) ∙ ap (λ b. all_met (f x) && b) (all_met-flat_map f xs)
@@ -70,6 +75,7 @@ each_of p q (x ∷ xs) h =
     let later = each_of p q xs here.1 in
     (and_from (p x) (list_all p xs) both.0 later.0, and_from (q x) (list_all q xs) (and_parts (q x) true both.1).0 later.1)
 
+-- where each element passes both tests, each has its two conditions met
 pub both_of : {X : Type 0} (p q : X → Bool) (xs : List X) → list_all p xs ≡ true → list_all q xs ≡ true → list_all (λ x. p x && (q x && true)) xs ≡ true
 both_of p q [] g h = refl
 both_of p q (x ∷ xs) g h =
@@ -87,6 +93,7 @@ drop_at xs i x e = drop_more xs i x (slice_get_within xs i x e) ∙ ap (λ y. y 
 pub unmet_before : (xs ys : List Condition) (fault : CheckFault) → first_unmet xs ≡ Some fault → first_unmet (xs ++ ys) ≡ Some fault
 unmet_before xs ys fault h = first_unmet-append xs ys ∙ ap (λ o. option_or o (first_unmet ys)) h
 
+-- where these are all met, the first fault is that of those that follow
 pub met_before : (xs ys : List Condition) → first_unmet xs ≡ None → first_unmet (xs ++ ys) ≡ first_unmet ys
 met_before xs ys h = first_unmet-append xs ys ∙ ap (λ o. option_or o (first_unmet ys)) h
 
@@ -95,6 +102,7 @@ pub unmet_at : {X : Type 0} (f : X → List Condition) (xs : List X) (i : ℕ) (
     → first_unmet (flat_map f (drop i xs)) ≡ Some fault
 unmet_at f xs i x fault e h = ap (λ ys. first_unmet (flat_map f ys)) (drop_at xs i x e) ∙ unmet_before (f x) (flat_map f (drop (i + 1) xs)) fault h
 
+-- past an element whose conditions are all met, the first fault is that of the elements behind it
 pub met_at : {X : Type 0} (f : X → List Condition) (xs : List X) (i : ℕ) (x : X) → slice_get xs i ≡ Some x → first_unmet (f x) ≡ None
     → first_unmet (flat_map f (drop (i + 1) xs)) ≡ first_unmet (flat_map f (drop i xs))
 met_at f xs i x e h = sym (ap (λ ys. first_unmet (flat_map f ys)) (drop_at xs i x e) ∙ met_before (f x) (flat_map f (drop (i + 1) xs)) h)
@@ -103,5 +111,6 @@ met_at f xs i x e h = sym (ap (λ ys. first_unmet (flat_map f ys)) (drop_at xs i
 pub one_unmet_at : {X : Type 0} (f : X → Condition) (xs : List X) (i : ℕ) (x : X) → slice_get xs i ≡ Some x → (f x).met ≡ false → first_unmet (map f (drop i xs)) ≡ Some (f x).fault
 one_unmet_at f xs i x e h = ap (λ ys. first_unmet (map f ys)) (drop_at xs i x e) ∙ first_unmet-fault (f x).met (f x).fault (map f (drop (i + 1) xs)) h
 
+-- past an element whose condition is met, the first fault is that of the elements behind it
 pub one_met_at : {X : Type 0} (f : X → Condition) (xs : List X) (i : ℕ) (x : X) → slice_get xs i ≡ Some x → (f x).met ≡ true → first_unmet (map f (drop (i + 1) xs)) ≡ first_unmet (map f (drop i xs))
 one_met_at f xs i x e h = sym (ap (λ ys. first_unmet (map f ys)) (drop_at xs i x e) ∙ first_unmet-met (f x).met (f x).fault (map f (drop (i + 1) xs)) h)

@@ -43,6 +43,7 @@ module _ (slots now : List (Option Client)) (key : ℕ) (x : Option Client) (lt 
   still_more j d h = still_at j d (at_slot now key x lt j d h)
 
 module _ (unsent : ℕ) (reading : Reading) (state : ServiceState) (accepted accepted' : ℕ) (slots now : List (Option Client)) (same : accepted' ≡ accepted) (still : AllAreStill slots now) where
+  -- where no further connection is accepted and all clients are still, what was true of all that happened stays true
   pub still_goes_on : GoesOnServing unsent reading state state accepted accepted' slots now
   still_goes_on first s = record {
     all = s.all;
@@ -109,6 +110,7 @@ module _ (unsent : ℕ) (reading : Reading) (first old new : ServiceState) (acce
       (subst (λ (state : ServiceState). ServedSoFar unsent reading first state accepted slots) (sym p.0) s)
   turned_at (inr t) = client_turned t.0 t.1 t.2 t.3 t.4 t.5 t.6
 
+  -- once the connection in a slot had its turns, what happened so far is what happened before and these turns
   pub slot_turned : (d : Option Client) → SlotTurnsSo unsent reading old new (get_or slots key d) x → ServedSoFar unsent reading first new accepted (set slots key x)
   slot_turned d t = turned_at (subst (λ (o : Option Client). SlotTurnsSo unsent reading old new o x) (get_or_default slots key d None lt) t)
 
@@ -159,6 +161,7 @@ none_more [] none (suc key) c h = absurd (cc)
 none_more (x ∷ slots) none zero c h = none zero c h
 none_more (x ∷ slots) none (suc key) c h = none_more slots (λ j d e. none (suc j) d e) key c h
 
+-- where no slot has a client, nothing happened on any connection so far
 pub none_served : (unsent : ℕ) (reading : Reading) (first : ServiceState) (accepted : ℕ) (slots : List (Option Client)) → HasNone slots → ServedSoFar unsent reading first first accepted slots
 none_served unsent reading first accepted slots none = record {
   all = [];
@@ -170,5 +173,6 @@ none_served unsent reading first accepted slots none = record {
   later = λ n past. refl;
 }
 
+-- a service that stays as it is served many connections on which nothing happened
 pub nothing_happened : (unsent : ℕ) (reading : Reading) (first : ServiceState) → ServesMany unsent reading first first
 nothing_happened unsent reading first = ([], λ n. new_connection, record { run = refl; each = λ c. refl })

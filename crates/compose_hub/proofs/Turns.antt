@@ -17,6 +17,7 @@ pub no_turn : (unsent : ℕ) (reading : Reading) (old : ServiceState) (before : 
 no_turn unsent reading old before = record { events = []; happen = refl; run = refl }
 
 module _ (unsent : ℕ) (reading : Reading) (old mid new : ServiceState) (before between now : ConnectionState) (so_far : WentOn unsent reading old mid before between) where
+  -- a last turn after turns on which the connection went on is turns of it altogether
   pub turns_then : (turn : Turn) → TurnsSo unsent reading turn mid new between now → TurnsSo unsent reading turn old new before now
   turns_then turn t = (
     so_far.events ++ t.0,
@@ -26,6 +27,7 @@ module _ (unsent : ℕ) (reading : Reading) (old mid new : ServiceState) (before
     t.4,
   )
 
+  -- events on which the connection goes on, after turns on which it went on, are such turns with these
   pub went_on : (events : List Event) (after : ConnectionState) → AllHappen (max unsent 1) between events after → IsHistory reading mid (exchanges events) new → now ≡ after
       → WentOn unsent reading old new before now
   went_on events after h r e = record {

@@ -23,6 +23,7 @@ short_code radix digits low few all =
     let long : 16 ^ length digits ≤ 16 ^ 3 = pow-le-pow_right sixteen few in
     omega (arith, below, base, long)
 
+-- one digit more is written in the value, which stays below 4,096
 pub code_more : (radix value digit : ℕ) (bytes : List ℕ) (len : ℕ) → radix ≤ 16 → len < length bytes → digit_value (get_or bytes len 0) < radix → digit ≡ digit_value (get_or bytes len 0)
     → Code radix value bytes len
     → (value * radix + digit < 4096) × Code radix (value * radix + digit) bytes (len + 1)

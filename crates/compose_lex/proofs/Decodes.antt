@@ -53,6 +53,7 @@ piece_fits b rest = go (b == 92)
     go true = escape_fits rest
     go false = omega arith
 
+-- one piece more is decoded to its byte, and of the bytes the first 255 are kept
 pub decodes_more : (raw : List ℕ) (at len b byte taken : ℕ) (kept more behind : List ℕ) → drop at raw ≡ b ∷ behind → piece_byte b behind ≡ Some byte → taken ≡ first_len (b ∷ behind)
     → more ≡ take 255 (kept ++ byte ∷ [])
     → Decodes raw at kept len → Decodes raw (at + (1 + taken)) more (len + 1)

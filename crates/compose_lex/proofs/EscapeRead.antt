@@ -71,11 +71,13 @@ prefix_taken p (suc m) (r ∷ rest) = go (p r) (prefix_taken p m rest)
 
 -- ---- codes
 
+-- what an escape behind its backslash stands for, how many bytes it takes, and its fault where it stands for nothing
 pub record EscapeIs (at : ℕ) (rest : List ℕ) (byte : Option ℕ) (len : ℕ) (fault : LexFault) : Type 0 where
   pub stands : escape_byte rest ≡ byte
   pub takes : escape_len rest ≡ len
   pub fails : escape_fault at rest ≡ fault
 
+-- behind `x` or `X` the hexadecimal digits among the next two bytes are the code
 pub hexadecimal_is : (at e : ℕ) (rest : List ℕ) → (e == 120 || e == 88) ≡ true
     → let ds = leading is_hexadecimal_digit (take 2 rest) in EscapeIs at (e ∷ rest) (byte_of (digits_value 16 ds)) (1 + length ds) (BadCode at)
 hexadecimal_is at e rest h =
@@ -95,6 +97,7 @@ octal_read : (e : ℕ) (digits after : List ℕ) → (e == 120 || e == 88) ≡ f
     → escape (e ∷ digits) after ≡ cond (is_run is_octal 3 (e ∷ digits) after) (byte_of (digits_value 8 (e ∷ digits))) None
 octal_read e digits after h o = rw (h, o) refl
 
+-- where no `x` stands, the octal digits among the next three bytes are the code, if there is one
 pub octal_is : (at e : ℕ) (rest : List ℕ) → (e == 120 || e == 88) ≡ false → 0 < length (leading is_octal (take 3 (e ∷ rest)))
     → let ds = leading is_octal (take 3 (e ∷ rest)) in EscapeIs at (e ∷ rest) (byte_of (digits_value 8 ds)) (length ds) (BadCode at)
 octal_is at e rest h some = go (is_octal e) refl some

@@ -57,12 +57,14 @@ one_more n count prefix rest behind name after few h e =
     let left : 32 - count ≡ suc (32 - (count + 1)) = omega arith in
     ap (λ x. with_prefix prefix (events_at n x rest)) left ∙ events_more n (32 - (count + 1)) prefix rest behind name after h e
 
+-- where fewer than 32 events stand before a broken one, its fault is that of the events
 pub one_broken : (n count : ℕ) (rest behind : List ℕ) (fault : LexFault) → count < 32 → ((event : Reads) → colon_or n (skip_blanks rest) event ≡ event behind) → event_at n behind ≡ Err fault
     → events_at n (32 - count) rest ≡ Err fault
 one_broken n count rest behind fault few h e =
     let left : 32 - count ≡ suc (32 - (count + 1)) = omega arith in
     ap (λ x. events_at n x rest) left ∙ events_broken n (32 - (count + 1)) rest behind fault h e
 
+-- an event behind 32 others is one too many
 pub one_too_many : (n count : ℕ) (rest behind : List ℕ) → 32 ≤ count → ((event : Reads) → colon_or n (skip_blanks rest) event ≡ event behind) → events_at n (32 - count) rest ≡ Err TooManyKeysyms
 one_too_many n count rest behind many h =
     let left : 32 - count ≡ 0 = omega arith in

@@ -4,6 +4,7 @@ use Rattle.std.specs.Prelude.{Some, slice_get}
 use Rattle.std.specs.Str.{IsUtf8, IsCharBoundary}
 use Rattle.std.proofs.lemmas.Str.{IsCharBoundary-after_ascii}
 
+-- a list that has a first byte isn't empty, and that byte is at its index 0
 pub first_is : (xs : List ℕ) (b : ℕ) → Some b ≡ slice_get xs 0 → (0 < length xs) × (get_or xs 0 0 ≡ b)
 first_is [] b e = cc
 first_is (x ∷ xs) b e = (omega arith, cc)

@@ -17,11 +17,13 @@ behind_stops p (x ∷ xs) = go (p x) refl (behind_stops p xs)
     go true e h = h
     go false e h = e
 
+-- a word that is `include` is found, and what follows it stands seven bytes further
 pub include_here : (rest : List ℕ) → leading is_name_byte rest ≡ codes "include" → (is_include rest ≡ true) × (behind is_name_byte rest ≡ drop 7 rest)
 include_here rest e =
     let is : rest ≡ codes "include" ++ behind is_name_byte rest = parts_of is_name_byte rest ∙ ap (λ x. x ++ behind is_name_byte rest) e in
     (ap is_include is ∙ ap not (behind_stops is_name_byte rest), sym (ap (drop 7) is))
 
+-- any other word at the beginning is no `include`
 pub no_include : (rest : List ℕ) → leading is_name_byte rest ≢ codes "include" → is_include rest ≡ false
 no_include rest differs = go (is_include rest) refl
   where

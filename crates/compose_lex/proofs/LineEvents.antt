@@ -20,10 +20,12 @@ use Rattle.compose_lex.proofs.LineStops.{Reached, reached_more, whole_before, op
 
 -- ---- what an Err came from
 
+-- where two steps in a row fail, the first one failed, or it gave what the second one failed with
 pub bind_fails : {A B P : Type 0} (r : Result A LexFault) (f : A → Result B LexFault) (y : LexFault) → (r >>= f) ≡ Err y → (r ≡ Err y → P) → ((x : A) → r ≡ Ok x → f x ≡ Err y → P) → P
 bind_fails (Ok x) f y e first then = then x refl e
 bind_fails {A} (Err e) f y h first then = let q : e ≡ y = cc in first (ap (λ x. let r : Result A LexFault = Err x in r) q)
 
+-- a name is missing where no byte of a name stands, and the fault has that offset
 pub name_fails : (n : ℕ) (bytes : List ℕ) (f : LexFault) → name_at n bytes ≡ Err f → (begins is_name_byte bytes ≡ false) × (BadToken (n - length bytes) ≡ f)
 name_fails n bytes f e =
     elim (chosen {A = Result (List ℕ × List ℕ) LexFault} (begins is_name_byte bytes) (Ok (leading is_name_byte bytes, behind is_name_byte bytes)) (Err (BadToken (n - length bytes))) (Err f) e) [
@@ -31,6 +33,7 @@ name_fails n bytes f e =
       | inr x ↦ (x.0, (let w = x.1 in cc))
     ]
 
+-- a byte is missing where another one stands, or none, and the fault has that offset
 pub byte_fails : (n wanted : ℕ) (bytes : List ℕ) (f : LexFault) → byte_at n wanted bytes ≡ Err f → (begins (λ b. b == wanted) bytes ≡ false) × (BadToken (n - length bytes) ≡ f)
 byte_fails n wanted [] f e = let whole : n - 0 ≡ n = omega arith in (refl, ap BadToken whole ∙ cc)
 byte_fails n wanted (b ∷ bytes) f e = elim (chosen {A = Result (List ℕ) LexFault} (b == wanted) (Ok bytes) (Err (BadToken (n - length (b ∷ bytes)))) (Err f) e) [
@@ -38,6 +41,7 @@ byte_fails n wanted (b ∷ bytes) f e = elim (chosen {A = Result (List ℕ) LexF
   | inr x ↦ (x.0, (let w = x.1 in cc))
 ]
 
+-- the end is missing where something else than a comment stands, and the fault has that offset
 pub end_fails : (n : ℕ) (bytes : List ℕ) (f : LexFault) → end_at n bytes ≡ Err f → (is_comment bytes ≡ false) × (BadToken (n - length bytes) ≡ f)
 end_fails n [] f e = cc
 end_fails n (b ∷ bytes) f e = elim (chosen {A = Result (Unit {0}) LexFault} (b == 35) (Ok tt) (Err (BadToken (n - length (b ∷ bytes)))) (Err f) e) [
@@ -45,6 +49,7 @@ end_fails n (b ∷ bytes) f e = elim (chosen {A = Result (Unit {0}) LexFault} (b
   | inr x ↦ (x.0, (let w = x.1 in cc))
 ]
 
+-- a value that becomes a fault is missing, and the fault is the given one
 pub closed_fails : {A : Type 0} (fault : LexFault) (o : Option A) (f : LexFault) → closed_or fault o ≡ Err f → (o ≡ None) × (fault ≡ f)
 closed_fails fault None f e = (refl, cc)
 closed_fails fault (Some x) f e = cc
@@ -70,6 +75,7 @@ name_whole n bytes name rest e =
       | inr x ↦ (let w = x.1 in cc)
     ]
 
+-- where no byte of the one kind begins the rest, none of a narrower kind does
 pub may_not : (p q : ℕ → Bool) (rest : List ℕ) → ((b : ℕ) → p b ≡ false → q b ≡ false) → begins p rest ≡ false → begins q rest ≡ false
 may_not p q [] f h = refl
 may_not p q (b ∷ rest) f h = f b h
@@ -122,6 +128,7 @@ close_reached line events name bytes rest left count names is r here =
           (subst AreFirst (sym (whole_event events name)) (events_right events name few names is))));
     }
 
+-- an event that is read behind `<` puts one more behind those that are read
 pub event_reached : (line : List ℕ) (events : List (List ℕ)) (rest : List ℕ) (x : List ℕ × List ℕ) (left : ℕ) → length events + suc left ≡ 32 → list_all is_name events ≡ true
     → Reached line (opened_tokens events) (skip_blanks rest) (opened (length events)) → event_at (length line) rest ≡ Ok x → Events line (events ++ x.0 ∷ []) left x.1
 event_reached line events rest x left count names r e =
@@ -133,6 +140,7 @@ event_reached line events rest x left count names r e =
     subst (λ (z : List ℕ × List ℕ). Events line (events ++ z.0 ∷ []) left z.1) q
     (close_reached line events y.0 (skip_blanks y.1) more left count names s.1 s.0 (byte_said n 62 (skip_blanks y.1) more closed))))
 
+-- where an event behind `<` is broken, the line has that fault
 pub event_broken : (line : List ℕ) (events : List (List ℕ)) (rest : List ℕ) (f : LexFault) → length events < 32 → list_all is_name events ≡ true
     → Reached line (opened_tokens events) (skip_blanks rest) (opened (length events))
     → event_at (length line) rest ≡ Err f → IsLineFault line f
@@ -183,6 +191,7 @@ too_many line events rest behind s here =
       is = (events, refl, all, ap (begins (λ b. b == 60)) here);
     }
 
+-- where events behind others are broken, the line has that fault
 pub events_broken : (line : List ℕ) (left : ℕ) (events : List (List ℕ)) (rest : List ℕ) (f : LexFault) → Events line events left rest → events_at (length line) left rest ≡ Err f → IsLineFault line f
 unfolding events_at
 events_broken line zero events rest f s e = elim (colon_fails (length line) (skip_blanks rest) (λ _. Err TooManyKeysyms) f e) [
@@ -204,6 +213,7 @@ events_broken line (suc left) events rest f s e =
 
 -- ---- the colon
 
+-- of a line, 1 to 32 events and the colon are read up to this rest
 pub record Colon (line : List ℕ) (events : List (List ℕ)) (rest : List ℕ) : Type 0 where
   pub some : 0 < length events
   pub few : length events ≤ 32
@@ -228,6 +238,7 @@ last_event : (line : List ℕ) (events : List (List ℕ)) (left : ℕ) (rest : L
 last_event line events left rest x s c =
     subst (λ (y : List (List ℕ) × List ℕ). Colon line (events ++ y.0) y.1) (sym c.2) (subst (λ es. Colon line es c.0) (sym (append-nil events)) (colon_reached line events left rest c.0 s c.1))
 
+-- events that are read behind others lead behind the colon
 pub events_reached : (line : List ℕ) (left : ℕ) (events : List (List ℕ)) (rest : List ℕ) (x : List (List ℕ) × List ℕ) → Events line events left rest → events_at (length line) left rest ≡ Ok x
     → Colon line (events ++ x.0) x.1
 unfolding events_at

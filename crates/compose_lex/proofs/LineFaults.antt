@@ -83,6 +83,7 @@ nothing_begins b rest i l g = go g.2.0 g.2.2 g.2.3
         let mark : (b == 60) ≡ true = ap (λ x. x == 60) same in
         cc
 
+-- the fault that is read of a line is one that the grammar finds in it
 pub line_fault_said : (line : List ℕ) (f : LexFault) → reading_of line ≡ Err f → IsLineFault line f
 line_fault_said line f e = go (skip_blanks line) refl e
   where
@@ -192,6 +193,7 @@ same_kind n done rest f g (inr x) (inr y) = x.0 ∙ sym y.0
 same_kind n done rest f g (inl x) (inr y) = absurd (y.1 x.1)
 same_kind n done rest f g (inr x) (inl y) = absurd (x.1 y.1)
 
+-- a line has at most one fault
 pub one_line_fault : (line : List ℕ) (f g : LexFault) → IsLineFault line f → IsLineFault line g → f ≡ g
 one_line_fault line f g x y =
     let p = one_place line x.at y.at x.done y.done x.rest y.rest x.stops y.stops in
@@ -202,6 +204,7 @@ one_line_fault line f g x y =
     let here : IsFaultAt y.at y.done y.rest f = subst (λ n. IsFaultAt n y.done y.rest f) place (subst (λ d. IsFaultAt x.at d y.rest f) p.0 (subst (λ r. IsFaultAt x.at x.done r f) p.1 x.is)) in
     same_kind y.at y.done y.rest f g (kind_of y.at y.done y.rest f here) (kind_of y.at y.done y.rest g y.is)
 
+-- the fault that the grammar finds in a line is read of it
 pub line_fault_read : (line : List ℕ) (f : LexFault) → IsLineFault line f → reading_of line ≡ Err f
 line_fault_read line f x = go (reading_of line) refl
   where

@@ -28,13 +28,16 @@ pub record End (line : List ℕ) (rest : List ℕ) : Type 0 where
   pub none : begins (λ b. is_some (goes stage b)) (skip_blanks rest) ≡ false
   pub behind : is_between stage ≡ false
 
+-- where something else than a comment stands at the end of a reading, the line has that fault
 pub end_broken : (line rest : List ℕ) (f : LexFault) → End line rest → end_at (length line) (skip_blanks rest) ≡ Err f → IsLineFault line f
 end_broken line rest f s e = let b = end_fails (length line) (skip_blanks rest) f e in subst (IsLineFault line) b.1 (unlike line s.done (skip_blanks rest) s.stage s.reached s.none (λ _. b.0) s.behind)
 
+-- behind the last token no further one may begin
 pub never : (rest : List ℕ) → begins (λ b. is_some (goes ended b)) rest ≡ false
 never [] = refl
 never (b ∷ rest) = refl
 
+-- a string in quotes is whole before anything
 pub string_whole : (raw more : List ℕ) → is_whole (quoted raw) more ≡ true
 string_whole raw more = ap (λ x. not (x && begins is_name_byte more)) (quoted_no_name raw)
 
@@ -83,6 +86,7 @@ no_result line events rest r comment = record {
     neither [] h = refl
     neither (b ∷ rest) h = ap (λ x. is_some (goes colon x)) (eqb-true b 35 h)
 
+-- where the result behind the colon is broken, the line has that fault
 pub result_broken : (line : List ℕ) (events : List (List ℕ)) (rest : List ℕ) (f : LexFault) → Colon line events rest → result_at (length line) (skip_blanks rest) ≡ Err f → IsLineFault line f
 result_broken line events rest f s e = go (skip_blanks rest) s.reached e
   where
@@ -142,6 +146,7 @@ behind_string line events rest raw more s r is = go (begins is_name_byte (skip_b
           behind = refl;
         }
 
+-- a result that is read behind the colon leads to the end of the reading
 pub result_reached : (line : List ℕ) (events : List (List ℕ)) (rest : List ℕ) (x : Option (List ℕ) × Option (List ℕ) × List ℕ) → Colon line events rest
     → result_at (length line) (skip_blanks rest) ≡ Ok x → End line x.2
 result_reached line events rest x s e = go (skip_blanks rest) s.reached e

@@ -9,15 +9,18 @@ use Rattle.std.proofs.lemmas.Bool.Decides.{nat_tests}
 use Rattle.std.proofs.lemmas.List.Concat.{flat_map-append}
 use Rattle.compose_lex.specs.Escape.{quote_byte, quote_inside}
 
+-- a byte that quoting leaves as it is: no backslash, no quote, and no control
 abbrev pub stands : ℕ → Bool
 stands b = not (b == 92 || b == 34 || (nat_lt b 32 || b == 127))
 
+-- the text up to the index `done` is pushed quoted, and from there to the index `at` each byte stands for itself
 pub record Quoted (text start pushed : List ℕ) (done at : ℕ) : Type 0 where
   pub order : done ≤ at
   pub cut : IsCharBoundary text done
   pub so_far : pushed ≡ start ++ quote_inside (take done text)
   pub since : quote_inside (take at text) ≡ quote_inside (take done text) ++ take (at - done) (drop done text)
 
+-- before the first byte nothing is pushed
 pub quoted_none : (text start : List ℕ) → IsUtf8 text → Quoted text start start 0 0
 quoted_none text start u = record { order = omega arith; cut = IsCharBoundary-start text u; so_far = sym (append-nil start); since = refl }
 
@@ -26,6 +29,7 @@ quote_plain b h =
     let special = or_parts (b == 92 || b == 34) (nat_lt b 32 || b == 127) (not-true (b == 92 || b == 34 || (nat_lt b 32 || b == 127)) h) in
     rw (special.0, special.1) refl
 
+-- a byte that doesn't stand for itself in quotes is ASCII
 pub special_ascii : (b : ℕ) → stands b ≡ false → b < 128
 special_ascii b h = grind (arith, nat_tests)
 

@@ -8,6 +8,7 @@ use Rattle.std.proofs.lemmas.Bool.{cases_lt}
 use Rattle.std.proofs.lemmas.Bool.Decides.{nat_tests}
 use Rattle.compose_text.specs.Bytes.{is_blank, is_name_byte, leading, behind}
 
+-- the leading bytes are as many first bytes as the scan counts
 pub prefix_taken : (p : ℕ → Bool) (text : List ℕ) → leading p text ≡ take (prefix_len p text) text
 prefix_taken p [] = refl
 prefix_taken p (b ∷ rest) = go (p b) (prefix_taken p rest)
@@ -16,6 +17,7 @@ prefix_taken p (b ∷ rest) = go (p b) (prefix_taken p rest)
     go true e = let one : 1 + prefix_len p rest ≡ suc (prefix_len p rest) = omega arith in ap (λ t. b ∷ t) e ∙ ap (λ n. take n (b ∷ rest)) (sym one)
     go false e = refl
 
+-- what stands behind the leading bytes is what is left after as many as the scan counts
 pub behind_left : (p : ℕ → Bool) (text : List ℕ) → behind p text ≡ drop (prefix_len p text) text
 behind_left p [] = refl
 behind_left p (b ∷ rest) = go (p b) (behind_left p rest)
@@ -38,8 +40,10 @@ cut_behind p text ascii u =
           subst (IsCharBoundary text) no (IsCharBoundary-start text u)
     ]
 
+-- a text may be cut behind its leading blanks
 pub cut_behind_blanks : (text : List ℕ) → IsUtf8 text → IsCharBoundary text (prefix_len is_blank text)
 cut_behind_blanks text u = cut_behind is_blank text (λ b h. grind (arith, nat_tests)) u
 
+-- a text may be cut behind a name at its beginning
 pub cut_behind_name : (text : List ℕ) → IsUtf8 text → IsCharBoundary text (prefix_len is_name_byte text)
 cut_behind_name text u = cut_behind is_name_byte text (λ b h. grind (arith, nat_tests)) u

@@ -21,6 +21,7 @@ pub data Stage : Type 0 where
   text : Stage
   ended : Stage
 
+-- the stage behind the token that begins with this byte, if one may stand there
 abbrev pub goes : Stage → ℕ → Option Stage
 goes start b = cond (b == 60) (Some (opened 0)) (cond (b == 105) (Some word) None)
 goes word b = cond (b == 34) (Some ended) None
@@ -31,14 +32,17 @@ goes colon b = cond (b == 34) (Some text) (cond (is_name_byte b) (Some ended) No
 goes text b = cond (is_name_byte b) (Some ended) None
 goes ended b = None
 
+-- the stage behind the token, if it may stand there
 abbrev pub step : Stage → List ℕ → Option Stage
 step s [] = None
 step s (b ∷ t) = goes s b
 
+-- from the stage, if there is one
 abbrev pub on : Option Stage → (Stage → Option Stage) → Option Stage
 on None f = None
 on (Some s) f = f s
 
+-- the stage behind these tokens, if each may stand where it does
 abbrev pub walk : Stage → List (List ℕ) → Option Stage
 walk s [] = Some s
 walk s (t ∷ ts) = on (step s t) (λ m. walk m ts)
@@ -65,6 +69,7 @@ is_between (opened k) = false
 is_between (named k) = false
 is_between colon = false
 
+-- the colon was the last token
 abbrev pub is_colon : Stage → Bool
 is_colon colon = true
 is_colon start = false
@@ -75,10 +80,12 @@ is_colon word = false
 is_colon (opened k) = false
 is_colon (named k) = false
 
+-- the stage behind so many events
 abbrev pub behind_events : ℕ → Stage
 behind_events zero = start
 behind_events (suc k) = between (suc k)
 
+-- a walk over two lists of tokens is one over the second from where the first ends
 pub walk_append : (s : Stage) (ts us : List (List ℕ)) → walk s (ts ++ us) ≡ on (walk s ts) (λ m. walk m us)
 walk_append s [] us = refl
 walk_append s (t ∷ ts) us = go (step s t) (λ m. walk_append m ts us)
@@ -89,6 +96,7 @@ walk_append s (t ∷ ts) us = go (step s t) (λ m. walk_append m ts us)
 
 -- ---- the walk of a right reading
 
+-- behind `<` a name leads to the stage where `>` must follow
 pub name_steps : (name : List ℕ) (k : ℕ) → is_name name ≡ true → step (opened k) name ≡ Some (named k)
 name_steps [] k h = cc
 name_steps (b ∷ name) k h =
@@ -96,15 +104,18 @@ name_steps (b ∷ name) k h =
     let byte = (and_parts (is_name_byte b) (list_all is_name_byte name) all).0 in
     rw byte refl
 
+-- a name is the last token wherever each byte of a name begins the last one
 pub name_ends : (name : List ℕ) (s : Stage) → ((b : ℕ) → is_name_byte b ≡ true → goes s b ≡ Some ended) → is_name name ≡ true → step s name ≡ Some ended
 name_ends [] s f h = cc
 name_ends (b ∷ name) s f h =
     let all = (and_parts (nat_lt 0 (length (b ∷ name))) (list_all is_name_byte (b ∷ name)) h).1 in
     f b (and_parts (is_name_byte b) (list_all is_name_byte name) all).0
 
+-- behind a string a byte of a name begins the last token
 pub behind_text : (b : ℕ) → is_name_byte b ≡ true → goes text b ≡ Some ended
 behind_text b h = rw h refl
 
+-- behind the colon a byte of a name begins the last token
 pub behind_colon : (b : ℕ) → is_name_byte b ≡ true → goes colon b ≡ Some ended
 behind_colon b h = let other = name_differs b 34 refl h in rw (other, h) refl
 
@@ -112,6 +123,7 @@ event_opens : (k : ℕ) → k < 32 → goes (behind_events k) 60 ≡ Some (opene
 event_opens zero l = refl
 event_opens (suc k) l = let few = lt-ltb (suc k) 32 l in rw few refl
 
+-- a walk over events goes on from the stage behind so many more
 pub events_walk : (k : ℕ) (events ts : List (List ℕ)) → k + length events ≤ 32 → list_all is_name events ≡ true
     → walk (behind_events k) (flat_map event_tokens events ++ ts) ≡ walk (behind_events (k + length events)) ts
 events_walk k [] ts l h = let same : k ≡ k + 0 = omega arith in ap (λ n. walk (behind_events n) ts) same
@@ -128,6 +140,7 @@ events_walk k (e ∷ es) ts l h =
 pub events_stage : (events ts : List (List ℕ)) → length events ≤ 32 → list_all is_name events ≡ true → walk start (flat_map event_tokens events ++ ts) ≡ walk (behind_events (length events)) ts
 events_stage events ts l h = let same : 0 + length events ≡ length events = omega arith in events_walk 0 events ts (omega (arith, l)) h ∙ ap (λ n. walk (behind_events n) ts) same
 
+-- these tokens lead from the beginning to a stage where a reading may end
 pub record Walked (ts : List (List ℕ)) : Type 0 where
   pub last : Stage
   pub walked : walk start ts ≡ Some last
@@ -144,6 +157,7 @@ some_events : (n : ℕ) → 0 < n → goes (behind_events n) 58 ≡ Some colon
 some_events zero l = absurd (omega (arith, l))
 some_events (suc n) l = refl
 
+-- the tokens of a right reading lead to a stage where it may end
 pub right_walk : (r : Reading) → is_reading r ≡ true → Walked (tokens r)
 right_walk blank h = record { last = start; walked = refl; ends = refl }
 right_walk (include raw) h = record { last = ended; walked = refl; ends = refl }
@@ -158,6 +172,7 @@ right_walk (production events raw name) h =
 
 -- ---- what may follow
 
+-- a token that follows these in some right reading may follow at their stage
 pub first_steps : (done : List (List ℕ)) (t : List ℕ) (s : Stage) → walk start done ≡ Some s → AreFirst (done ++ t ∷ []) → is_some (step s t) ≡ true
 first_steps done t s at f = go (step s t) refl
   where
@@ -170,6 +185,7 @@ first_steps done t s at f = go (step s t) refl
         let some = w.walked in
         cc
 
+-- at the stage behind all tokens of a right reading, a reading may end
 pub all_ends : (done : List (List ℕ)) (s : Stage) → walk start done ≡ Some s → AreAll done → is_end s ≡ true
 all_ends done s at a =
     let w = right_walk a.0 a.1 in
@@ -181,6 +197,7 @@ step_may : (s : Stage) (t more : List ℕ) → is_some (step s t) ≡ true → b
 step_may s [] more h = cc
 step_may s (b ∷ t) more h = h
 
+-- where no byte that may begin a token at the stage begins the rest, no right reading goes on
 pub no_token_at : (done : List (List ℕ)) (rest : List ℕ) (s : Stage) → walk start done ≡ Some s → begins (λ b. is_some (goes s b)) rest ≡ false → GoesOn done rest → ⊥
 no_token_at done rest s at none g =
     let may : begins (λ b. is_some (goes s b)) rest ≡ true = ap (begins (λ b. is_some (goes s b))) g.4 ∙ step_may s g.0 g.1 (first_steps done g.0 s at g.2) in
@@ -212,6 +229,7 @@ between_events colon (e ∷ es) s b h = cc
 between_events text (e ∷ es) s b h = cc
 between_events ended (e ∷ es) s b h = cc
 
+-- behind whole events, or none, an event may begin
 pub events_between : (done events : List (List ℕ)) (s : Stage) → walk start done ≡ Some s → done ≡ flat_map event_tokens events → is_between s ≡ true
 events_between done events s at is = between_events start events s refl (sym (ap (walk start) is) ∙ at)
 
@@ -226,5 +244,6 @@ colon_goes (Some colon) s h = cc
 colon_goes (Some text) s h = cc
 colon_goes (Some ended) s h = cc
 
+-- the stage behind a colon is that of the colon
 pub behind_a_colon : (done before : List (List ℕ)) (s : Stage) → walk start done ≡ Some s → done ≡ before ++ (58 ∷ []) ∷ [] → is_colon s ≡ true
 behind_a_colon done before s at is = colon_goes (walk start before) s (sym (walk_append start before ((58 ∷ []) ∷ [])) ∙ sym (ap (walk start) is) ∙ at)

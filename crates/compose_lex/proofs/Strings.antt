@@ -7,6 +7,7 @@ use Rattle.std.proofs.lemmas.List.{append_assoc, append-nil, take_more, drop_mor
 use Rattle.compose_lex.specs.Fault.{inside_from}
 use Rattle.compose_lex.specs.Steps.{is_plain}
 
+-- bytes put before those that are read
 abbrev pub put_before : List ℕ → List ℕ × List ℕ → List ℕ × List ℕ
 put_before read x = (read ++ x.0, x.1)
 
@@ -18,6 +19,7 @@ put_nothing : (o : Option (List ℕ × List ℕ)) → o ≡ option_map (put_befo
 put_nothing None = refl
 put_nothing (Some x) = refl
 
+-- before the first byte nothing is read
 pub inside_none : (text : List ℕ) → Inside text false 0
 inside_none text = record { kept = put_nothing (inside_from false text) }
 

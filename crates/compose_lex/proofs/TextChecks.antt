@@ -20,6 +20,7 @@ no_escape at (b ∷ rest) h =
     let parts = or_parts (b == 92) (list_any (λ b. b == 92) rest) h in
     rw (parts.0, no_escape (1 + at) rest parts.1) refl
 
+-- a raw text without a backslash stands for itself, if its length and bytes are those of a text
 pub text_without_escapes : (raw : List ℕ) → list_any (λ b. b == 92) raw ≡ false → text_of raw ≡ text_or (Ok raw)
 text_without_escapes raw none = ap text_or (no_escape 0 raw none)
 
@@ -39,12 +40,15 @@ by_length bytes r h = go (length bytes == 0) (nat_lt 255 (length bytes)) r h
     go false false (Ok u) h = refl
     go false false (Err e) h = cc
 
+-- bytes whose number doesn't pass the test have its fault
 pub bad_length : (bytes : List ℕ) (e : LexFault) → len_check (length bytes) ≡ Err e → text_or (Ok bytes) ≡ Err e
 bad_length bytes e h = by_length bytes (Err e) h
 
+-- bytes of UTF-8 whose number passes the test are a text
 pub right_text : (bytes : List ℕ) (u : Unit {0}) → len_check (length bytes) ≡ Ok u → IsUtf8 bytes → text_or (Ok bytes) ≡ Ok bytes
 right_text bytes u h t = by_length bytes (Ok u) h ∙ ap (λ b. cond {A = Result (List ℕ) LexFault} b (Ok bytes) (Err TextNotUtf8)) (is_utf8-from_IsUtf8 bytes t)
 
+-- bytes that aren't UTF-8, and whose number passes the test, are refused as that
 pub not_text : (bytes : List ℕ) (u : Unit {0}) → len_check (length bytes) ≡ Ok u → (IsUtf8 bytes → ⊥) → text_or (Ok bytes) ≡ Err TextNotUtf8
 not_text bytes u h t =
     by_length bytes (Ok u) h ∙ ap (λ b. cond {A = Result (List ℕ) LexFault} b (Ok bytes) (Err TextNotUtf8)) (false_from_ne_true (is_utf8 bytes) (λ e. t (IsUtf8-from_is_utf8 bytes e)))
@@ -54,11 +58,13 @@ not_text bytes u h t =
 all_kept : (kept bytes : List ℕ) (len : ℕ) → IsDecoded kept len bytes → len ≤ 255 → kept ≡ bytes
 all_kept kept bytes len d few = d.0 ∙ take_all 255 bytes (let l = d.1 in omega arith)
 
+-- the bytes of a decoded text are those that were kept, where their number passes the test and they are UTF-8
 pub decoded_right : (kept bytes : List ℕ) (len : ℕ) (u : Unit {0}) → IsDecoded kept len bytes → len_check len ≡ Ok u → len ≤ 255 → IsUtf8 kept → text_or (Ok bytes) ≡ Ok kept
 decoded_right kept bytes len u d h few t =
     let all = all_kept kept bytes len d few in
     right_text bytes u (ap len_check (sym d.1) ∙ h) (subst IsUtf8 all t) ∙ ap (λ x. let r : Result (List ℕ) LexFault = Ok x in r) (sym all)
 
+-- the bytes of a decoded text are refused as no UTF-8, where their number passes the test and those that were kept are none
 pub decoded_other : (kept bytes : List ℕ) (len : ℕ) (u : Unit {0}) → IsDecoded kept len bytes → len_check len ≡ Ok u → len ≤ 255 → (IsUtf8 kept → ⊥) → text_or (Ok bytes) ≡ Err TextNotUtf8
 decoded_other kept bytes len u d h few t = not_text bytes u (ap len_check (sym d.1) ∙ h) (λ v. t (subst IsUtf8 (sym (all_kept kept bytes len d few)) v))
 

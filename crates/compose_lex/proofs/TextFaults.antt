@@ -174,6 +174,7 @@ bytes_fault_said raw bytes fault u e = go (length bytes == 0) refl (nat_lt 255 (
         let is : TextNotUtf8 ≡ fault = cc in
         subst (IsTextFault raw) is (bytes, u, omega (arith, eqb-false (length bytes) 0 a), omega (arith, ltb-false 255 (length bytes) b), λ v. let w = is_utf8-from_IsUtf8 bytes v in cc)
 
+-- the fault that is read of a raw text is one that its definition finds in it
 pub text_fault_said : (raw : List ℕ) (fault : LexFault) → text_of raw ≡ Err fault → IsTextFault raw fault
 text_fault_said raw fault e = go (bytes_from 0 0 raw) refl e
   where
@@ -207,6 +208,7 @@ escape_read raw at behind s =
     let here : 0 + length s.before ≡ at = let o = s.offset in omega arith in
     ap text_of s.whole ∙ ap text_or (stop_read 0 s.before s.bytes behind s.right s.none) ∙ ap (λ n. let r : Result (List ℕ) LexFault = Err (escape_fault n behind) in r) here
 
+-- the fault that the definition finds in a raw text is read of it
 pub text_fault_read : (raw : List ℕ) (fault : LexFault) → IsTextFault raw fault → text_of raw ≡ Err fault
 text_fault_read raw (BadCode at) x = escape_read raw at x.0 x.1 ∙ (let code = x.2 in rw code refl)
 text_fault_read raw (UnknownEscape at) x = escape_read raw at x.0 x.1 ∙ (let none = not-true (begins is_code_first x.0) x.2 in rw none refl)
@@ -227,5 +229,6 @@ text_fault_read raw NoResult x = absurd x
 text_fault_read raw TooManyKeysyms x = absurd x
 text_fault_read raw NoMemory x = absurd x
 
+-- a raw text has at most one fault
 pub one_text_fault : (raw : List ℕ) (f g : LexFault) → IsTextFault raw f → IsTextFault raw g → f ≡ g
 one_text_fault raw f g x y = let e = text_fault_read raw f x in let h = text_fault_read raw g y in cc

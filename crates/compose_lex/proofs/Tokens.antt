@@ -15,10 +15,12 @@ use Rattle.compose_lex.proofs.LineRead.{inside_again, end_first}
 
 -- ---- the token at the beginning
 
+-- the string in its quotes, or nothing where there is none
 abbrev pub quoted_of : Option (List ℕ × List ℕ) → List ℕ
 quoted_of None = []
 quoted_of (Some x) = quoted x.0
 
+-- the token at the beginning: a name, a string, or a single byte
 abbrev pub next_token : List ℕ → List ℕ
 next_token [] = []
 next_token (b ∷ rest) = cond (is_name_byte b) (leading is_name_byte (b ∷ rest)) (cond (b == 34) (quoted_of (inside_from false rest)) (b ∷ []))
@@ -32,6 +34,7 @@ pub record IsToken (t : List ℕ) : Type 0 where
   pub read : (rest : List ℕ) → is_whole t rest ≡ true → next_token (t ++ rest) ≡ t
   pub first : (rest : List ℕ) → begins is_token_first (t ++ rest) ≡ true
 
+-- each of these is a token
 abbrev pub AllTokens : List (List ℕ) → Type 0
 AllTokens [] = Unit {0}
 AllTokens (t ∷ ts) = IsToken t × AllTokens ts
@@ -45,9 +48,11 @@ greater_token = record { read = λ rest w. refl; first = λ rest. refl }
 colon_token : IsToken (58 ∷ [])
 colon_token = record { read = λ rest w. refl; first = λ rest. refl }
 
+-- a closed string in quotes is a token
 pub string_token : (raw : List ℕ) → is_inside raw ≡ true → IsToken (quoted raw)
 string_token raw h = record { read = λ rest w. ap (λ x. quoted_of (inside_from false x)) (append_assoc raw (34 ∷ []) rest) ∙ ap quoted_of (inside_again false raw rest h); first = λ rest. refl }
 
+-- a name is a token
 pub name_token : (name : List ℕ) → is_name name ≡ true → IsToken name
 name_token [] h = cc
 name_token (b ∷ name) h =
@@ -78,6 +83,7 @@ result_all None (Some name) r n = (name_token name n, tt)
 result_all (Some raw) None r n = (string_token raw r, tt)
 result_all (Some raw) (Some name) r n = (string_token raw r, (name_token name n, tt))
 
+-- the tokens of a right reading are tokens
 pub right_tokens : (r : Reading) → is_reading r ≡ true → AllTokens (tokens r)
 right_tokens blank h = tt
 right_tokens (include raw) h = (name_token (codes "include") refl, (string_token raw h, tt))
@@ -87,6 +93,7 @@ right_tokens (production events raw name) h =
 
 -- ---- a name is never the next token behind a name
 
+-- a string in quotes is no name
 pub quoted_no_name : (raw : List ℕ) → is_name (quoted raw) ≡ false
 quoted_no_name raw = go (nat_lt 0 (length (quoted raw)))
   where
@@ -145,11 +152,13 @@ all_whole (t ∷ ts) bytes s a =
     let later = all_whole ts a.1 s.1 a.4 in
     record { rest = later.rest; begun = (a.0, a.1, a.2, stands_whole t ts a.1 s.0 a.4, a.3, later.begun); comment = later.comment }
 
+-- in a line that is the tokens of a reading each of them stands whole, and a comment or nothing follows the last
 pub reading_whole : (r : Reading) (line : List ℕ) → AreTokens (tokens r) line → Whole (tokens r) line
 reading_whole r line a = all_whole (tokens r) line (separated r) a
 
 -- ---- two ways to begin a line
 
+-- the first tokens of a list of tokens are tokens
 pub all_before : (ts us : List (List ℕ)) → AllTokens (ts ++ us) → AllTokens ts
 all_before [] us a = tt
 all_before (t ∷ ts) us a = (a.0, all_before ts us a.1)
@@ -180,6 +189,7 @@ same_token t u more behind a b v w e = sym (a.read more v) ∙ ap next_token e �
 one_further : (t : List ℕ) (ts us : List (List ℕ)) (rest : List ℕ) → Ahead ts us rest → Ahead (t ∷ ts) (t ∷ us) rest
 one_further t ts us rest a = record { token = a.token; more = a.more; behind = a.behind; longer = ap (λ x. t ∷ x) a.longer; here = a.here; whole = a.whole; is = a.is }
 
+-- the tokens and what follows them are the same, or one list goes on where the other ends
 abbrev pub Compared : List (List ℕ) → List (List ℕ) → List ℕ → List ℕ → Type 0
 Compared ts us rest rest2 = ((ts ≡ us) × (rest ≡ rest2)) ⊎ (Ahead ts us rest ⊎ Ahead us ts rest2)
 
@@ -188,6 +198,7 @@ compared_further t ts us rest rest2 (inl e) = inl (ap (λ x. t ∷ x) e.0, e.1)
 compared_further t ts us rest rest2 (inr (inl a)) = inr (inl (one_further t ts us rest a))
 compared_further t ts us rest rest2 (inr (inr a)) = inr (inr (one_further t us ts rest2 a))
 
+-- of two beginnings of one line one goes on where the other ends, or they are the same
 pub compare : (ts us : List (List ℕ)) (bytes rest rest2 : List ℕ) → AllTokens ts → AllTokens us → BeginsWith ts bytes rest → BeginsWith us bytes rest2 → Compared ts us rest rest2
 compare [] [] bytes rest rest2 a b v w = inl (refl, sym (rest_at bytes rest v) ∙ rest_at bytes rest2 w)
 compare [] (u ∷ us) bytes rest rest2 a b v w =

@@ -5,6 +5,7 @@ use Rattle.compose_machine.specs.Machine.{ServiceState, Reading, Run}
 use Rattle.compose_machine.specs.Laws.{Exchange, IsHistory}
 
 module _ (reading : Reading) where
+  -- two runs, of which the second begins where the first ends, are one run
   pub joined : (old mid new : ServiceState) (p q : List Request) (r s : List Reply) → Run reading old p r mid → Run reading mid q s new → Run reading old (p ++ q) (r ++ s) new
   joined old mid new [] q [] s a b = subst (λ (o : ServiceState). Run reading o q s new) a b
   joined old mid new [] q (y ∷ r) s a b = absurd a
@@ -20,6 +21,7 @@ module _ (reading : Reading) where
     pub before : Run reading old p first mid
     pub after : Run reading mid q second new
 
+  -- a run of two lists of requests is parted behind the first of them
   pub parted : (old new : ServiceState) (p q : List Request) (replies : List Reply) → Run reading old (p ++ q) replies new → Parted old p q replies new
   parted old new [] q replies h = record { mid = old; first = []; second = replies; both = refl; before = refl; after = h }
   parted old new (x ∷ p) q [] h = absurd h
@@ -34,6 +36,7 @@ module _ (reading : Reading) where
     pub said : map (λ x. x.reply) history ≡ replies
     pub is : IsHistory reading old history new
 
+  -- every run has a history with its requests and its replies
   pub told : (old new : ServiceState) (requests : List Request) (replies : List Reply) → Run reading old requests replies new → Told old requests replies new
   told old new [] [] h = record { history = []; asked = refl; said = refl; is = h }
   told old new [] (y ∷ replies) h = absurd h
@@ -47,6 +50,7 @@ module _ (reading : Reading) where
         is = (h.0, h.1, rest.is);
       }
 
+  -- a history is a run of its requests and its replies
   pub is_run : (old new : ServiceState) (h : List Exchange) → IsHistory reading old h new → Run reading old (map (λ x. x.request) h) (map (λ x. x.reply) h) new
   is_run old new [] e = e
   is_run old new (x ∷ h) e = (e.0, e.1, is_run e.0 new h e.2)

@@ -150,6 +150,7 @@ module _ (names : KeysymNames) (table : List Definition) (repertoire : Repertoir
   or_none true = refl
   or_none false = refl
 
+  -- past an edge that is no key of the repertoire, the rows have seen one edge more
   pub seen_skip : (es : List ℕ) (i k : ℕ) (before rows : List WantedCharacter) → slice_get es i ≡ Some k → is_key repertoire k ≡ false → HasSeen (take i es) before rows
       → HasSeen (take (i + 1) es) before rows
   seen_skip es i k before rows at n h passes a =
@@ -157,6 +158,7 @@ module _ (names : KeysymNames) (table : List Definition) (repertoire : Repertoir
       (λ c v. or_none (passes c v || is_through table repertoire c p (take i es) v) ∙ ap (λ b. (passes c v || is_through table repertoire c p (take i es) v) || b) (sym (not_by c k v n))
       ∙ sym (next_through (passes c v) c es i k v at)) rows (h passes a)
 
+  -- past an edge to a node, behind which the rows have seen all, they have seen one edge more
   pub seen_node : (es : List ℕ) (i k : ℕ) (before rows next : List WantedCharacter) → slice_get es i ≡ Some k → is_extended table (p ++ k ∷ []) ≡ true → HasSeen (take i es) before rows
       → ((passes : ℕ → List ℕ → Bool) → AreLeast passes rows → AreLeast (λ c v. passes c v || is_behind table repertoire c (p ++ k ∷ []) v) next) → HasSeen (take (i + 1) es) before next
   seen_node es i k before rows next at x h more passes a =
@@ -165,6 +167,7 @@ module _ (names : KeysymNames) (table : List Definition) (repertoire : Repertoir
       (λ c v. ap (λ b. (passes c v || is_through table repertoire c p (take i es) v) || b) (by_node c k v x) ∙ sym (next_through (passes c v) c es i k v at)) next
       (more (λ c v. passes c v || is_through table repertoire c p (take i es) v) (h passes a))
 
+  -- past an edge to a leaf, whose text and keys were offered to the rows, they have seen one edge more
   pub seen_leaf : (es : List ℕ) (i k : ℕ) (t : List ℕ) (before rows : List WantedCharacter) → slice_get es i ≡ Some k → is_sequence table (p ++ k ∷ []) ≡ true → text_at table (p ++ k ∷ []) ≡ Some t
       → are_keys repertoire (p ++ k ∷ []) ≡ true
       → HasSeen (take i es) before rows → HasSeen (take (i + 1) es) before (map (offered t (p ++ k ∷ [])) rows)
@@ -174,6 +177,7 @@ module _ (names : KeysymNames) (table : List Definition) (repertoire : Repertoir
       (map (offered t (p ++ k ∷ [])) rows)
       (are_offered (λ c v. passes c v || is_through table repertoire c p (take i es) v) t (p ++ k ∷ []) rows (h passes a))
 
+  -- past the last edge of a node, the rows have seen every whole sequence that goes on from it
   pub seen_all : (i : ℕ) (before rows : List WantedCharacter) → length (edges table p) ≤ i → HasSeen (take i (edges table p)) before rows
       → (passes : ℕ → List ℕ → Bool) → AreLeast passes before → AreLeast (λ c v. passes c v || is_behind table repertoire c p v) rows
   seen_all i before rows over h passes a =

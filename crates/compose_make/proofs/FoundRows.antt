@@ -19,6 +19,7 @@ use Rattle.compose_make.proofs.Rows.{are_same}
 
 -- ---- rows one after another
 
+-- rows that hold the least keys still do with one row more that does
 pub are_joined : (passes : ℕ → List ℕ → Bool) (rows : List WantedCharacter) (row : WantedCharacter) → AreLeast passes rows → IsLeastOf (passes row.character) row.keys
     → AreLeast passes (rows ++ row ∷ [])
 are_joined passes [] row a l = (l, tt)

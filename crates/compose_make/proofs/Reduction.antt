@@ -28,6 +28,7 @@ use Rattle.compose_make.specs.Candidates.{spells, is_plain, is_plain_key, is_who
 
 -- ---- the lists that need looking at
 
+-- keys that are looked at for a character: one plain key, or a whole sequence by keys of the repertoire
 abbrev pub is_candidate : KeysymNames → List Definition → Repertoire → ℕ → List ℕ → Bool
 is_candidate names table repertoire c w = is_plain names table repertoire c w || is_whole table repertoire c w
 
@@ -47,6 +48,7 @@ last_of P v k h =
     let parts = and_parts (list_all P v) (list_all P (k ∷ [])) (sym (list_all-append P v (k ∷ [])) ∙ h) in
     (parts.0, (and_parts (P k) true parts.1).0)
 
+-- a list whose elements all pass still does with one more that passes behind it
 pub with_last : (P : ℕ → Bool) (v : List ℕ) (k : ℕ) → list_all P v ≡ true → P k ≡ true → list_all P (v ++ k ∷ []) ≡ true
 with_last P v k a b = list_all-append P v (k ∷ []) ∙ and_from (list_all P v) (list_all P (k ∷ [])) a (and_from (P k) true b refl)
 
@@ -59,6 +61,7 @@ prefix_snoc (j ∷ v) k = and_from (j == j) (is_proper_prefix v (v ++ k ∷ []))
 
 -- ---- a character's text is not empty
 
+-- no character's text is empty
 pub never_silent : (c : ℕ) → [] ≡ encode_utf8 c → ⊥
 never_silent c e =
     let n : 0 ≡ length (encode_utf8 c) = ap length e in
@@ -163,12 +166,14 @@ module _ (names : KeysymNames) (table : List Definition) (repertoire : Repertoir
   spelled c None h = cc
   spelled c (Some t) h = ap Some (sym (same_is (encode_utf8 c) t h))
 
+  -- a whole sequence for a character is a sequence of the table by keys of the repertoire whose text is the character
   pub whole_parts : (c : ℕ) (w : List ℕ) → is_whole table repertoire c w ≡ true → Whole c w
   whole_parts c w h =
       let a = and_parts (is_sequence table w && are_keys repertoire w) (option_map_or (spells c) (text_at table w) false) h in
       let b = and_parts (is_sequence table w) (are_keys repertoire w) a.0 in
       record { sequence = b.0; by_keys = b.1; text = spelled c (text_at table w) a.1 }
 
+  -- a sequence by keys of the repertoire whose text is the character is a whole sequence for it
   pub whole_from : (c : ℕ) (w : List ℕ) → is_sequence table w ≡ true → are_keys repertoire w ≡ true → text_at table w ≡ Some (encode_utf8 c) → is_whole table repertoire c w ≡ true
   whole_from c w s k t =
       and_from (is_sequence table w && are_keys repertoire w) (option_map_or (spells c) (text_at table w) false) (and_from (is_sequence table w) (are_keys repertoire w) s k)
@@ -224,6 +229,7 @@ module _ (names : KeysymNames) (table : List Definition) (repertoire : Repertoir
     plain_list_types c (k ∷ []) h = let r = plain_types c k h in (and_from (is_key repertoire k) true r.0 refl, r.1)
     plain_list_types c (k ∷ j ∷ w) h = cc
 
+    -- a candidate for a character has keys of the repertoire alone, and types the character
     pub candidate_types : (c : ℕ) (w : List ℕ) → is_candidate names table repertoire c w ≡ true → (are_keys repertoire w ≡ true) × Types names table w c
     candidate_types c w h = elim (or_cases (is_plain names table repertoire c w) (is_whole table repertoire c w) h) [
       | inl e ↦ plain_list_types c w e
@@ -289,6 +295,7 @@ module _ (names : KeysymNames) (table : List Definition) (repertoire : Repertoir
           (not_from_false (has_edge table [] k) none)) spelled_so in
           (k ∷ [], or_left (is_plain names table repertoire c (k ∷ [])) (is_whole table repertoire c (k ∷ [])) plain, alone (pending table p) rest)
 
+  -- whatever types a character by keys of the repertoire is a candidate, or has a shorter one
   pub reduced : (c : ℕ) (w : List ℕ) → are_keys repertoire w ≡ true → Types names table w c → Reduces c w
   reduced c [] keys t = absurd (never [] (replicate (length {A = ℕ} [] - 1) []) t.texts refl)
     where
@@ -312,6 +319,7 @@ module _ (names : KeysymNames) (table : List Definition) (repertoire : Repertoir
 
   -- ---- so the least candidate is the least typing
 
+  -- in a prefix-free table the least candidate for a character is its least typing
   pub least_typing : is_table table ≡ true → is_prefix_free table ≡ true → (c : ℕ) (w : List ℕ) → IsLeastOf (is_candidate names table repertoire c) (Some w) → IsLeastTyping names table repertoire c w
   least_typing sound free c w l = record {
     by_keys = (candidate_types sound free c w l.0).0;
@@ -325,5 +333,6 @@ module _ (names : KeysymNames) (table : List Definition) (repertoire : Repertoir
       go v x (inr h) (inl a) = inr (first_by_length w v (let n : length w ≡ length x = ap length a in omega arith))
       go v x (inr h) (inr b) = inr (first_then w x v b (first_by_length x v h))
 
+  -- a character without a candidate is typed by no keys of the repertoire
   pub untyped : (c : ℕ) → IsLeastOf (is_candidate names table repertoire c) None → (w : List ℕ) → are_keys repertoire w ≡ true → Types names table w c → ⊥
   untyped c l w keys t = let r = reduced c w keys t in l r.0 r.1

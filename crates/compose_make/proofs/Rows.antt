@@ -30,6 +30,7 @@ above_from xs c m r more k le fits = elim (cases_lt m k) [
 
 -- ---- texts of one character
 
+-- two characters with the same text are the same
 pub encodes_one : (c d : ℕ) → encode_utf8 c ≡ encode_utf8 d → c ≡ d
 encodes_one c d e = (encode_same c d [] [] (append-nil (encode_utf8 c) ∙ e ∙ sym (append-nil (encode_utf8 d)))).0
 
@@ -67,7 +68,8 @@ taken t w d zero (r ∷ rows) row rise e h at is =
     (passed_over t w rows
     (λ k l. spells_other (get_or (characters_of rows) k 0) d t e
     (λ same_one. absurd
-    (let a : r.character < get_or (characters_of rows) k 0 = rises_head r.character (characters_of rows) rise k (let n : length (characters_of rows) ≡ length rows = length-map rows (λ x. x.character) in omega arith) in omega arith))))
+    (let a : r.character < get_or (characters_of rows) k 0 = rises_head r.character (characters_of rows) rise k
+    (let n : length (characters_of rows) ≡ length rows = length-map rows (λ x. x.character) in omega arith) in omega arith))))
   where
     here : (b : Bool) → b ≡ true → record r { keys = better r.keys w } ≡ cond b (record r { keys = better r.keys w }) r
     here true f = refl
@@ -77,13 +79,15 @@ taken t w d (suc i) (r ∷ rows) row rise e h at is =
     (there (spells r.character t)
     (spells_other r.character d t e
     (λ same_one. absurd
-    (let a : r.character < get_or (characters_of rows) i 0 = rises_head r.character (characters_of rows) rise i (let n : length (characters_of rows) ≡ length rows = length-map rows (λ x. x.character) in omega arith) in omega arith))))
+    (let a : r.character < get_or (characters_of rows) i 0 = rises_head r.character (characters_of rows) rise i
+    (let n : length (characters_of rows) ≡ length rows = length-map rows (λ x. x.character) in omega arith) in omega arith))))
     (taken t w d i rows row (rises_tail r.character (characters_of rows) rise) e (omega arith) at is)
   where
     there : (b : Bool) → b ≡ false → r ≡ cond b (record r { keys = better r.keys w }) r
     there true f = cc
     there false f = refl
 
+-- an offer changes no row's character
 pub offered_characters : (t w : List ℕ) (rows : List WantedCharacter) → characters_of (map (offered t w) rows) ≡ characters_of rows
 offered_characters t w [] = refl
 offered_characters t w (row ∷ rows) = ap₂ (λ c cs. c ∷ cs) (go (spells row.character t)) (offered_characters t w rows)
@@ -94,10 +98,12 @@ offered_characters t w (row ∷ rows) = ap₂ (λ c cs. c ∷ cs) (go (spells ro
 
 -- ---- the least of what was looked at
 
+-- the least by one test are the least by another that says the same
 pub are_same : (p q : ℕ → List ℕ → Bool) → ((c : ℕ) (v : List ℕ) → p c v ≡ q c v) → (rows : List WantedCharacter) → AreLeast p rows → AreLeast q rows
 are_same p q alike [] a = tt
 are_same p q alike (row ∷ rows) a = (least_same (p row.character) (q row.character) (alike row.character) row.keys a.0, are_same p q alike rows a.1)
 
+-- after an offer the rows hold the least of what they held and of the offered keys, for the character that the text is
 pub are_offered : (p : ℕ → List ℕ → Bool) (t w : List ℕ) (rows : List WantedCharacter) → AreLeast p rows → AreLeast (λ c v. p c v || (spells c t && same v w)) (map (offered t w) rows)
 are_offered p t w [] a = tt
 are_offered p t w (row ∷ rows) a = (go (spells row.character t) refl, are_offered p t w rows a.1)

@@ -23,6 +23,7 @@ next_answered limit reading old new s held unsent q r g b c f e t u l = (
   (new, t, refl),
 )
 
+-- a connection on which a request was answered has refused no faulty frame
 pub stays_open : (limit : ℕ) (s now : ConnectionState) (x : Exchange) → Answers limit s x now → now.refused ≡ false
 stays_open limit s now x h = ap (λ (t : ConnectionState). t.refused) h.after ∙ h.goes_on
 
@@ -40,12 +41,14 @@ module _ (limit : ℕ) (reading : Reading) (old : ServiceState) (before : Connec
       none_sent = flat-more sent_of events e ∙ ap (λ y. y ++ sent_of e) a.none_sent ∙ q;
     }
 
+    -- answers, and one more request that is answered, are answers
     pub answers_more : (x : Exchange) → Answers limit s x now → IsHistory reading mid (x ∷ []) new → AreAnswers limit reading old new before now (events ++ answers x ∷ [])
     answers_more x h r = one_more (answers x) refl refl (happen-more limit before s now events (answers x) a.happen h) r
 
     as_before : new ≡ mid → AreAnswers limit reading old new before s events
     as_before e = record { happen = a.happen; run = subst (λ (t : ServiceState). IsHistory reading old (exchanges events) t) (sym e) a.run; none_came = a.none_came; none_sent = a.none_sent }
 
+    -- where nothing further is answered, for any reason, what was answered before is all until this stop
     pub answers_stop : (stop : Stop) → NextSo limit reading mid new s now (Err stop) → AnswersSo limit reading old new before now stop
     answers_stop Refused n = (
       events ++ refuses ∷ [],

@@ -17,6 +17,7 @@ use Rattle.compose_many.proofs.Own.{sent_more, replies_more, written_open, own_m
 all_written : (limit : ℕ) (events : List Event) (now : ConnectionState) → HasItsOwn limit events now → IsQuiet now → sent events ≡ replies_bytes (replies events)
 all_written limit events now own q = sym (append-nil (sent events)) ∙ ap (λ y. sent events ++ y) (sym q.sent) ∙ written_open events limit now now own q.goes_on
 
+-- a connection that ends otherwise than by a write ends as a stream does
 pub ends_as_stream : EndsAsStream
 ends_as_stream limit events now (Ok InputEnd) left' rf wf h e n = record { at_end = e.0; whole = e.1; written = all_written limit events now (has_its_own limit events now h) e.2 }
 ends_as_stream limit events now (Ok Malformed) left' rf wf h e n =
@@ -33,6 +34,7 @@ ends_as_stream limit events now (Err TooManyFrames) left' rf wf h e n =
 ends_as_stream limit events now (Err NoMemory) left' rf wf h e n = record { some = e.0; written = all_written limit events now (has_its_own limit events now h) e.1 }
 ends_as_stream limit events now (Err Write) left' rf wf h e n = absurd (n refl)
 
+-- where a write failed, the last bytes of the replies are missing, fewer than the limit and a reply
 pub ends_at_write : EndsAtWrite
 ends_at_write limit events now left' rf wf h e =
     let own = has_its_own limit events now h in
@@ -118,6 +120,7 @@ proper [] [] n = absurd (n refl)
 proper [] (y ∷ ys) n = refl
 proper (x ∷ xs) ys n = and_from (x == x) (is_proper_prefix xs (xs ++ ys)) (eq-eqb x x refl) (proper xs ys n)
 
+-- with the limit 1, where a write failed, a part of the last reply is missing, as at the end of a stream
 pub ends_at_write_as_stream : EndsAtWriteAsStream
 ends_at_write_as_stream events now left' rf wf h e = of_part (part_on [] events new_connection now (own_at_first 1) (inl refl) h)
   where

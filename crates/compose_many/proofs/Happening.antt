@@ -5,17 +5,21 @@ use Rattle.compose_machine.specs.Machine.{ServiceState, Reading}
 use Rattle.compose_machine.specs.Laws.{Exchange, IsHistory}
 use Rattle.compose_many.specs.Connection.{ConnectionState, Event, Happens, AllHappen, exchange_of, exchanges}
 
+-- of two lists that are empty together, the second is empty
 pub behind_nothing : (xs ys : List ℕ) → xs ++ ys ≡ [] → ys ≡ []
 behind_nothing [] ys e = e
 behind_nothing (x ∷ xs) ys e = absurd (cc)
 
+-- what all elements of two lists give is what those of the first give, and then those of the second
 pub flat-both : {X Y : Type 0} (f : X → List Y) (xs ys : List X) → flat_map f (xs ++ ys) ≡ flat_map f xs ++ flat_map f ys
 flat-both f [] ys = refl
 flat-both f (x ∷ xs) ys = ap (λ r. f x ++ r) (flat-both f xs ys) ∙ sym (append_assoc (f x) (flat_map f xs) (flat_map f ys))
 
+-- what all elements of a list and one more give is what the list gives, and then that one
 pub flat-more : {X Y : Type 0} (f : X → List Y) (xs : List X) (x : X) → flat_map f (xs ++ x ∷ []) ≡ flat_map f xs ++ f x
 flat-more f xs x = flat-both f xs (x ∷ []) ∙ ap (λ r. flat_map f xs ++ r) (append-nil (f x))
 
+-- what is made of each element of two lists is what is made of the first, and then of the second
 pub map-both : {X Y : Type 0} (f : X → Y) (xs ys : List X) → map f (xs ++ ys) ≡ map f xs ++ map f ys
 map-both f [] ys = refl
 map-both f (x ∷ xs) ys = ap (λ r. f x ∷ r) (map-both f xs ys)
@@ -30,9 +34,11 @@ pub run-both : (reading : Reading) (old mid new : ServiceState) (es fs : List Ev
 run-both reading old mid new es fs a b =
     subst (λ (h : List Exchange). IsHistory reading old h new) (sym (flat-both exchange_of es fs)) (history-both reading old mid new (exchanges es) (exchanges fs) a b)
 
+-- events, and further ones from where these lead, happen one after another
 pub happen-both : (limit : ℕ) (a b c : ConnectionState) (es fs : List Event) → AllHappen limit a es b → AllHappen limit b fs c → AllHappen limit a (es ++ fs) c
 happen-both limit a b c [] fs x y = subst (λ (s : ConnectionState). AllHappen limit s fs c) x y
 happen-both limit a b c (e ∷ es) fs x y = (x.0, x.1, happen-both limit x.0 b c es fs x.2 y)
 
+-- events, and one more from where these lead, happen one after another
 pub happen-more : (limit : ℕ) (a b c : ConnectionState) (es : List Event) (e : Event) → AllHappen limit a es b → Happens limit b e c → AllHappen limit a (es ++ e ∷ []) c
 happen-more limit a b c es e x y = happen-both limit a b c es (e ∷ []) x (c, y, refl)

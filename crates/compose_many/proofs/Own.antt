@@ -26,12 +26,14 @@ module _ (events : List Event) where
   pub received_more : (e : Event) → received (events ++ e ∷ []) ≡ received events ++ piece_of e
   received_more e = flat-more piece_of events e
 
+  -- one event more adds the bytes that it sends, if any, to those that were sent
   pub sent_more : (e : Event) → sent (events ++ e ∷ []) ≡ sent events ++ sent_of e
   sent_more e = flat-more sent_of events e
 
   pub requests_more : (e : Event) → requests (events ++ e ∷ []) ≡ requests events ++ map (λ (x : Exchange). x.request) (exchange_of e)
   requests_more e = ap (λ h. map (λ (x : Exchange). x.request) h) (flat-more exchange_of events e) ∙ map-both (λ (x : Exchange). x.request) (exchanges events) (exchange_of e)
 
+  -- one event more adds its reply, if it has one, to the replies
   pub replies_more : (e : Event) → replies (events ++ e ∷ []) ≡ replies events ++ map (λ (x : Exchange). x.reply) (exchange_of e)
   replies_more e = ap (λ h. map (λ (x : Exchange). x.reply) h) (flat-more exchange_of events e) ∙ map-both (λ (x : Exchange). x.reply) (exchanges events) (exchange_of e)
 
@@ -110,12 +112,14 @@ module _ (events : List Event) where
           bounded = (let both : length s.unsent ≡ length bytes + length m.unsent = ap length h.first ∙ length-append bytes m.unsent in let bounded = own.bounded in omega arith);
         })
 
+    -- a connection that has the replies to its own requests still does after one event more
     pub own_more : (e : Event) → Happens limit s e m → HasItsOwn limit (events ++ e ∷ []) m
     own_more (receives piece) h = own_received piece h
     own_more (answers x) h = own_answered x h
     own_more refuses h = own_refused h
     own_more (sends bytes) h = own_sent bytes h
 
+-- a new connection, on which nothing happened, has the replies to its own requests
 pub own_at_first : (limit : ℕ) → HasItsOwn limit [] new_connection
 own_at_first limit = record { fit = tt; counted = refl; few = omega arith; read = refl; written = refl; faulty = λ r. not_both false refl r; bounded = omega arith }
 
@@ -125,5 +129,6 @@ own_on limit events [] s s' own h =
 own_on limit events (e ∷ more) s s' own h =
     subst (λ (es : List Event). HasItsOwn limit es s') (append_assoc events (e ∷ []) more) (own_on limit (events ++ e ∷ []) more h.0 s' (own_more events limit s h.0 own e h.1) h.2)
 
+-- whatever happened on a connection since it was new, it has the replies to its own requests
 pub has_its_own : (limit : ℕ) (events : List Event) (s : ConnectionState) → AllHappen limit new_connection events s → HasItsOwn limit events s
 has_its_own limit events s h = own_on limit [] events new_connection s (own_at_first limit) h

@@ -7,6 +7,7 @@ use Rattle.compose_many.specs.Service.{NumberedEvent, events_of, numbered, EachH
 use Rattle.compose_many.proofs.Happening.{map-both, run-both, happen-both}
 use Rattle.compose_many.proofs.Own.{has_its_own}
 
+-- each connection has the replies to its own requests alone, whatever happens on others
 pub each_has_its_own : EachHasItsOwn
 each_has_its_own limit reading old new before after all c e h =
     has_its_own limit (events_of c all) (after c) (subst (λ (s : ConnectionState). AllHappen limit s (events_of c all) (after c)) e (h.each c))
@@ -45,6 +46,7 @@ module _ (limit : ℕ) (before after : ℕ → ConnectionState) (events : List E
   pub each_of : (d : ℕ) → AllHappen limit (before d) (events_of d (numbered c events)) (after d)
   each_of d = each_by_its_own d (c == d) refl
 
+-- events of one connection, while no other changes, are events of the service
 pub turns_are_served : TurnsAreServed
 turns_are_served limit reading old new before after events c happen run others = record {
   run = subst (λ es. IsHistory reading old (exchanges es) new) (sym (without_numbers c events)) run;
@@ -69,6 +71,7 @@ events_of-both c first second =
     ap (λ es. map (λ (e : NumberedEvent). e.event) es) (filter-both (λ (e : NumberedEvent). e.connection == c) first second)
     ∙ map-both (λ (e : NumberedEvent). e.event) (filter (λ (e : NumberedEvent). e.connection == c) first) (filter (λ (e : NumberedEvent). e.connection == c) second)
 
+-- what happened on many connections, and what happened from there on, happened one after the other
 pub served_one_after_another : ServedOneAfterAnother
 served_one_after_another limit reading old mid new before between after first second x y = record {
   run =

@@ -19,6 +19,7 @@ use Rattle.compose_many.specs.declared.turn.Turn.{Turn}
 use Rattle.compose_many.specs.declared.turn.Turn.TheVariants.{GoesOn, Waits, NeedsRoom, Ends}
 use Rattle.compose_many.proofs.Happening.{behind_nothing, flat-both, flat-more, run-both, happen-both}
 
+-- the events of a turn, and those of another from where it leads, are the events of one turn
 pub turn_then : (limit : ℕ) (reading : Reading) (old mid new : ServiceState) (a b c : ConnectionState) (left left' left'' written written' written'' : Option (List ℕ)) (es fs : List Event)
     → IsTurn limit reading old mid a b left left' written written' es → IsTurn limit reading mid new b c left' left'' written' written'' fs
     → IsTurn limit reading old new a c left left'' written written'' (es ++ fs)
@@ -30,10 +31,12 @@ turn_then limit reading old mid new a b c left left' left'' written written' wri
 }
 
 module _ (limit : ℕ) (reading : Reading) (old : ServiceState) (before after : ConnectionState) where
+  -- bytes that are sent and taken by the writer are a turn
   pub turn_sent : (left written written' : Option (List ℕ)) (bytes : List ℕ) → Sends before bytes after → Appends written written' bytes
       → IsTurn limit reading old old before after left left written written' (sends bytes ∷ [])
   turn_sent left written written' bytes s w = record { happen = (after, s, refl); run = refl; read = Consumes-nil left; wrote = subst (λ l. Appends written written' l) (sym (append-nil bytes)) w }
 
+  -- a piece that comes from the reader is a turn
   pub turn_read : (left left' written : Option (List ℕ)) (piece : List ℕ) → Receives before piece after → Consumes left left' piece
       → IsTurn limit reading old old before after left left' written written (receives piece ∷ [])
   turn_read left left' written piece s c = record { happen = (after, s, refl); run = refl; read = subst (λ l. Consumes left left' l) (sym (append-nil piece)) c; wrote = Appends-nil written }
@@ -80,9 +83,11 @@ holds_no_more limit most reading old new before mid after bytes events s a h =
     let grows = held_grows limit mid after events a.happen in
     omega arith
 
+-- sending holds no more than was held before
 pub sent_holds_no_more : (most : ℕ) (before after : ConnectionState) (bytes : List ℕ) → Sends before bytes after → length before.held < most → length after.held < most
 sent_holds_no_more most before after bytes s h = let sent : length after.held ≡ length before.held = ap (λ (t : ConnectionState). length t.held) s.after in omega arith
 
+-- where less is held than may be and one piece more, it stays so after a piece for which there was room
 pub read_holds_little : (most : ℕ) (held piece : List ℕ) → IsRoomFor most held piece → length held < most + max_piece → length (held ++ piece) < most + max_piece
 read_holds_little most held piece (inl e) h =
     let both : length (held ++ piece) ≡ length held + length piece = length-append held piece in
@@ -96,6 +101,7 @@ read_holds_little most held piece (inr r) h =
 
 -- ---- what follows
 
+-- how sending ended tells what follows a turn in which bytes were sent and nothing else happened
 pub follows_sent : (most : ℕ) (turn : Turn) (before now : ConnectionState) (bytes : List ℕ) (left' : Option (List ℕ)) (read_mark write_mark : Option TryError)
     → SendsSo (Some turn) bytes now write_mark → FollowsSo most turn before (sends bytes ∷ []) now now left' read_mark write_mark
 follows_sent most GoesOn before now bytes left' rf wf h = (refl, inl (λ e. h (sym (append-nil bytes) ∙ e)))
@@ -135,6 +141,7 @@ module _ (most : ℕ) (s now : ConnectionState) (piece : List ℕ) (left' : Opti
   begun_then : piece ≡ [] → IsBegun (s.held ++ piece)
   begun_then e = subst IsBegun (sym (held_is e)) begun
 
+  -- how reading ended tells what follows a turn whose last event is the piece that came
   pub follows_read : (turn : Turn) (before : ConnectionState) (events : List Event) → ReadsSo most turn s piece now left' read_mark
       → FollowsSo most turn before (events ++ receives piece ∷ []) with_piece now left' read_mark write_mark
   follows_read GoesOn before events h = (h.1, inr (inl (λ e. h.0 (behind_nothing (received events) piece (sym (flat-more piece_of events (receives piece)) ∙ e)))))
@@ -146,6 +153,7 @@ module _ (most : ℕ) (s now : ConnectionState) (piece : List ℕ) (left' : Opti
   follows_read (Ends (Err EndsNoMemory)) before events h = (h, quiet_then)
   follows_read (Ends _) before events h = absurd h
 
+  -- on a connection on which all is sent and nothing was refused, the piece comes behind what is held
   pub receives_so : Receives s piece with_piece
   receives_so = record { goes_on = quiet.goes_on; all_sent = quiet.sent; after = refl }
 
@@ -157,13 +165,16 @@ turn_on limit reading old new before mid after left written written' bytes event
     turn_then limit reading old old new before mid after left left left written written' written' (sends bytes ∷ []) events (turn_sent limit reading old before mid left written written' bytes s w)
     (turn_answered limit reading old mid after new left written' events a)
 
+-- a connection on which nothing is unsent and no faulty frame was refused is quiet
 pub is_quiet : (after now : ConnectionState) → now ≡ after → now.unsent ≡ [] → after.refused ≡ false → IsQuiet after
 is_quiet after now e u r = record { sent = ap (λ (t : ConnectionState). t.unsent) (sym e) ∙ u; goes_on = r }
 
+-- where a list of the same bytes tests as empty, there are none
 pub none_left : (xs ys : List ℕ) (b : Bool) → b ≡ true → b ≡ (length xs == 0) → xs ≡ ys → ys ≡ []
 none_left [] ys b t e x = sym x
 none_left (y ∷ xs) ys b t e x = let z : length (y ∷ xs) ≡ 0 = eqb-true (length (y ∷ xs)) 0 (sym e ∙ t) in absurd (omega arith)
 
+-- where a list of the same bytes doesn't test as empty, there are some
 pub some_left : (xs ys : List ℕ) (b : Bool) → b ≡ false → b ≡ (length xs == 0) → xs ≡ ys → ys ≢ []
 some_left xs ys b t e x n = let z : false ≡ true = sym t ∙ e ∙ eq-eqb (length xs) 0 (ap length (x ∙ n)) in cc
 

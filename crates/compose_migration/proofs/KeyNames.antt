@@ -8,6 +8,7 @@ use Rattle.std.proofs.lemmas.List.{drop_more, drop_all, map_push, append_assoc, 
 use Rattle.keysym_core.specs.Names.{KeysymNames, value}
 use Rattle.compose_migration.specs.Keys.{all_there}
 
+-- the bytes of a key name that is lent
 abbrev pub now_of : Bor (List ℕ) → List ℕ
 now_of key_name = key_name.now
 

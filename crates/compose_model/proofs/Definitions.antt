@@ -16,15 +16,19 @@ module _ (d : Definition) (h : is_definition d ≡ true) where
   counted : is_counted d ≡ true
   counted = (and_parts (is_counted d) (is_fed d) (and_parts (is_counted d && is_fed d) (nat_le (length d.text) 255) h).0).0
 
+  -- a definition's sequence has a keysym
   pub sequence_some : 0 < length d.sequence
   sequence_some = ltb-true 0 (length d.sequence) (and_parts (nat_lt 0 (length d.sequence)) (nat_le (length d.sequence) 32) counted).0
 
+  -- a definition's sequence has at most 32 keysyms
   pub sequence_few : length d.sequence ≤ 32
   sequence_few = leb-true (length d.sequence) 32 (and_parts (nat_lt 0 (length d.sequence)) (nat_le (length d.sequence) 32) counted).1
 
+  -- each keysym of a definition's sequence is in range and not ignored
   pub sequence_fed : list_all (λ k. is_keysym k && not (is_ignored k)) d.sequence ≡ true
   sequence_fed = (and_parts (is_counted d) (is_fed d) (and_parts (is_counted d && is_fed d) (nat_le (length d.text) 255) h).0).1
 
+  -- a definition's text has at most 255 bytes
   pub text_few : length d.text ≤ 255
   text_few = leb-true (length d.text) 255 (and_parts (is_counted d && is_fed d) (nat_le (length d.text) 255) h).1
 

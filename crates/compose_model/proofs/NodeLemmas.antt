@@ -11,9 +11,11 @@ use Rattle.compose_model.specs.Nodes.{put, rising_lists, proper_prefixes, nodes,
 use Rattle.compose_model.proofs.Tests.{list_any-map, list_any-flat_map, list_any-filter, list_any-weaker, list_any-same, list_any-and, list_any-rising}
 use Rattle.compose_model.proofs.Steps.{effect_tells}
 
+-- lists that the test finds the same are equal
 pub same_is : (s t : List ℕ) → same s t ≡ true → s ≡ t
 same_is s t = (bytes_decides s t).0
 
+-- the test finds equal lists the same
 pub same_from : (s t : List ℕ) → s ≡ t → same s t ≡ true
 same_from s t = (bytes_decides s t).1
 
@@ -32,9 +34,11 @@ node_means table p =
     ∙ ap (λ b. same p [] || b) (list_any-flat_map (same p) (λ (d : Definition). proper_prefixes d.sequence) table
     ∙ list_any-same (λ (d : Definition). list_any (same p) (proper_prefixes d.sequence)) (λ d. is_proper_prefix p d.sequence) (λ d. prefixes_are p d.sequence) table)
 
+-- the empty list is a node of every table
 pub root_is_node : (table : List Definition) → is_node table [] ≡ true
 root_is_node table = node_means table []
 
+-- what a sequence extends is a node
 pub extended_is_node : (table : List Definition) (p : List ℕ) → is_extended table p ≡ true → is_node table p ≡ true
 extended_is_node table p h = node_means table p ∙ or_right (same p []) (is_extended table p) h
 
@@ -56,6 +60,7 @@ pending_is_node table u (k ∷ w) h = pending_is_node table (pending_after table
 
 -- ---- the numbers of nodes
 
+-- the element at the index where a list is found is that list
 pub found_at : (p : List ℕ) (xs : List (List ℕ)) → list_any (same p) xs ≡ true → get_or xs (position_or_len (same p) xs) [] ≡ p
 found_at p [] h = cc
 found_at p (x ∷ xs) h = go (same p x) refl h (found_at p xs)
@@ -65,6 +70,7 @@ found_at p (x ∷ xs) h = go (same p x) refl h (found_at p xs)
     go true e h later = sym (same_is p x e)
     go false e h later = rw one-add (later h)
 
+-- a list that is found has an index below the length
 pub found_below : (p : List ℕ) (xs : List (List ℕ)) → list_any (same p) xs ≡ true → position_or_len (same p) xs < length xs
 found_below p [] h = cc
 found_below p (x ∷ xs) h = go (same p x) h (found_below p xs)
@@ -78,6 +84,7 @@ found_below p (x ∷ xs) h = go (same p x) h (found_below p xs)
 pub node_at_number : (table : List Definition) (p : List ℕ) → is_node table p ≡ true → node table (number_of table p) ≡ p
 node_at_number table p h = found_at p (nodes table) h
 
+-- a node's number is below the number of nodes
 pub number_below : (table : List Definition) (p : List ℕ) → is_node table p ≡ true → number_of table p < length (nodes table)
 number_below table p h = found_below p (nodes table) h
 
@@ -87,12 +94,15 @@ put_root [] = ([], refl)
 put_root ([] ∷ xs) = (xs, refl)
 put_root ((k ∷ s) ∷ xs) = ((k ∷ s) ∷ xs, refl)
 
+-- the empty list stands first among the nodes
 pub root_first : (table : List Definition) → (rest : List (List ℕ)) × (nodes table ≡ [] ∷ rest)
 root_first table = put_root (rising_lists (flat_map (λ d. proper_prefixes d.sequence) table))
 
+-- the root has the number 0
 pub root_number : (table : List Definition) → number_of table [] ≡ 0
 root_number table = let r = root_first table in rw r.1 refl
 
+-- the node with the number 0 is the root
 pub node_zero : (table : List Definition) → node table 0 ≡ []
 node_zero table = let r = root_first table in rw r.1 refl
 
@@ -114,6 +124,7 @@ has_key_same [] (x ∷ s) k h = or_left (k == x) (list_any (λ j. k == j) s) (an
 has_key_same (j ∷ p) [] k h = cc
 has_key_same (j ∷ p) (x ∷ s) k h = or_right (k == x) (list_any (λ y. k == y) s) (has_key_same p s k (and_parts (j == x) (same (p ++ k ∷ []) s) h).1)
 
+-- a list with a keysym at its end isn't empty
 pub never_empty : (p : List ℕ) (k : ℕ) → same (p ++ k ∷ []) [] ≡ false
 never_empty [] k = refl
 never_empty (j ∷ p) k = refl
@@ -123,9 +134,11 @@ pub edge_extends : (table : List Definition) (p : List ℕ) (k : ℕ) → has_ed
 edge_extends table p k =
     ap (λ b. b || is_sequence table (p ++ k ∷ [])) (node_means table (p ++ k ∷ []) ∙ ap (λ b. b || is_extended table (p ++ k ∷ [])) (never_empty p k))
 
+-- a test finds a keysym of the table exactly where it finds one in a sequence
 pub keysyms_are : (table : List Definition) (q : ℕ → Bool) → list_any q (keysyms table) ≡ list_any (λ d. list_any q d.sequence) table
 keysyms_are table q = list_any-rising nat_cmp exact_unsigned q (flat_map (λ d. d.sequence) table) ∙ list_any-flat_map q (λ (d : Definition). d.sequence) table
 
+-- an edge of any node is one of the table's keysyms
 pub edge_key : (table : List Definition) (p : List ℕ) (k : ℕ) → has_edge table p k ≡ true → list_any (λ j. k == j) (keysyms table) ≡ true
 edge_key table p k h =
     keysyms_are table (λ j. k == j) ∙
@@ -145,6 +158,7 @@ edge_listed table p k h =
     list_any-weaker (λ j. k == j) (λ j. has_edge table p j && k == j)
     (λ j e. and_from (has_edge table p j) (k == j) (ap (has_edge table p) (sym (eqb-true k j e)) ∙ h) e) (keysyms table) (edge_key table p k h)
 
+-- a keysym that is listed among a node's edges is an edge of it
 pub listed_edge : (table : List Definition) (p : List ℕ) (k : ℕ) → is_edge table p k ≡ true → has_edge table p k ≡ true
 listed_edge table p k h = go (keysyms table) (sym (list_any-filter (λ j. k == j) (has_edge table p) (keysyms table)) ∙ h)
   where

@@ -106,6 +106,7 @@ module _ (names : KeysymNames) (sources : List Source) (v w : Visit) where
     said_again (production events raw name) =
         follows_then (definition_of names v events raw name) (definition_of names w events raw name) (λ d. Ok (Some d)) (λ d. Ok (Some d)) (definition_again events raw name) (λ _. refl)
 
+    -- a line without a fault gives the same again where no more includes lead to it
     pub line_again : (bytes : List ℕ) → v.bytes ≡ bytes → w.bytes ≡ bytes → is_ok (line_gives names sources v) ≡ true → line_gives names sources w ≡ line_gives names sources v
     line_again bytes a b =
         same_then (line_gives names sources v) (line_gives names sources w)
@@ -216,6 +217,7 @@ module _ (names : KeysymNames) (sources : List Source) where
   abbrev lines_in : ℕ → List (List ℕ)
   lines_in source = source_lines (get_or sources source (record { name = []; bytes = [] })).bytes
 
+  -- lines of a source without a fault have none, and give the same definitions, where more levels of includes are left
   pub source_again : (left other source : ℕ) → left ≤ other → other ≤ 8 → Again (visits_below sources left source) (visits_below sources other source)
   source_again zero other source l m =
       by_lines zero other source (lines_again source 8 (8 - other) (below sources zero) (below sources other) (λ number line. deepest_again other _ _ refl (omega arith) refl) 1 (lines_in source))

@@ -67,6 +67,7 @@ events_all names v events = none_before (sequence_of names v 0 (map (λ e. e.now
     none_before (Ok s) = refl
     none_before (Err e) = refl
 
+-- keysyms that aren't ignored and one more that isn't are keysyms that aren't ignored
 pub fed_push : (ks : List ℕ) (k : ℕ) → AreFed ks → is_fed k ≡ true → AreFed (ks ++ k ∷ [])
 fed_push [] k a h = and_from (is_fed k) true h refl
 fed_push (j ∷ ks) k a h = let parts = and_parts (is_fed j) (list_all is_fed ks) a in and_from (is_fed j) (list_all is_fed (ks ++ k ∷ [])) parts.0 (fed_push ks k parts.1 h)

@@ -25,7 +25,8 @@ row sequence text = record { sequence = sequence; text = text }
 -- the names that the examples use
 abbrev few : KeysymNames
 few = record {
-  names = record { name = codes "a"; value = 0x61 } ∷ record { name = codes "b"; value = 0x62 } ∷ record { name = codes "Shift_L"; value = 0xffe1 } ∷ record { name = codes "eacute"; value = 0xe9 } ∷ [];
+  names = record { name = codes "a"; value = 0x61 } ∷ record { name = codes "b"; value = 0x62 }
+      ∷ record { name = codes "Shift_L"; value = 0xffe1 } ∷ record { name = codes "eacute"; value = 0xe9 } ∷ [];
   characters = [];
 }
 

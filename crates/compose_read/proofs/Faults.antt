@@ -5,6 +5,7 @@ use Rattle.compose_read.specs.ReadGives.{ReadGives}
 use Rattle.compose_read.specs.declared.ReadFault.{ReadFault}
 use Rattle.compose_read.specs.declared.ReadFault.TheVariants.{NoMemory}
 
+-- a fault that is said of a part, unless memory ran out, is said of the whole
 pub moved_fault : {X Y Z W : Type 0} (view : X → Z) (other : Y → W) (fault : ReadFault) (said : Result Z ReadFault) (whole : Result W ReadFault) → (said ≡ Err fault → whole ≡ Err fault)
     → ReadGives view (Err fault) said → ReadGives other (Err fault) whole
 moved_fault view other NoMemory said whole f h = tt

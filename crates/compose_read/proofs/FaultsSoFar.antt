@@ -9,9 +9,11 @@ module _ {X Y : Type 0} (f : X → Option Y) (found whole : List Y) (left : List
   nothing_left : filter_map f (take n left) ≡ [] → whole ≡ found
   nothing_left h = sym told ∙ ap (λ ys. found ++ ys) h ∙ append-nil found
 
+  -- where nothing that is left has a fault, those found are the first ones of all, if they are few enough
   pub all_found : (most : ℕ) → length found ≤ most → filter_map f (take n left) ≡ [] → found ≡ take most whole
   all_found most few h = sym (ap (take most) (nothing_left h) ∙ take_all most found few)
 
+  -- where as many are found as are told, these are the first ones of all
   pub enough_found : (most : ℕ) → length found ≡ most → found ≡ take most whole
   enough_found most full = sym (ap (take most) (sym told) ∙ take_at found (filter_map f (take n left)) most full)
 
@@ -19,9 +21,11 @@ module _ {X Y : Type 0} (f : X → Option Y) (found whole : List Y) (left : List
     opened : found ++ cons_option (f v) (filter_map f (take m others)) ≡ whole
     opened = sym (ap₂ (λ k xs. found ++ filter_map f (take k xs)) one is) ∙ told
 
+    -- where the next line has no fault, the faults found and those of the others are still all
     pub nothing_more : None ≡ f v → found ++ filter_map f (take m others) ≡ whole
     nothing_more h = ap (λ o. found ++ cons_option o (filter_map f (take m others))) h ∙ opened
 
+    -- where the next line has a fault that is put behind those found, they and those of the others are still all
     pub one_more : (y : Y) (after : List Y) → Some y ≡ f v → after ≡ found ++ y ∷ [] → after ++ filter_map f (take m others) ≡ whole
     one_more y after h pushed =
         ap (λ ys. ys ++ filter_map f (take m others)) pushed ∙ append_assoc found (y ∷ []) (filter_map f (take m others))

@@ -27,6 +27,7 @@ module _ (name : List ℕ) where
   same_length [] = refl
   same_length (f ∷ files) = ap suc (same_length files)
 
+  -- the map of files finds a name at the index where the list of sources has it
   pub same_index : (files : Files) → position (λ k. bytes_eq name (string_bytes k)) (keys_of files) ≡ position (λ (s : Source). bytes_eq name s.name) (sources_of files)
   same_index files = ap₂ (λ n m. cond (nat_lt n m) (Some n) None) (same_prefix files) (same_length files)
 
@@ -67,9 +68,11 @@ unfolding IsDistinct
 distinct_names [] d = tt
 distinct_names (f ∷ files) d = (other_names f.0 files d.0, distinct_names files d.1)
 
+-- there are as many sources as files
 pub many : (files : Files) → length (sources_of files) ≡ length files
 many [] = refl
 many (f ∷ files) = ap suc (many files)
 
+-- at most 64 files by distinct names are sources
 pub sound : (files : Files) → length files ≤ 64 → IsDistinct string_eq (keys_of files) → AreSources (sources_of files)
 sound files few d = record { few = subst (λ n. n ≤ 64) (sym (many files)) few; text = all_text files; distinct = distinct_names files d }

@@ -48,6 +48,7 @@ by_rest n (b ∷ rest) h = by_tests (b == 35) (starts_with nat_eq (b ∷ rest) (
     by_tests false false ends true h = production_is_other n rest
     by_tests false false ends false h = refl
 
+-- a line that doesn't begin with `include` behind its blanks includes nothing
 pub no_include : (line : List ℕ) → starts_with nat_eq (skip_blanks line) (codes "include") ≡ false → None ≡ raw_include line
 no_include line h = sym (go (is_utf8 line))
   where

@@ -75,12 +75,15 @@ module _ (sources : List Source) where
   -- ---- the line that is taken
 
   module _ (v : Visit) (old taken : List Visit) (took : old ≡ below sources (8 - v.depth) v ++ taken) where
+    -- where no level is left, what is left to visit is the line and what was left before
     pub deepest_line : 8 ≤ v.depth → old ≡ v ∷ taken
     deepest_line deep = let none : 8 - v.depth ≡ 0 = omega arith in took ∙ ap (λ n. below sources n v ++ taken) none
 
+    -- behind a line that includes nothing, what is left to visit is what was left before
     pub other_line : included sources v.bytes ≡ None → old ≡ v ∷ taken
     other_line h = took ∙ ap (λ vs. vs ++ taken) (plain_line sources (8 - v.depth) v h)
 
+    -- behind an include what is left to visit is the line, all of the source that it opens, and then what was left before
     pub include_line : (source : ℕ) (os after : List OpenSource) (o : OpenSource) → v.depth < 8 → included sources v.bytes ≡ Some source → taken ≡ left_from sources 0 os → length os ≡ v.depth + 1
         → after ≡ os ++ o ∷ []
         → ((depth : ℕ) → depth ≤ 8 → left_in sources depth o ≡ visits_below sources (8 - depth) source) → old ≡ v ∷ left_from sources 0 after

@@ -10,6 +10,7 @@ use Rattle.std.proofs.lemmas.Map.Lookups.{exact_bytes}
 use Rattle.compose_model.specs.Table.{same, is_proper_prefix}
 use Rattle.compose_model.proofs.NodeLemmas.{same_is}
 
+-- one list comes before another in the order of sequences
 abbrev pub Before : List ℕ → List ℕ → Type 0
 Before s t = slice_cmp nat_cmp s t ≡ Less
 
@@ -17,6 +18,7 @@ Before s t = slice_cmp nat_cmp s t ≡ Less
 pub not_both : (s t : List ℕ) → Before s t → Before t s → ⊥
 not_both s t e f = let g : Less ≡ Greater = sym e ∙ nat_list_cmp_total.antisymm s t ∙ ap ordering_reverse f in cc
 
+-- no list comes before itself
 pub not_itself : (s : List ℕ) → is_lt (slice_cmp nat_cmp s s) ≡ false
 not_itself s = go (slice_cmp nat_cmp s s) refl
   where
@@ -25,6 +27,7 @@ not_itself s = go (slice_cmp nat_cmp s s) refl
     go Equal e = refl
     go Greater e = refl
 
+-- a list that comes before another isn't the same
 pub not_same : (s t : List ℕ) → Before s t → same t s ≡ false
 not_same s t h = elim (cases_Bool (same t s)) [
   | inl e ↦ absurd (let b : Before s s = ap (slice_cmp nat_cmp s) (sym (same_is t s e)) ∙ h in not_both s s b b)
@@ -58,6 +61,7 @@ equal_from x y h = go (nat_lt x y) (x == y) h
     go false true e = refl
     go false false e = cc
 
+-- a proper prefix comes before its extensions
 pub prefix_before : (p s : List ℕ) → is_proper_prefix p s ≡ true → Before p s
 prefix_before p [] h = cc
 prefix_before [] (y ∷ s) h = refl
@@ -65,6 +69,7 @@ prefix_before (x ∷ p) (y ∷ s) h =
     let a = and_parts (x == y) (is_proper_prefix p s) h in
     ap (λ o. ordering_then o (slice_cmp nat_cmp p s)) (equal_numbers x y a.0) ∙ prefix_before p s a.1
 
+-- no list is a proper prefix of itself
 pub not_own_prefix : (s : List ℕ) → is_proper_prefix s s ≡ false
 not_own_prefix s = elim (cases_Bool (is_proper_prefix s s)) [
   | inl e ↦ absurd (let b = prefix_before s s e in not_both s s b b)

@@ -61,6 +61,7 @@ module _ (keysyms texts more text : List ℕ) (u : IsUtf8 text) where
     ends = boundary_stays texts text (p.first_byte + p.byte_count) u h.ends;
   }
 
+  -- spans stay in place where more keysyms and texts are put behind
   pub all_placed_stay : (ps : List RowSpan) → ArePlaced keysyms texts ps → ArePlaced (keysyms ++ more) (texts ++ text) ps
   all_placed_stay ps h = λ k d l. placed_stays (get_or ps k d) (h k d l)
 
@@ -69,6 +70,7 @@ module _ (keysyms texts more text : List ℕ) (u : IsUtf8 text) where
       (piece_stays p.first_keysym p.keysym_count keysyms more h.keysyms_within)
       (piece_stays p.first_byte p.byte_count texts text h.ends.0)
 
+  -- rows stay what they are where more keysyms and texts are put behind
   pub rows_stay : (ps : List RowSpan) → ArePlaced keysyms texts ps → rows_of (keysyms ++ more) (texts ++ text) ps ≡ rows_of keysyms texts ps
   rows_stay [] h = refl
   rows_stay (p ∷ ps) h = ap₂ (λ d ds. d ∷ ds) (row_stays p (h 0 p (omega arith))) (rows_stay ps (λ k d l. h (suc k) d (omega arith)))
@@ -80,6 +82,7 @@ module _ (keysyms texts : List ℕ) (first_keysym first_byte : ℕ) (l : first_k
       sym (piece_stays a n (take end xs) (drop end xs) (let k = length-take-le end xs within in omega arith))
       ∙ ap (λ (ys : List ℕ). take n (drop a ys)) (take-append-drop end xs)
 
+  -- rows that stand before the offsets are what they are without the rest
   pub rows_before : (ps : List RowSpan) → All (IsBefore first_keysym first_byte) ps → rows_of (take first_keysym keysyms) (take first_byte texts) ps ≡ rows_of keysyms texts ps
   rows_before [] h = refl
   rows_before (p ∷ ps) h = let here = h 0 p (omega arith) in ap₂ (λ d ds. d ∷ ds)
@@ -90,6 +93,7 @@ module _ (keysyms texts : List ℕ) (first_keysym first_byte : ℕ) (l : first_k
 
 -- ---- definitions that are being read
 
+-- the spans are whole definitions in place, and the offsets, from where one more is being read, come behind them
 abbrev pub IsDrafted : List ℕ → List ℕ → List RowSpan → ℕ → ℕ → Type 0
 IsDrafted keysyms texts spans first_keysym first_byte =
     ArePlaced keysyms texts spans × (first_keysym ≤ length keysyms) × IsCharBoundary texts first_byte × IsTrue (is_table (rows_of keysyms texts spans)) × IsBehind spans first_keysym first_byte
@@ -123,6 +127,7 @@ module _ (ks ts : List ℕ) (ps : List RowSpan) (fk fb : ℕ) (is : IsDrafted ks
     same_rows : rows_of (take fk ks) (take fb ts) ps ≡ rows_of ks ts ps
     same_rows = rows_before ks ts fk fb is.1 is.2.0 ps is.4.each
 
+    -- without the definition that is being read, the keysyms, texts and spans hold the whole ones, and nothing behind them
     pub begun : IsDrafted prefix text ps fk fb
     begun = subst (λ a. IsDrafted a text ps fk fb) (sym k) (subst (λ b. IsDrafted (take fk ks) b ps fk fb) (sym t) (
       prefix_placed,
@@ -132,6 +137,7 @@ module _ (ks ts : List ℕ) (ps : List RowSpan) (fk fb : ℕ) (is : IsDrafted ks
       is.4,
     ))
 
+    -- a new definition begins empty, and the table stays
     pub drafted_begun : drafted prefix text ps fk fb ≡ with_row (drafted ks ts ps fk fb) no_row
     drafted_begun =
         ap₂ (λ a b. drafted a b ps fk fb) k t
@@ -142,9 +148,11 @@ module _ (ks ts : List ℕ) (ps : List RowSpan) (fk fb : ℕ) (is : IsDrafted ks
 
   -- with one more keysym
   module _ (new : List ℕ) (k : ℕ) (e : new ≡ ks ++ k ∷ []) where
+    -- one more keysym leaves the whole definitions and the one that is being read
     pub with_keysym : IsDrafted new ts ps fk fb
     with_keysym = subst (λ ts. IsDrafted new ts ps fk fb) (append-nil ts) (subst (λ ks. IsDrafted ks (ts ++ []) ps fk fb) (sym e) (grown (k ∷ []) [] IsUtf8-nil))
 
+    -- one more keysym is the last one of the sequence that is being read, and the table stays
     pub drafted_keysym : drafted new ts ps fk fb ≡ with_row (drafted ks ts ps fk fb) (record { sequence = drop fk ks ++ k ∷ []; text = drop fb ts })
     drafted_keysym =
         (λ i. drafted (e i) (sym (append-nil ts) i) ps fk fb)
@@ -153,9 +161,11 @@ module _ (ks ts : List ℕ) (ps : List RowSpan) (fk fb : ℕ) (is : IsDrafted ks
 
   -- with more text
   module _ (new text : List ℕ) (e : new ≡ ts ++ text) (u : IsUtf8 text) where
+    -- more text leaves the whole definitions and the one that is being read
     pub with_text : IsDrafted ks new ps fk fb
     with_text = subst (λ ks. IsDrafted ks new ps fk fb) (append-nil ks) (subst (λ ts. IsDrafted (ks ++ []) ts ps fk fb) (sym e) (grown [] text u))
 
+    -- more text is put behind that of the definition that is being read, and the table stays
     pub drafted_text : drafted ks new ps fk fb ≡ with_row (drafted ks ts ps fk fb) (record { sequence = drop fk ks; text = drop fb ts ++ text })
     drafted_text =
         (λ i. drafted (sym (append-nil ks) i) (e i) ps fk fb)
@@ -174,12 +184,15 @@ module _ (ks ts : List ℕ) (ps : List RowSpan) (fk fb : ℕ) (is : IsDrafted ks
     abbrev behind : (text : List ℕ) × (new ≡ ts ++ text) × IsUtf8 text
     behind = text_behind r gives found
 
+    -- the text of a raw text, or its fault, leaves the whole definitions and the one that is being read
     pub with_raw_text : IsDrafted ks new ps fk fb
     with_raw_text = with_text new behind.0 behind.1 behind.2
 
+    -- the text of a raw text, or its fault, leaves the table as it was
     pub table_stays : rows_of ks new ps ≡ rows_of ks ts ps
     table_stays = ap (λ (d : Drafted). d.table) (drafted_text new behind.0 behind.1 behind.2)
 
+    -- what is pushed to the texts is pushed to the text of the definition that is being read
     pub text_given : PushGives (drop fb ts) (drop fb new) r said
     text_given = go r gives
       where
@@ -188,6 +201,7 @@ module _ (ks ts : List ℕ) (ps : List RowSpan) (fk fb : ℕ) (is : IsDrafted ks
         go (Err lex_faults.NoMemory) g = ap (drop fb) g
         go (Err e) g = (g.0, ap (drop fb) g.1)
 
+    -- a raw text that is pushed stands for the text that comes behind the definition's own
     pub text_found : OnOk r ((bytes : List ℕ) × (drop fb new ≡ drop fb ts ++ bytes) × Unescapes raw bytes × IsText bytes)
     text_found = go r found
       where
@@ -198,6 +212,7 @@ module _ (ks ts : List ℕ) (ps : List RowSpan) (fk fb : ℕ) (is : IsDrafted ks
 
   -- with some of the spans again
   module _ (first count : ℕ) (room : length (rows_of ks ts ps) + count ≤ max_definitions) (qs : List RowSpan) (e : qs ≡ ps ++ take count (drop first ps)) where
+    -- spans that are put again behind the others repeat their rows
     pub rows_repeated : rows_of ks ts qs ≡ rows_of ks ts ps ++ take count (drop first (rows_of ks ts ps))
     rows_repeated =
         ap (rows_of ks ts) e ∙ map-append (definition_at ks ts) ps (take count (drop first ps))
@@ -230,6 +245,7 @@ module _ (ks ts : List ℕ) (ps : List RowSpan) (fk fb : ℕ) (is : IsDrafted ks
               (All-append (IsBefore fk fb) ps (take count (drop first ps)) all.each (All-take (IsBefore fk fb) count (drop first ps) (All-drop (IsBefore fk fb) first ps all.each)));
         }
 
+    -- spans that are put again leave the definition that is being read, where there is room for their rows
     pub repeated : IsDrafted ks ts qs fk fb
     repeated = (
       subst (ArePlaced ks ts) (sym e) (All-append (IsPlaced ks ts) ps (take count (drop first ps)) is.0 (All-take (IsPlaced ks ts) count (drop first ps) (All-drop (IsPlaced ks ts) first ps is.0))),
@@ -246,8 +262,10 @@ module _ (ks ts : List ℕ) (ps : List RowSpan) (fk fb : ℕ) (is : IsDrafted ks
       (definition : is_definition (record { sequence = drop fk ks; text = drop fb ts }) ≡ true) where
     row_there : definition_at ks ts p ≡ record { sequence = drop fk ks; text = drop fb ts }
     row_there =
-        (λ i. let d : Definition = record { sequence = rest_taken fk ks p.keysym_count p.first_keysym keysym_from keysym_count i; text = rest_taken fb ts p.byte_count p.first_byte byte_from byte_count i } in d)
+        (λ i. let d : Definition = record
+        { sequence = rest_taken fk ks p.keysym_count p.first_keysym keysym_from keysym_count i; text = rest_taken fb ts p.byte_count p.first_byte byte_from byte_count i } in d)
 
+    -- the span of the definition that was read makes it the last row
     pub table_finished : rows_of ks ts (ps ++ p ∷ []) ≡ rows_of ks ts ps ++ record { sequence = drop fk ks; text = drop fb ts } ∷ []
     table_finished = map-append (definition_at ks ts) ps (p ∷ []) ∙ ap (λ d. rows_of ks ts ps ++ d ∷ []) row_there
 
@@ -285,6 +303,7 @@ module _ (ks ts : List ℕ) (ps : List RowSpan) (fk fb : ℕ) (is : IsDrafted ks
           ),
     )
 
+    -- with its span behind the others, the definition that was read is the last row, and a new one begins behind it
     pub finished_with : (qs : List RowSpan) → qs ≡ ps ++ p ∷ [] → length (rows_of ks ts ps) < max_definitions → (fk fb : ℕ) → fk ≡ length ks → fb ≡ length ts → IsDrafted ks ts qs fk fb
     finished_with qs e room fk fb k b =
         subst (λ ps. IsDrafted ks ts ps fk fb) (sym e) (subst (λ n. IsDrafted ks ts (ps ++ p ∷ []) n fb) (sym k) (subst (IsDrafted ks ts (ps ++ p ∷ []) (length ks)) (sym b) (finished room)))

@@ -42,16 +42,19 @@ module _ (rule : Rule) (d e : Definition) where
   neither true b h = cc
   neither false b h = (refl, h)
 
+  -- a row stays before a next one that doesn't begin with its sequence
   pub stays_apart : starts_with nat_eq e.sequence d.sequence ≡ false → stays_before rule d e ≡ Ok true
   stays_apart h =
       let n = neither (same d.sequence e.sequence) (is_proper_prefix d.sequence e.sequence) (sym (prefix_is e.sequence d.sequence) ∙ h) in decide false false n.0 n.1
 
+  -- a row goes where the next one has the same sequence
   pub stays_repeated : starts_with nat_eq e.sequence d.sequence ≡ true → length e.sequence ≡ length d.sequence → stays_before rule d e ≡ Ok false
   stays_repeated h l = elim (or_cases (same d.sequence e.sequence) (is_proper_prefix d.sequence e.sequence) (sym (prefix_is e.sequence d.sequence) ∙ h)) [
     | inl s ↦ decide true (is_proper_prefix d.sequence e.sequence) s refl
     | inr p ↦ (let longer = prefix_shorter d.sequence e.sequence p in absurd (omega arith))
   ]
 
+  -- of a row whose sequence is a proper prefix of the next one the rule decides
   pub stays_prefix : starts_with nat_eq e.sequence d.sequence ≡ true → (length e.sequence ≡ length d.sequence → ⊥) → stays_before rule d e ≡ prefix_of_next rule d e
   stays_prefix h l = elim (cases_Bool (same d.sequence e.sequence)) [
     | inl s ↦ absurd (l (ap length (sym (same_is d.sequence e.sequence s))))

@@ -18,16 +18,19 @@ use Rattle.compose_read.specs.declared.ReadFault.{ReadFault}
 use Rattle.compose_read.specs.declared.ReadFault.TheVariants as faults
 use Rattle.compose_read.specs.declared.reading.Progress.{Progress}
 
+-- where a line includes no source, it is all that is visited
 pub plain_line : (sources : List Source) (left : ℕ) (v : Visit) → included sources v.bytes ≡ None → below sources left v ≡ v ∷ []
 plain_line sources zero v h = refl
 plain_line sources (suc left) v h = ap (λ o. v ∷ option_map_or (visits_below sources left) o []) h
 
+-- behind a line that includes a source, the lines of that source are visited one level deeper
 pub include_below : (sources : List Source) (left : ℕ) (v : Visit) (source : ℕ) → 0 < left → included sources v.bytes ≡ Some source → below sources left v ≡ v ∷ visits_below sources (left - 1) source
 include_below sources zero v source l h = absurd (omega arith)
 include_below sources (suc left) v source l h =
     let one : left ≡ suc left - 1 = omega arith in
     ap (λ o. v ∷ option_map_or (visits_below sources left) o []) h ∙ ap (λ n. v ∷ visits_below sources n source) one
 
+-- a line is visited before those below it
 pub line_first : (sources : List Source) (left : ℕ) (v : Visit) → (more : List Visit) × (below sources left v ≡ v ∷ more)
 line_first sources zero v = ([], refl)
 line_first sources (suc left) v = (option_map_or (visits_below sources left) (included sources v.bytes) [], refl)
@@ -38,10 +41,12 @@ alone : (sources : List Source) (vs : List Visit) → vs ≡ flat_map (below sou
 alone sources [] = refl
 alone sources (v ∷ vs) = ap (λ ws. v ∷ ws) (alone sources vs)
 
+-- the lines visited from a source are each of its lines and those below it
 pub lines_below : (sources : List Source) (left source : ℕ) → visits_below sources left source ≡ flat_map (below sources left) (own_lines sources source (8 - left))
 lines_below sources zero source = alone sources (own_lines sources source max_depth)
 lines_below sources (suc left) source = refl
 
+-- the lines visited from a source are each line of its bytes and those below it
 pub visits_are : (sources : List Source) (left source : ℕ) (bytes : List ℕ) → source < length sources → option_map (λ (s : Source). s.bytes) (slice_get sources source) ≡ Some bytes
     → visits_below sources left source ≡ flat_map (below sources left) (numbered source (8 - left) 1 (source_lines bytes))
 visits_are sources left source bytes l h =
@@ -56,6 +61,7 @@ module _ (sources : List Source) (left source depth line : ℕ) (rest bytes behi
   abbrev next : Visit
   next = record { source = source; line = line + 1; bytes = bytes; depth = depth }
 
+  -- what is left of a source is its next line, those below it, and what is left behind it
   pub next_line : left_to_visit sources left source depth line rest ≡ below sources left next ++ left_to_visit sources left source depth (line + 1) behind
   next_line =
       let one : 1 + line ≡ line + 1 = omega arith in
@@ -126,9 +132,11 @@ module _ (names : KeysymNames) (sources : List Source) (left source depth line :
 
 -- behind the last line the whole is read
 module _ (names : KeysymNames) (sources : List Source) (left source depth line : ℕ) (rest : List ℕ) (lines : lines_of rest ≡ []) where
+  -- where no line is left of a source, nothing is left to visit
   pub none_left : length (left_to_visit sources left source depth line rest) ≡ 0
   none_left = ap (λ ls. length (flat_map (below sources left) (numbered source depth (1 + line) ls))) lines
 
+  -- where no line is left of a source, all of its lines lead to what is read so far
   pub whole_read : (p old : Progress) (whole : List Visit)
       → ((ws : List Visit) → reading_on names sources p (left_to_visit sources left source depth line rest ++ ws) ≡ reading_on names sources old (whole ++ ws))
       → (ws : List Visit) → reading_on names sources old (whole ++ ws) ≡ reading_on names sources p ws
@@ -154,11 +162,13 @@ module _ (names : KeysymNames) (sources : List Source) (root : List ℕ) (source
       go true h = ap (λ n. read_on names sources 0 0 (visits_below sources 8 n)) (same_Some (source_named sources root) source h)
       go false h = cc
 
+  -- once all lines from the root are read, their definitions are those of the sources
   pub all_read : (draft : Drafted) (q : Progress) → draft ≡ nothing → ReadsOn {X = Unit {0}} names sources (visits_below sources 8 source) (read_so_far 0 draft) q (Ok tt)
       → definitions_of names sources root ≡ Ok q.draft.table
   all_read draft q e h =
       root_read ∙ ap (λ d. reading_on names sources (read_so_far 0 d) (visits_below sources 8 source ++ [])) (sym e) ∙ h [] ∙ ap Ok (append-nil q.draft.table)
 
+  -- a fault of a line that is read from the root is that of the sources
   pub root_refused : {X : Type 0} (view : X → List Definition) (draft : Drafted) (q : Progress) (fault : ReadFault) → draft ≡ nothing
       → ReadsOn {X = Unit {0}} names sources (visits_below sources 8 source) (read_so_far 0 draft) q (Err fault)
       → ReadGives view (Err fault) (definitions_of names sources root)

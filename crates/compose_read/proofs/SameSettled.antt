@@ -63,6 +63,7 @@ module _ {X : Type 0} (f : X → Definition) where
   abbrev pub SameTie : (X → X → Bool) → Type 0
   SameTie lt = (x y : X) → (f x).sequence ≡ (f y).sequence → ties lt x y ≡ true
 
+  -- a stable order gives each sequence the same text, where equal sequences tie
   pub stable_same : (lt : X → X → Bool) (xs ys : List X) → SameTie lt → IsStableBy lt xs ys → IsSameTable (map f ys) (map f xs)
   stable_same lt xs ys tie stable v = elim (with_sequence ys v) [
     | inl t ↦ by t.0 t.1
@@ -77,6 +78,7 @@ module _ {X : Type 0} (f : X → Definition) where
           let tied = λ (y : X) (e : same v (f y).sequence ≡ true). tie x y (sym is ∙ same_is v (f y).sequence e) in
           sym (text_of_part (ties lt x) v ys tied) ∙ ap (λ zs. text_at (map f zs) v) (stable x) ∙ text_of_part (ties lt x) v xs tied
 
+  -- rows with equal sequences tie in the order of sequences
   pub sequences_tie : SameTie (λ x y. comes_before (f x).sequence (f y).sequence)
   sequences_tie x y e =
       ap (λ s. not (comes_before s (f y).sequence) && not (comes_before (f y).sequence s)) e ∙ ap (λ b. not b && not b) (not_itself (f y).sequence)
@@ -116,6 +118,7 @@ module _ (a b : List Definition) (texts : IsSameTable a b) where
     | inr e ↦ longest_text a v e ∙ texts v ∙ sym (longest_text b v (sym (same_extended a b texts v) ∙ e))
   ]
 
+-- tables that say the same of every sequence settle to the same rows
 pub same_settled : (rule : Rule) (a b : List Definition) → IsSameTable a b → settled rule a ≡ settled rule b
 same_settled Refuse a b texts = λ i. or_overlap (same_overlap a b texts i) (same_in_order a b texts i)
 same_settled Longest a b texts = ap Ok (same_in_order (longest a) (longest b) (same_longest a b texts))

@@ -26,6 +26,7 @@ use Rattle.compose_model.specs.declared.Rule.TheVariants.{Refuse, Longest}
 
 -- ---- the rows say what the table says
 
+-- the leaves of a table are its sequences
 pub is_leaf : (table : List Definition) (v : List ℕ) → list_any (same v) (leaves table) ≡ is_sequence table v
 is_leaf table v = list_any-rising (slice_cmp nat_cmp) exact_bytes (same v) (map (λ (d : Definition). d.sequence) table) ∙ list_any-map (same v) (λ (d : Definition). d.sequence) table
 
@@ -40,6 +41,7 @@ rows_say table v (s ∷ ss) = ap (λ o. option_or o (cond (same v s) (Some (unwr
     go false true e = ap (λ t. Some (unwrap_or (text_at table t) [])) (sym (same_is v s e))
     go false false e = refl
 
+-- the rows of a table in order say the same of every sequence as the table
 pub in_order_same : (table : List Definition) → IsSameTable (in_order table) table
 in_order_same table v =
     rows_say table v (leaves table)
@@ -58,6 +60,7 @@ rows_rise table [] h = refl
 rows_rise table (s ∷ []) h = refl
 rows_rise table (s ∷ t ∷ ss) h = and_from (is_lt (slice_cmp nat_cmp s t)) (sequences_rise (map (row table) (t ∷ ss))) (ap is_lt h.0.0) (rows_rise table (t ∷ ss) h.1)
 
+-- the sequences of the rows in order rise
 pub in_order_rises : (table : List Definition) → sequences_rise (in_order table) ≡ true
 in_order_rises table = rows_rise table (leaves table) (rising_sorted nat_list_cmp_total (map (λ (d : Definition). d.sequence) table))
 
@@ -70,6 +73,7 @@ rows_pass p table (s ∷ ss) f =
     and_from (p s) (list_all (λ (d : Definition). p d.sequence) (map (row table) ss)) (f s (or_left (same s s) (list_any (same s) ss) (same_from s s refl)))
     (rows_pass p table ss (λ t h. f t (or_right (same t s) (list_any (same t) ss) h)))
 
+-- where no sequence of a table is a prefix of another, none of the rows in order is
 pub in_order_free : (table : List Definition) → is_prefix_free table ≡ true → is_prefix_free (in_order table) ≡ true
 in_order_free table free =
     rows_pass (λ s. not (is_extended (in_order table) s)) table (leaves table)
@@ -93,6 +97,7 @@ none_passes p (x ∷ xs) h = go (p x) h (none_passes p xs)
     go true h f = cc
     go false h f = f h
 
+-- in a table without an overlap no sequence is a prefix of another
 pub free_without_overlap : (table : List Definition) → overlap table ≡ None → is_prefix_free table ≡ true
 free_without_overlap table h = go (find (is_extended table) (leaves table)) refl h
   where
@@ -108,16 +113,19 @@ pub kept : (table rows : List Definition) (o : Option Overlap) → or_overlap o 
 kept table rows None h = (refl, cc)
 kept table rows (Some o) h = cc
 
+-- every run of keys over the settled rows is that over the table
 pub settled_runs : (names : KeysymNames) (rule : Rule) (table rows : List Definition) (keys : List ℕ) → settled rule table ≡ Ok rows → run names rows keys ≡ run names table keys
 settled_runs names Refuse table rows keys h = ap (λ t. run names t keys) (sym (kept table rows (overlap table) h).1) ∙ same_run (in_order table) table (in_order_same table) names keys
 settled_runs names Longest table rows keys h =
     let e : in_order (longest table) ≡ rows = cc in
     ap (λ t. run names t keys) (sym e) ∙ same_run (in_order (longest table)) (longest table) (in_order_same (longest table)) names keys ∙ longest_run table names keys
 
+-- in settled rows no sequence is a prefix of another
 pub settled_free : (rule : Rule) (table rows : List Definition) → settled rule table ≡ Ok rows → is_prefix_free rows ≡ true
 settled_free Refuse table rows h = let k = kept table rows (overlap table) h in ap is_prefix_free (sym k.1) ∙ in_order_free table (free_without_overlap table k.0)
 settled_free Longest table rows h = let e : in_order (longest table) ≡ rows = cc in ap is_prefix_free (sym e) ∙ in_order_free (longest table) (longest_prefix_free table)
 
+-- the sequences of settled rows rise
 pub settled_rises : (rule : Rule) (table rows : List Definition) → settled rule table ≡ Ok rows → sequences_rise rows ≡ true
 settled_rises Refuse table rows h = ap sequences_rise (sym (kept table rows (overlap table) h).1) ∙ in_order_rises table
 settled_rises Longest table rows h = let e : in_order (longest table) ≡ rows = cc in ap sequences_rise (sym e) ∙ in_order_rises (longest table)

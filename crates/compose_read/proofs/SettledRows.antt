@@ -10,6 +10,7 @@ use Rattle.compose_read.proofs.Neighbours.{sorted_settled}
 
 -- what was sorted, among the same keysyms
 module _ (rule : Rule) (table : List Definition) (keysyms seen texts : List ℕ) (spans sorted : List RowSpan) (here : seen ≡ keysyms) where
+  -- sorted spans stand where the keysyms and texts do, if sorting leaves them in place
   pub sorted_placed : (ArePlaced seen texts spans → ArePlaced seen texts sorted) → ArePlaced keysyms texts spans → ArePlaced keysyms texts sorted
   sorted_placed f h = subst (λ ks. ArePlaced ks texts sorted) here (f (subst (λ ks. ArePlaced ks texts spans) (sym here) h))
 

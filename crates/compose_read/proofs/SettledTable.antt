@@ -61,6 +61,7 @@ settled_table Longest table rows h e =
     let same_rows : in_order (longest table) ≡ rows = cc in
     ap is_table (sym same_rows) ∙ in_order_table (longest table) (part_table (λ d. not (is_extended table d.sequence)) table h)
 
+-- the settled rows of a table are rows that a table can be built of
 pub settled_is : (rule : Rule) (table rows : List Definition) → is_table table ≡ true → settled rule table ≡ Ok rows → IsSettled rows
 settled_is rule table rows h e = record { definitions = settled_table rule table rows h e; rise = settled_rises rule table rows e; prefix_free = settled_free rule table rows e }
 
@@ -90,6 +91,7 @@ few_filtered p (d ∷ table) = go (p d) (few_filtered p table)
     go true h = omega arith
     go false h = omega arith
 
+-- there are at most as many settled rows as definitions
 pub settled_few : (rule : Rule) (table rows : List Definition) → settled rule table ≡ Ok rows → length rows ≤ length table
 settled_few Refuse table rows e = let same = ap (λ (ds : List Definition). length ds) (kept table rows (overlap table) e).1 in let few = few_in_order table in omega arith
 settled_few Longest table rows e =

@@ -87,9 +87,11 @@ filter-map p f (n ∷ ns) = ap (λ l. cond (p (f n)) (f n ∷ l) l) (filter-map 
 -- ---- a part of a list is put in another order
 
 module _ {X : Type 0} (xs ys : List X) (a k : ℕ) (zs : List X) where
+  -- where a part of a permutation is permuted, the whole is one
   pub permuted_part : IsPermutation xs ys → IsPermutation (mid_of a k ys) zs → IsPermutation xs (put_mid a k ys zs)
   permuted_part h part = IsPermutation-trans xs ys (put_mid a k ys zs) h (IsPermutation-put_mid a k ys zs part)
 
+  -- where a part of a stable order is put in a stable order, the whole is one
   pub stable_part : (lt : X → X → Bool) → IsStableBy lt xs ys → IsStableBy lt (mid_of a k ys) zs → IsStableBy lt xs (put_mid a k ys zs)
   stable_part lt h part x =
       let tied = ties lt x in let prefix_sort_key = filter tied (take a ys) in let back = post_of a k ys in
@@ -131,6 +133,7 @@ tied_sequences keysyms p q e = go (slice_cmp nat_cmp s t) refl (nat_list_cmp_tot
         absurd (let less : slice_cmp nat_cmp t s ≡ Less = back ∙ ap ordering_reverse is in
         let clash : false ≡ true = sym (ap (λ o. not (is_lt Greater) && not (is_lt o)) less) ∙ sym (ap (λ o. not (is_lt o) && not (is_lt (slice_cmp nat_cmp t s))) is) ∙ e in cc)
 
+-- a span of nothing at the beginning
 pub none : RowSpan
 none = record { first_keysym = 0; first_byte = 0; keysym_count = 0; byte_count = 0 }
 
@@ -144,6 +147,7 @@ module _ (keysyms : List ℕ) (spans : List RowSpan) (sort_keys : List ℕ) (are
       let fits = are.fits in
       ap (λ n. n % 131072) (are.each none index l) ∙ mod-mul-add (prefix_sort_key_at keysyms (get_or spans index none)) 131072 index (omega arith)
 
+  -- the indexes in sort keys are those of spans
   pub indexes_within : All (λ n. n % 131072 < length spans) sort_keys
   indexes_within = All-from_get_or (λ n. n % 131072 < length spans) sort_keys 0
       (λ index l. let count = are.count in let within : index < length spans = omega arith in subst (λ i. i < length spans) (sym (index_of index within)) within)
@@ -175,12 +179,15 @@ module _ (keysyms : List ℕ) (spans : List RowSpan) (sort_keys : List ℕ) (are
       (IsNonDecreasingBy-filter (λ n. n % 131072) tied sort_keys indexes_rise i j d le l)
 
   module _ (sorted : List ℕ) (permuted : IsPermutation sort_keys sorted) where
+    -- the indexes in sorted sort keys are those of spans
     pub sorted_within : All (λ n. n % 131072 < length spans) sorted
     sorted_within = All-permutation (λ n. n % 131072 < length spans) sort_keys sorted permuted indexes_within
 
+    -- the spans that permuted sort keys pick are a permutation of the spans
     pub picked_permutation : IsPermutation spans (map span_of sorted)
     picked_permutation = subst (λ l. IsPermutation l (map span_of sorted)) in_order (IsPermutation-map span_of sort_keys sorted permuted)
 
+    -- the spans that sorted sort keys pick are in the stable order of their sequences
     pub picked_stable : IsSorted nat_cmp sorted → IsStableBy (by_sequence keysyms) spans (map span_of sorted)
     picked_stable up p =
         let tied : ℕ → Bool = λ n. ties (by_sequence keysyms) p (span_of n) in

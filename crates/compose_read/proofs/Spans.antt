@@ -13,6 +13,7 @@ use Rattle.compose_read.specs.Rows.{sequence_at, definition_at, rows_of, IsPlace
 use Rattle.compose_read.proofs.Turns.{put_all, turn_kept, turn_left}
 use Rattle.compose_read.specs.declared.rows.RowSpan.{RowSpan}
 
+-- the rows of sorted spans don't descend
 pub rows_ascend : (keysyms texts : List ℕ) (ps : List RowSpan) → IsSortedBy (by_sequence keysyms) ps → SequencesAscend (rows_of keysyms texts ps)
 rows_ascend keysyms texts ps h = λ k d low l.
     let n = length-map ps (definition_at keysyms texts) in
@@ -23,14 +24,17 @@ rows_ascend keysyms texts ps h = λ k d low l.
     ∙ h k none low (omega arith)
 
 module _ {X : Type 0} (P : X → Type 0) (x : X) (xs : List X) (h : All P (x ∷ xs)) where
+  -- what holds of all elements holds of the first one
   pub first_of : P x
   first_of = h 0 x (omega arith)
 
+  -- what holds of all elements holds of those behind the first
   pub others_of : All P xs
   others_of = λ k d l. h (suc k) d (omega arith)
 
 -- ---- a pass over rows that keeps some and goes on with the others
 
+-- a span has at most 32 keysyms
 abbrev pub few : RowSpan → Type 0
 few p = p.keysym_count ≤ 32
 

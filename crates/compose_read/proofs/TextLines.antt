@@ -43,6 +43,7 @@ up_to (suc n) (b ∷ bytes) l u =
     let text : List ℕ = b ∷ bytes in
     by_cut text u (λ none. cc) (λ shorter v. up_to n (drop (suc (cut text)) text) (omega arith) v) (nat_lt (cut text) (length text)) refl
 
+-- the lines of a text are UTF-8
 pub text_lines : (text : List ℕ) → IsUtf8 text → All IsUtf8 (lines_of text)
 text_lines text u = up_to (length text) text (omega arith) u
 

@@ -36,6 +36,7 @@ run-more reading old mid new (p ∷ qs) (o ∷ rs) q r h s = (h.0, h.1, run-more
 run-more reading old mid new [] (o ∷ rs) q r h s = absurd h
 run-more reading old mid new (p ∷ qs) [] q r h s = absurd h
 
+-- the first so many bytes, fewer than all, are a proper prefix
 pub take-proper : (n : ℕ) (bs : List ℕ) → n < length bs → is_proper_prefix (take n bs) bs ≡ true
 take-proper n [] h = absurd (omega arith)
 take-proper zero (b ∷ bs) h = refl
@@ -60,6 +61,7 @@ module _ (reading : Reading) (old : ServiceState) (left written : Option (List �
     pub read : Consumes left left' (frames requests ++ held)
     pub wrote : Appends written written' (replies_bytes replies)
 
+  -- before anything is read, no request is answered and no byte is held
   pub going_start : (held : List ℕ) → held ≡ [] → Going old left written 0 held
   going_start held e = record {
     requests = [];
@@ -76,6 +78,7 @@ module _ (reading : Reading) (old : ServiceState) (left written : Option (List �
       none (Some xs) = refl
 
   module _ (now : ServiceState) (left' written' : Option (List ℕ)) (count : ℕ) where
+    -- bytes that move from the input to what is held change nothing of what was answered
     pub going_read : (left'' : Option (List ℕ)) (held rest : List ℕ) → Going now left' written' count held → SameStream held left' rest left'' → Going now left'' written' count rest
     going_read left'' held rest g s =
         record {
@@ -93,6 +96,7 @@ module _ (reading : Reading) (old : ServiceState) (left written : Option (List �
     frames-more rest held' q g e =
         ap (λ y. frames g.requests ++ y) e ∙ sym (append_assoc (frames g.requests) (frame q) held') ∙ ap (λ y. y ++ held') (sym (flat-more frame g.requests q))
 
+    -- one request more is answered where its frame is held first and its reply is written
     pub going_answered : (rest held' : List ℕ) (q : Request) (r : Reply) (next : ServiceState) (written'' : Option (List ℕ)) (g : Going now left' written' count rest) → Fits q
         → rest ≡ frame q ++ held' → Step reading now q r next
         → Appends written' written'' (reply_bytes r) → Going next left' written'' (count + 1) held'

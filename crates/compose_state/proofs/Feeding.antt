@@ -53,6 +53,7 @@ pub leaf_commits : (table : List Definition) (p : List ℕ) (k : ℕ) (l : LeafI
     → text ≡ unwrap_or (text_at table (p ++ k ∷ [])) []
 leaf_commits table p k l text e f = ap (λ o. unwrap_or o []) (sym f ∙ (to_leaf table p k l e).text)
 
+-- where a key leads on to a node, fewer than 31 keysyms were pending before it
 pub node_room : (table : List Definition) (p : List ℕ) (k : ℕ) (n : NodeId) → is_table table ≡ true → target_of table p k ≡ Some (Node n) → length p < 31
 node_room table p k n sound e =
     let short : length (p ++ k ∷ []) < 32 = extended_short table (p ++ k ∷ []) sound (to_node table p k n e).extended in
@@ -64,6 +65,7 @@ abbrev pub session_apart : Session → Session
 session_apart s = if is_empty s.pending then record { pending = []; status = Nothing } else record { pending = []; status = Cancelled }
 
 module _ (table : List Definition) (s : Session) (k : ℕ) (accepted : is_ignored k ≡ false) (nowhere : target_of table s.pending k ≡ None) where
+  -- a key that leads nowhere leaves this session
   pub fed_apart : session_apart s ≡ fed table s k
   fed_apart = go (is_empty s.pending) ∙ sym (fed_by table s k (effect_at (is_empty s.pending) None) (effect_is_by table s.pending k None accepted nowhere))
     where
@@ -72,6 +74,7 @@ module _ (table : List Definition) (s : Session) (k : ℕ) (accepted : is_ignore
       go true = refl
       go false = refl
 
+  -- the answer to a key that leads nowhere: at rest the key's own text, and else a cancel without a text
   pub answered_apart : (names : KeysymNames) (answer : Fed) → answer.accepted ≡ true → answer.status ≡ (session_apart s).status
       → text_bytes answer.text ≡ (if is_empty s.pending then text names k else []) → ComesFrom (if is_empty s.pending then passes else cancels) answer.text → IsFed names table s k answer
   answered_apart names answer e f g from =
@@ -106,11 +109,13 @@ module _ (table : List Definition) (s : Session) (k : ℕ) (t : Target) (accepte
       (sym e)
   same_after u x y (Leaf l) e = refl
 
+  -- the session after the key is the same, whether or not what was pending is typed again first
   pub refed_fed : fed table s k ≡ fed table (loaded table s) k
   refed_fed =
       fed_by table s k (effect_at (is_empty s.pending) (Some t)) (effect_is_by table s.pending k (Some t) accepted leads)
       ∙ same_after (loaded table s).pending s.status (loaded table s).status t again ∙ sym (fed_by table (loaded table s) k (effect_at (is_empty s.pending) (Some t)) refed_effect)
 
+  -- the answer to the key is the same, whether or not what was pending is typed again first
   pub refed_answered : (names : KeysymNames) (answer : Fed) → IsFed names table s k answer → IsFed names table (loaded table s) k answer
   refed_answered names answer h = record {
     accepted = h.accepted;

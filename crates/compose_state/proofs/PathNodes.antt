@@ -69,9 +69,11 @@ extended_short table p sound h =
 
 -- ---- targets along a list
 
+-- a key whose target is a node leads to the list with one keysym more, which is that node
 pub to_node : (table : List Definition) (p : List ℕ) (k : ℕ) (n : NodeId) → target_of table p k ≡ Some (Node n) → ToNode table p k n
 to_node table p k n e = subst (Leads table p k) e (leads table p k)
 
+-- a key whose target is a leaf completes the sequence of that leaf, and the leaf's text is the sequence's
 pub to_leaf : (table : List Definition) (p : List ℕ) (k : ℕ) (l : LeafId) → target_of table p k ≡ Some (Leaf l) → ToLeaf table p k l
 to_leaf table p k l e = subst (Leads table p k) e (leads table p k)
 
@@ -94,9 +96,11 @@ pub record IsAt (table : List Definition) (keys : List ℕ) (count number : ℕ)
   pub is_node : is_node table (take count keys) ≡ true
   pub numbered : number_of table (take count keys) ≡ number
 
+-- no keysyms at all are the root, whose number is 0
 pub at_root : (table : List Definition) (keys : List ℕ) → IsAt table keys 0 0
 at_root table keys = record { is_node = root_is_node table; numbered = root_number table }
 
+-- the number of a node on the way is below the count of the table's nodes
 pub at_in_range : (table : List Definition) (keys : List ℕ) (count number : ℕ) → IsAt table keys count number → number < length (nodes table)
 at_in_range table keys count number at = subst (λ n. n < length (nodes table)) at.numbered (number_below table (take count keys) at.is_node)
 
@@ -170,6 +174,7 @@ pub record IsNode (table : List Definition) (p : List ℕ) (n : NodeId) : Type 0
   pub is : node table n.0 ≡ p
   pub in_range : n.0 < length (nodes table)
 
+-- the list that has this node's number is that node, and the number is below the count of nodes
 pub node_found : (table : List Definition) (p : List ℕ) (n : NodeId) → node_id table p ≡ Some n → IsNode table p n
 node_found table p n e = go (is_node table p) refl e
   where
@@ -179,6 +184,7 @@ node_found table p n e = go (is_node table p) refl e
         record { is = ap (node table) (sym same_number) ∙ node_at_number table p f; in_range = subst (λ i. i < length (nodes table)) same_number (number_below table p f) }
     go false f e = cc
 
+-- a list without a node's number is no node
 pub no_node : (table : List Definition) (p : List ℕ) → node_id table p ≡ None → is_node table p ≡ false
 no_node table p e = go (is_node table p) refl e
   where

@@ -17,6 +17,7 @@ joined h f g v p q = zip2_of_maps h f g v p q
 pub with_constant : (h : ℕ → ℕ → ℕ) (v : List ℕ) (n y : ℕ) → length v ≡ n → zip2 h v (replicate n y) ≡ map (λ x. h x y) v
 with_constant h v n y long = zip2_splat h v n y long
 
+-- a value repeated as often as a list is long is that list with the value for every element
 pub constant : (v : List ℕ) (n y : ℕ) → length v ≡ n → replicate n y ≡ map (λ _. y) v
 constant v n y long = splat_is_map v n y long
 

@@ -11,6 +11,7 @@ ends_line b e = eqb-true b 10 (flip (b == 10) e)
     flip true e = refl
     flip false e = cc
 
+-- a byte that stays in its line is no newline
 pub stays_in_line : (b : ℕ) → in_line b ≡ true → b ≢ 10
 stays_in_line b e is = let clash : not (10 == 10) ≡ true = rw is at e in cc
 

@@ -29,7 +29,8 @@ falling = refl
 -- ---- a manifest
 
 -- a rule, where paths go from, a comment, and two entries
-two_entries : listing_of (codes "overlap longest" ++ 10 ∷ codes "paths here" ++ 10 ∷ codes "# both" ++ 10 ∷ codes "root" ++ 9 ∷ codes "a.compose" ++ 10 ∷ codes "more" ++ 9 ∷ codes "b.compose" ++ 10 ∷ [])
+two_entries : listing_of (codes "overlap longest" ++ 10 ∷ codes "paths here" ++ 10 ∷ codes "# both"
+    ++ 10 ∷ codes "root" ++ 9 ∷ codes "a.compose" ++ 10 ∷ codes "more" ++ 9 ∷ codes "b.compose" ++ 10 ∷ [])
     ≡ Ok (record { rule = Some Longest; paths_here = true; entries = record { name = codes "root"; path = codes "a.compose" } ∷ record { name = codes "more"; path = codes "b.compose" } ∷ [] })
 unfolding is_utf8 chars encode_utf8
 two_entries = refl

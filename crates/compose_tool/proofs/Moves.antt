@@ -28,9 +28,11 @@ use Rattle.compose_tool.specs.declared.refusal.Refusal.{Refusal}
 -- ---- a fault of a layer below is the refusal that is said
 
 module _ {P : Type 0} where
+  -- what is read of a migration, with its fault as the reason that there is no answer
   abbrev pub unmoved : Result P NoMigration → Result P NoAnswer
   unmoved said = or_because (λ why. unread (no_migration why)) said
 
+  -- a fault of a migration is refused by the command as what it is
   pub migration_refused : (fault : MigrationFault) (said : Result P NoMigration) → MigrationRefused fault said → IsRefused (migration_raised fault) (unmoved said)
   migration_refused (migration_faults.Names name_faults.NoMemory) said h = absurd h
   migration_refused (migration_faults.Names (name_faults.NotUtf8 n)) said h = ap unmoved h
@@ -42,6 +44,7 @@ module _ {P : Type 0} where
   migration_refused (migration_faults.Table side fault) said h = (h.0, ap unmoved h.1, h.2)
   migration_refused migration_faults.NoMemory said h = tt
 
+  -- a fault of a check's input is refused by the command as what it is
   pub input_refused : (fault : InputFault) (said : Result P Unread) → InputRefused fault said → IsRefused (input_raised fault) (or_because unread said)
   input_refused (input_faults.Names name_faults.NoMemory) said h = absurd h
   input_refused (input_faults.Names (name_faults.NotUtf8 n)) said h = ap (or_because unread) h

@@ -24,6 +24,7 @@ word_is false completes before a b = refl
 word_is false passes before a b = refl
 word_is false cancels before a b = refl
 
+-- the line that is made of an answer to a key is the line of the table's step at that key
 pub line_is : (names : KeysymNames) (table : List Definition) (s : Session) (k : ℕ) (answer : Fed) → IsFed names table s k answer → fed_line answer ≡ typed_line (step names table s.pending k)
 line_is names table s k answer told =
     let word : fed_word answer ≡ effect_word (effect table s.pending k) =

@@ -15,6 +15,7 @@ pub line_said : (number : ℕ) (listing : Listing) (line : List ℕ) (lines : Li
 line_said number listing line lines said e =
     ap (λ n. lines_on (1 + n) lines (with_line n listing line)) (swapped number) ∙ ap (lines_on (1 + (number + 1)) lines) e
 
+-- a fault of one line of a manifest is the fault of the manifest from that line on
 pub line_stops : (number : ℕ) (listing new : Listing) (line : List ℕ) (lines : List (List ℕ)) (all : Result Listing ManifestFault) (fault : ManifestFault)
     → SaidGives (with_line (number + 1) listing line) (Err fault) new → lines_on (1 + number) (line ∷ lines) (Ok listing) ≡ all → ManifestGives (Err fault) (some_entries all)
 line_stops number listing new line lines all NoMemory e f = tt

@@ -30,6 +30,7 @@ same_keys : (xs ys : List ℕ) → ((x : ℕ) → Contains xs x → Contains ys 
 same_keys xs ys to from k =
     alike (has_key ys k) (has_key xs k) (λ e. has xs k (from k (Contains-from_any eqb-true k ys e))) (λ e. has ys k (to k (Contains-from_any eqb-true k xs e)))
 
+-- keysyms that are sorted and kept once each are the rising ones of those that were given
 pub rising_is : (keys sorted fresh : List ℕ) → IsPermutation keys sorted → IsSorted nat_cmp sorted → fresh ≡ dedup nat_eq sorted → fresh ≡ rising nat_cmp keys
 rising_is keys sorted fresh moved in_order is =
     let strict : IsStrictlySortedBy nat_cmp (dedup nat_eq sorted) = sorted_from_strictly_increasing (dedup nat_eq sorted) (IsStrictlyIncreasing-dedup sorted in_order) in

@@ -61,6 +61,7 @@ module _ (header : List ℕ) (key_names : List (List ℕ)) (given : TableSources
   abbrev with_named : NamedParts → Result TypedParts NoAnswer
   with_named n = or_because no_only_table (first_table n.names given.sources given.rule) >>= with_table n
 
+  -- of `type`, a refusal of the names is the refusal of the command
   pub named_refused : (refusal : Refusal) → IsRefused refusal (given_key_names header key_names) → IsRefused refusal (type_parts header key_names given)
   named_refused refusal h = step_refused refusal (given_key_names header key_names) with_named h
 
@@ -68,11 +69,13 @@ module _ (header : List ℕ) (key_names : List (List ℕ)) (given : TableSources
     after_named : type_parts header key_names given ≡ (or_because no_only_table (first_table n.names given.sources given.rule) >>= with_table n)
     after_named = ap (λ r. r >>= with_named) (is_read (given_key_names header key_names) n n_read)
 
+    -- of `type`, where the names are read, a refusal of the table is the refusal of the command
     pub table_refused : (refusal : Refusal) → IsRefused refusal (or_because no_only_table (first_table n.names given.sources given.rule)) → IsRefused refusal (type_parts header key_names given)
     table_refused refusal h =
         subst (λ (s : Result TypedParts NoAnswer). IsRefused refusal s) (sym after_named)
         (step_refused refusal (or_because no_only_table (first_table n.names given.sources given.rule)) (with_table n) h)
 
+    -- of `type`, where the names and the table are read, these are its parts
     pub typed_read : (table : List Definition) → IsRead (or_because no_only_table (first_table n.names given.sources given.rule)) table
         → type_parts header key_names given ≡ Ok (record { names = n.names; keys = n.keys; table = table })
     typed_read table table_read = after_named ∙ ap (λ r. r >>= with_table n) (is_read (or_because no_only_table (first_table n.names given.sources given.rule)) table table_read)
@@ -111,6 +114,7 @@ module _ (key_names : List (List ℕ)) (input : checks.Input) where
   abbrev with_key_names : NamedParts → Result AllowedParts NoAnswer
   with_key_names n = or_because unread (parts_of input) >>= with_parts n
 
+  -- of `check`, where the keysyms that may be fresh and the parts of a check are read, these are its parts
   pub allowed_read : (n : NamedParts) → IsRead (given_key_names input.migration.header key_names) n → (p : checks.Parts) → or_because unread (parts_of input) ≡ Ok p
       → allowed_parts key_names input ≡ with_parts n p
   allowed_read n n_read p p_read = ap (λ r. r >>= with_key_names) (is_read (given_key_names input.migration.header key_names) n n_read) ∙ ap (λ r. r >>= with_parts n) p_read
@@ -128,6 +132,7 @@ module _ (given : GivenMigration) where
   abbrev with_fresh : Parts → Result Explainable NoAnswer
   with_fresh move = explainable move (rising nat_cmp move.keys)
 
+  -- of `explain`, a refusal of the migration is the refusal of the command
   pub explain_refused : (refusal : Refusal) → IsRefused refusal (migration_parts given) → IsRefused refusal (explain_parts given)
   explain_refused refusal h = step_refused refusal (migration_parts given) with_fresh h
 
@@ -138,10 +143,12 @@ module _ (given : GivenMigration) where
     abbrev with_move : Parts → Result Needs NoAnswer
     with_move move = or_because (λ why. unread (no_repertoire why)) (repertoire_of bytes) >>= with_repertoire move
 
+    -- of `make`, a refusal of the migration is the refusal of the command
     pub make_refused : (refusal : Refusal) → IsRefused refusal (migration_parts given) → IsRefused refusal (make_parts given bytes)
     make_refused refusal h = step_refused refusal (migration_parts given) with_move h
 
   module _ (move : Parts) (move_read : IsRead (migration_parts given) move) where
+    -- of `explain`, once the migration is read, the parts depend on it and on its fresh keysyms in rising order
     pub explain_read : (fresh : List ℕ) → fresh ≡ rising nat_cmp move.keys → explain_parts given ≡ explainable move fresh
     explain_read fresh is = ap (λ r. r >>= with_fresh) (is_read (migration_parts given) move move_read) ∙ ap (explainable move) (sym is)
 
@@ -149,11 +156,13 @@ module _ (given : GivenMigration) where
       after_move : make_parts given bytes ≡ (or_because (λ why. unread (no_repertoire why)) (repertoire_of bytes) >>= with_repertoire bytes move)
       after_move = ap (λ r. r >>= with_move bytes) (is_read (migration_parts given) move move_read)
 
+      -- of `make`, where the migration is read, a refusal of the repertoire is the refusal of the command
       pub repertoire_refused : (refusal : Refusal) → IsRefused refusal (or_because (λ why. unread (no_repertoire why)) (repertoire_of bytes)) → IsRefused refusal (make_parts given bytes)
       repertoire_refused refusal h =
           subst (λ (s : Result Needs NoAnswer). IsRefused refusal s) (sym after_move)
           (step_refused refusal (or_because (λ why. unread (no_repertoire why)) (repertoire_of bytes)) (with_repertoire bytes move) h)
 
+      -- of `make`, once migration and repertoire are read, the parts depend on these and on the fresh keysyms in rising order
       pub make_read : (r : Repertoire) → IsRead (or_because (λ why. unread (no_repertoire why)) (repertoire_of bytes)) r → (fresh : List ℕ) → fresh ≡ rising nat_cmp move.keys
           → make_parts given bytes ≡ makeable move r fresh
       make_read r r_read fresh is =

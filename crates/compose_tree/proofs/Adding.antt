@@ -28,6 +28,7 @@ leaves_are (d ∷ e ∷ table) h =
 pub take_more : (all : List Definition) (i : ℕ) → i < length all → take (i + 1) all ≡ take i all ++ get_or all i (record { sequence = []; text = [] }) ∷ []
 take_more all i h = rw add-one (take-suc all i (record { sequence = []; text = [] }) h)
 
+-- the first definitions of a settled table are a settled table
 pub settled_take : (all : List Definition) (i : ℕ) → IsSettled all → IsSettled (take i all)
 settled_take all i s = settled_prefix (take i all) (drop i all) (subst IsSettled (sym (take-append-drop i all)) s)
 
@@ -179,6 +180,7 @@ module _ (rows : List NodeRow) (path s : List ℕ) (i c : ℕ) (longer : List De
   edge_put_count : (rows' : List NodeRow) (edge : Edge) → rows' ≡ with_edge rows (get_or path c 0) edge → length rows' ≡ length rows
   edge_put_count rows' edge e = ap length e ∙ length-set rows (get_or path c 0) (record { depth = (row_at rows (get_or path c 0)).depth; edges = (row_at rows (get_or path c 0)).edges ++ edge ∷ [] })
 
+  -- with its edge put at the parent and its new nodes opened, the rows are those of the longer table
   pub rows_after : (key node m : ℕ) (target : Target) (rows' later : List NodeRow) → key ≡ get_or s c key → node ≡ get_or path c node → m ≡ length rows → target ≡ next_target m i (drop (c + 1) s)
       → rows' ≡ with_edge rows node (record { keysym = key; target = target })
       → later ≡ rows' ++ new_rows (length rows') i (c + 1) (drop (c + 1) s) → later ≡ rows_of longer
@@ -188,11 +190,13 @@ module _ (rows : List NodeRow) (path s : List ℕ) (i c : ℕ) (longer : List De
       opened ∙ ap (λ x. x ++ new_rows (length rows') i (c + 1) (drop (c + 1) s)) put'
       ∙ ap (λ n. with_edge rows (get_or path c 0) edge ++ new_rows n i (c + 1) (drop (c + 1) s)) (edge_put_count rows' edge put') ∙ sym a.more_rows
 
+  -- cut at the parent and led on through the new nodes, the path is that of the longer table
   pub path_after : (node : ℕ) (edge : Edge) (rows' : List NodeRow) (path' onward : List ℕ) → rows' ≡ with_edge rows node edge → path' ≡ take (c + 1) path
       → onward ≡ path' ++ counted (length rows') (drop (c + 1) s) → onward ≡ path_of longer
   path_after node edge rows' path' onward put_is cut opened =
       let n : length rows' ≡ length rows = ap length put_is ∙ length-set rows node (record { depth = (row_at rows node).depth; edges = (row_at rows node).edges ++ edge ∷ [] }) in
       opened ∙ ap (λ x. x ++ counted (length rows') (drop (c + 1) s)) cut ∙ ap (λ x. take (c + 1) path ++ counted x (drop (c + 1) s)) n ∙ sym a.more_path
 
+  -- the longer table has one row more for each keysym of the sequence behind the new edge
   pub count_after : (later : List NodeRow) → later ≡ rows_of longer → length later ≡ length rows + (length s - (c + 1))
   count_after later e = ap length e ∙ length-map (nodes longer) (row_of longer) ∙ a.nodes_count

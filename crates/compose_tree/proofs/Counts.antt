@@ -20,6 +20,7 @@ use Rattle.compose_tree.proofs.Adding.{Adds, adds_at}
 
 -- ---- the edges from a node on
 
+-- how many edges are at nodes from this one on
 abbrev pub edges_from : ℕ → List NodeEdge → ℕ
 edges_from i es = length (filter (λ (e : NodeEdge). nat_le i e.node) es)
 
@@ -41,19 +42,23 @@ of_node_and_behind i (e ∷ es) =
     let rest = of_node_and_behind i es in
     elim (cases_lt e.node i) [
       | inl below ↦
-          (let own = ap length (other_first i e es (λ at. omega (arith, at, below))) in let here = none_from i e es below in let behind = none_from (i + 1) e es (omega (arith, below)) in omega (arith, rest, own, here, behind))
+          (let own = ap length (other_first i e es (λ at. omega (arith, at, below))) in let here = none_from i e es below in
+          let behind = none_from (i + 1) e es (omega (arith, below)) in omega (arith, rest, own, here, behind))
       | inr from ↦ elim (cases_lt e.node (i + 1)) [
         | inl at ↦
             (let own = ap length (own_first i e es (omega (arith, from, at))) in let here = one_from i e es from in let behind = none_from (i + 1) e es at in omega (arith, rest, own, here, behind))
         | inr later ↦
-            (let own = ap length (other_first i e es (λ at. omega (arith, at, later))) in let here = one_from i e es from in let behind = one_from (i + 1) e es later in omega (arith, rest, own, here, behind))
+            (let own = ap length (other_first i e es (λ at. omega (arith, at, later))) in
+            let here = one_from i e es from in let behind = one_from (i + 1) e es later in omega (arith, rest, own, here, behind))
       ]
     ]
 
+-- all edges are at nodes from the first one on
 pub all_from : (es : List NodeEdge) → edges_from 0 es ≡ length es
 all_from [] = refl
 all_from (e ∷ es) = let here = one_from 0 e es (omega arith) in let rest = all_from es in omega arith
 
+-- there are at most as many edges at nodes from one on as there are edges
 pub few_from : (i : ℕ) (es : List NodeEdge) → edges_from i es ≤ length es
 few_from i [] = omega arith
 few_from i (e ∷ es) =

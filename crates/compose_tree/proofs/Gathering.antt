@@ -12,6 +12,7 @@ use Rattle.compose_tree.specs.Rows.{NodeRow, row_at, with_edge, counts_of, edges
 
 -- ---- the edges of one node
 
+-- the edges of a node in two lists in a row are those in the first, and then those in the second
 pub edges_join : (i : ℕ) (es fs : List NodeEdge) → edges_at i (es ++ fs) ≡ edges_at i es ++ edges_at i fs
 edges_join i es fs =
     ap (map (λ (e : NodeEdge). e.edge)) (filter-append (λ (e : NodeEdge). nat_eq e.node i) es fs)
@@ -20,17 +21,21 @@ edges_join i es fs =
 first_if : ℕ → NodeEdge → List NodeEdge → Bool → List Edge
 first_if i e es b = map (λ (x : NodeEdge). x.edge) (cond b (e ∷ filter (λ (x : NodeEdge). nat_eq x.node i) es) (filter (λ (x : NodeEdge). nat_eq x.node i) es))
 
+-- an edge of a node before others is the first one of that node
 pub own_first : (i : ℕ) (e : NodeEdge) (es : List NodeEdge) → e.node ≡ i → edges_at i (e ∷ es) ≡ e.edge ∷ edges_at i es
 unfolding first_if
 own_first i e es own = ap (first_if i e es) (eq-eqb e.node i own)
 
+-- an edge of another node before others leaves the edges of a node
 pub other_first : (i : ℕ) (e : NodeEdge) (es : List NodeEdge) → (e.node ≡ i → ⊥) → edges_at i (e ∷ es) ≡ edges_at i es
 unfolding first_if
 other_first i e es other = ap (first_if i e es) (ne_eqb e.node i other)
 
+-- an edge of a node behind others is the last one of that node
 pub own_last : (i : ℕ) (es : List NodeEdge) (e : NodeEdge) → e.node ≡ i → edges_at i (es ++ e ∷ []) ≡ edges_at i es ++ e.edge ∷ []
 own_last i es e own = edges_join i es (e ∷ []) ∙ ap (λ x. edges_at i es ++ x) (own_first i e [] own)
 
+-- an edge of another node behind others leaves the edges of a node
 pub other_last : (i : ℕ) (es : List NodeEdge) (e : NodeEdge) → (e.node ≡ i → ⊥) → edges_at i (es ++ e ∷ []) ≡ edges_at i es
 other_last i es e other = edges_join i es (e ∷ []) ∙ ap (λ x. edges_at i es ++ x) (other_first i e [] other) ∙ append-nil (edges_at i es)
 
@@ -67,6 +72,7 @@ gathered_edge i (suc k) (d ∷ ds) es e at h =
 pub edge_gathered : (ds : List ℕ) (es : List NodeEdge) (e : NodeEdge) → e.node < length ds → gathered 0 ds (es ++ e ∷ []) ≡ with_edge (gathered 0 ds es) e.node e.edge
 edge_gathered ds es e h = gathered_edge 0 e.node ds es e (omega arith) h
 
+-- as many rows are gathered as there are depths
 pub rows_count : (i : ℕ) (ds : List ℕ) (es : List NodeEdge) → length (gathered i ds es) ≡ length ds
 rows_count i [] es = refl
 rows_count i (d ∷ ds) es = ap suc (rows_count (1 + i) ds es)
@@ -113,10 +119,12 @@ next_gathered ds es k e at_nodes h is = ap (gathered 0 ds) (one_more_edge es k e
 
 -- ---- counts
 
+-- without an edge each node has the count 0
 pub counts_none : (i : ℕ) (ds : List ℕ) → counts_of (gathered i ds []) ≡ replicate (length ds) 0
 counts_none i [] = refl
 counts_none i (d ∷ ds) = ap (λ x. 0 ∷ x) (counts_none (1 + i) ds)
 
+-- the count of a node is the number of its edges
 pub count_at : (i k d : ℕ) (ds : List ℕ) (es : List NodeEdge) → k < length ds → get_or (counts_of (gathered i ds es)) k d ≡ length (edges_at (i + k) es)
 count_at i k d [] es h = absurd (omega arith)
 count_at i zero d (c ∷ ds) es h = let e : i ≡ i + 0 = omega arith in ap (λ n. length (edges_at n es)) e

@@ -31,6 +31,7 @@ use Rattle.compose_tree.proofs.Adding.{leaves_are}
 
 -- ---- nodes
 
+-- a number below the number of nodes is that of a node
 pub node_listed : (table : List Definition) (i : ℕ) → i < length (nodes table) → is_node table (node table i) ≡ true
 node_listed table i h = any_passes_from_place (same (node table i)) (nodes table) i (node table i) (slice_get-get_or (nodes table) i [] h) (same_from (node table i) (node table i) refl)
 
@@ -48,6 +49,7 @@ node_few table p t h = elim (or_cases (same p []) (is_extended table p) (sym (no
       let m = sequence_few d.0 d.1 in omega arith)
 ]
 
+-- a table has at least one node
 pub some_node : (table : List Definition) → 1 ≤ length (nodes table)
 some_node table = let r = root_first table in let n : length (nodes table) ≡ length ([] ∷ r.0) = ap length r.1 in omega arith
 
@@ -67,6 +69,7 @@ pub target_is : (table : List Definition) (p : List ℕ) (k : ℕ) → target_of
 target_is table p k =
     lead_by (is_node table (p ++ k ∷ [])) (is_sequence table (p ++ k ∷ [])) (Node (record { 0 = number_of table (p ++ k ∷ []) })) (Leaf (record { 0 = leaf_number table (p ++ k ∷ []) }))
 
+-- the target of an edge is the node or the leaf behind it
 pub target_at_edge : (table : List Definition) (p : List ℕ) (k : ℕ) → has_edge table p k ≡ true → target_of table p k ≡ Some (where_to table (p ++ k ∷ []))
 target_at_edge table p k h = target_is table p k ∙ ap (λ b. cond {A = Option Target} b (Some (where_to table (p ++ k ∷ []))) None) h
 
@@ -112,18 +115,21 @@ edge_keysyms table p (k ∷ ks) = ap (λ z. k ∷ z) (edge_keysyms table p ks)
 scanned_keysyms : (table : List Definition) (p : List ℕ) (es : List Edge) → es ≡ map (edge_of table p) (edges table p) → keysyms_of es ≡ edges table p
 scanned_keysyms table p es e = ap keysyms_of e ∙ edge_keysyms table p (edges table p)
 
+-- a list of edges and that of their keysyms agree at each index
 pub keysym_at : (es : List Edge) (i : ℕ) (e : Edge) → i < length es → e ≡ get_or es i e → get_or (keysyms_of es) i 0 ≡ e.keysym
 keysym_at es i e h at = get_or-map (λ (e : Edge). e.keysym) es i e 0 h ∙ ap (λ (e : Edge). e.keysym) (sym at)
 
 keysyms_counted : (es : List Edge) → length (keysyms_of es) ≡ length es
 keysyms_counted es = length-map es (λ (e : Edge). e.keysym)
 
+-- where no edge of a node has this keysym, it leads nowhere
 pub scan_none : (table : List Definition) (p : List ℕ) (k : ℕ) (es : List Edge) → es ≡ map (edge_of table p) (edges table p) → ((m : ℕ) → m < length es → get_or (keysyms_of es) m 0 ≡ k → ⊥)
     → None ≡ target_of table p k
 scan_none table p k es e none =
     let n = keysyms_counted es in
     leads_nowhere table p k (keysyms_of es) (scanned_keysyms table p es e) (λ m h. none m (omega arith))
 
+-- a keysym found at an index among a node's edges is the edge of that index
 pub scan_found : (table : List Definition) (p : List ℕ) (k i : ℕ) (es : List Edge) → es ≡ map (edge_of table p) (edges table p) → i < length es → get_or (keysyms_of es) i 0 ≡ k
     → (i < length (edges table p)) × (slice_get (edges table p) i ≡ Some k)
 scan_found table p k i es e h is =
@@ -173,6 +179,7 @@ edges_few table p t = length-le_from_below 536870912 (edges table p) (edges_sort
 
 -- ---- leaves
 
+-- a settled table has as many leaves as definitions
 pub leaves_count : (table : List Definition) → IsSettled table → length (leaves table) ≡ length table
 leaves_count table s = ap length (leaves_are table s.rise) ∙ length-map table (λ (d : Definition). d.sequence)
 
@@ -217,12 +224,14 @@ leaf_text_is table i d s h =
 pub text_read : (table : List Definition) (i : ℕ) (t : List ℕ) (d : Definition) → i < length table → option_map (λ (e : Definition). e.text) (slice_get table i) ≡ Some t → t ≡ (get_or table i d).text
 text_read table i t d h e = let f : Some (get_or table i d).text ≡ Some t = ap (option_map (λ (e : Definition). e.text)) (sym (slice_get-get_or table i d h)) ∙ e in cc
 
+-- the text of a definition of a settled table has at most 255 bytes
 pub text_few_at : (table : List Definition) (i : ℕ) (t : List ℕ) → IsSettled table → i < length table → option_map (λ (e : Definition). e.text) (slice_get table i) ≡ Some t → length t ≤ 255
 text_few_at table i t s within e =
     let d : Definition = record { sequence = []; text = [] } in
     let few = text_few (get_or table i d) (definition_at table i d s.definitions within) in
     let n = ap length (text_read table i t d within e) in omega arith
 
+-- the text at the index of a leaf, in a settled table, is that of the leaf, and has at most 255 bytes
 pub text_is : (table : List Definition) (i : ℕ) (t : List ℕ) → IsSettled table → i < length (leaves table) → option_map (λ (e : Definition). e.text) (slice_get table i) ≡ Some t
     → (leaf_text table i ≡ Some t) × (length t ≤ 255)
 text_is table i t s h e =

@@ -21,6 +21,7 @@ map_on : {X Y : Type 0} (f g : X → Y) (xs : List X) → AllByRecursion (λ x. 
 map_on f g [] a = refl
 map_on f g (x ∷ xs) a = λ i. a.0 i ∷ map_on f g xs a.1 i
 
+-- mapping twice is mapping once by both functions
 pub map_of_map : {X Y Z : Type 0} (f : Y → Z) (g : X → Y) (xs : List X) → map f (map g xs) ≡ map (λ x. f (g x)) xs
 map_of_map f g [] = refl
 map_of_map f g (x ∷ xs) = ap (λ zs. f (g x) ∷ zs) (map_of_map f g xs)
@@ -47,6 +48,7 @@ path_there : (table : List Definition) (d : Definition) → path_of (table ++ d 
 path_there [] d = refl
 path_there (c ∷ table) d = refl
 
+-- the last sequence of a table with one more definition is that of the definition
 pub last_sequence_more : (table : List Definition) (d : Definition) → last_sequence (table ++ d ∷ []) ≡ d.sequence
 last_sequence_more [] d = refl
 last_sequence_more (c ∷ []) d = refl
@@ -162,6 +164,7 @@ module _ (table : List Definition) (d : Definition) (p : List ℕ) (k : ℕ) (re
       (map_of_map row' (λ y. (p ++ k ∷ []) ++ y) (proper_prefixes rest)
       ∙ rows_from [] rest (length (nodes table)) (length (p ++ k ∷ [])) refl (sym (add-zero (length (nodes table)))) (sym (add-zero (length (p ++ k ∷ [])))))
 
+  -- the next sequence adds one node for each of its keysyms behind the new edge
   pub more_nodes : length (nodes (table ++ d ∷ [])) ≡ length (nodes table) + length rest
   more_nodes =
       ap length (nodes_more table d p k rest n) ∙ length-append (nodes table) (new_nodes table d p k rest n)

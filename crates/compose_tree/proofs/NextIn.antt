@@ -40,6 +40,7 @@ pub record Parts (a b : List ℕ) : Type 0 where
   pub less : nat_cmp first second ≡ Less
   pub count : shared a b ≡ length prefix
 
+-- a list and a later one that it is no prefix of part somewhere
 pub parts : (a b : List ℕ) → Before a b → is_proper_prefix a b ≡ false → Parts a b
 parts [] [] h f = cc
 parts [] (k ∷ b) h f = cc
@@ -90,6 +91,7 @@ before_from Greater h = cc
 pub head_before : (c e : Definition) (table : List Definition) → sequences_rise (c ∷ e ∷ table) ≡ true → Before c.sequence e.sequence
 head_before c e table h = before_from (slice_cmp nat_cmp c.sequence e.sequence) (and_parts (is_lt (slice_cmp nat_cmp c.sequence e.sequence)) (sequences_rise (e ∷ table)) h).0
 
+-- the sequences of a table that rise still do without the first one
 pub tail_rises : (c e : Definition) (table : List Definition) → sequences_rise (c ∷ e ∷ table) ≡ true → sequences_rise (e ∷ table) ≡ true
 tail_rises c e table h = (and_parts (is_lt (slice_cmp nat_cmp c.sequence e.sequence)) (sequences_rise (e ∷ table)) h).1
 

@@ -33,10 +33,12 @@ pub record IsNext (table : List Definition) (d : Definition) (p : List ℕ) (k :
 
 -- ---- the tests of the longer table
 
+-- with one more definition, a list is extended where it was, or where it is a proper prefix of the new sequence
 pub extended_more : (table : List Definition) (d : Definition) (x : List ℕ) → is_extended (table ++ d ∷ []) x ≡ is_extended table x || is_proper_prefix x d.sequence
 extended_more table d x =
     list_any-append (λ (e : Definition). is_proper_prefix x e.sequence) table (d ∷ []) ∙ ap (λ b. is_extended table x || b) (or_false (is_proper_prefix x d.sequence))
 
+-- with one more definition, a list is a sequence where it was, or where it is the new one
 pub sequence_more : (table : List Definition) (d : Definition) (x : List ℕ) → is_sequence (table ++ d ∷ []) x ≡ is_sequence table x || same x d.sequence
 sequence_more table d x = list_any-append (λ (e : Definition). same x e.sequence) table (d ∷ []) ∙ ap (λ b. is_sequence table x || b) (or_false (same x d.sequence))
 
@@ -61,6 +63,7 @@ edge_more table d x j =
 pub edge_is_listed : (table : List Definition) (x : List ℕ) (j : ℕ) → list_any (λ i. j == i) (edges table x) ≡ has_edge table x j
 edge_is_listed table x j = both_ways (list_any (λ i. j == i) (edges table x)) (has_edge table x j) (listed_edge table x j) (edge_listed table x j)
 
+-- the edges of a node strictly rise
 pub edges_sorted : (table : List Definition) (x : List ℕ) → IsStrictlySortedBy nat_cmp (edges table x)
 edges_sorted table x = IsStrictlySortedBy-filter nat_cmp (has_edge table x) (keysyms table) (rising_sorted nat_cmp_total (flat_map (λ (e : Definition). e.sequence) table))
 
@@ -75,6 +78,7 @@ not_root (i ∷ x) j = refl
 
 -- ---- indexes in lists
 
+-- the first index at which a test holds in the first list is that in both in a row
 pub index_in_prefix : {X : Type 0} (q : X → Bool) (xs ys : List X) → list_any q xs ≡ true → position_or_len q (xs ++ ys) ≡ position_or_len q xs
 index_in_prefix q [] ys h = cc
 index_in_prefix q (x ∷ xs) ys h = go (q x) h (index_in_prefix q xs ys)
@@ -84,6 +88,7 @@ index_in_prefix q (x ∷ xs) ys h = go (q x) h (index_in_prefix q xs ys)
     go true h f = refl
     go false h f = ap (λ n. 1 + n) (f h)
 
+-- the first index at which a test holds in the second list alone comes behind the first list
 pub index_behind : {X : Type 0} (q : X → Bool) (xs ys : List X) → list_any q xs ≡ false → position_or_len q (xs ++ ys) ≡ length xs + position_or_len q ys
 index_behind q [] ys h = omega arith
 index_behind q (x ∷ xs) ys h = go (q x) h (index_behind q xs ys)
@@ -135,12 +140,15 @@ never_root (j ∷ p) k rest = refl
 pub is_leaf : (table : List Definition) (v : List ℕ) → list_any (same v) (leaves table) ≡ is_sequence table v
 is_leaf table v = list_any-rising (slice_cmp nat_cmp) exact_bytes (same v) (map (λ (d : Definition). d.sequence) table) ∙ list_any-map (same v) (λ (d : Definition). d.sequence) table
 
+-- the leaves of a table strictly rise
 pub leaves_sorted : (table : List Definition) → IsStrictlySortedBy (slice_cmp nat_cmp) (leaves table)
 leaves_sorted table = rising_sorted nat_list_cmp_total (map (λ (d : Definition). d.sequence) table)
 
+-- what is a node is the target with its number
 pub at_node : (table : List Definition) (z : List ℕ) → is_node table z ≡ true → where_to table z ≡ Node (record { 0 = number_of table z })
 at_node table z h = ap (λ b. cond {A = Target} b (Node (record { 0 = number_of table z })) (Leaf (record { 0 = leaf_number table z }))) h
 
+-- what is no node is the target with the number of its leaf
 pub at_leaf : (table : List Definition) (z : List ℕ) → is_node table z ≡ false → where_to table z ≡ Leaf (record { 0 = leaf_number table z })
 at_leaf table z h = ap (λ b. cond {A = Target} b (Node (record { 0 = number_of table z })) (Leaf (record { 0 = leaf_number table z }))) h
 
@@ -174,6 +182,7 @@ module _ (table : List Definition) (d : Definition) (p : List ℕ) (k : ℕ) (re
       ∙ ap (λ b. is_node table x || b) (sym (list_any-map (same x) (λ y. q ++ y) (proper_prefixes rest)))
       ∙ sym (list_any-append (same x) (nodes table) new_nodes)
 
+  -- the next sequence puts its new nodes behind the others
   pub nodes_more : nodes (table ++ d ∷ []) ≡ nodes table ++ new_nodes
   nodes_more =
       one_rising (nodes (table ++ d ∷ [])) (nodes table ++ new_nodes) (nodes_sorted (table ++ d ∷ []))
@@ -188,6 +197,7 @@ module _ (table : List Definition) (d : Definition) (p : List ℕ) (k : ℕ) (re
     | inr e ↦ e
   ]
 
+  -- no sequence of the table begins with the new edge behind its parent
   pub no_sequence : (y : List ℕ) → is_sequence table ((p ++ k ∷ []) ++ y) ≡ false
   no_sequence y = elim (cases_Bool (is_sequence table ((p ++ k ∷ []) ++ y))) [
     | inl e ↦ absurd (not_before_prefix (p ++ k ∷ []) y (n.below ((p ++ k ∷ []) ++ y) e))
@@ -200,6 +210,7 @@ module _ (table : List Definition) (d : Definition) (p : List ℕ) (k : ℕ) (re
   pub node_stays : (x : List ℕ) → is_node table x ≡ true → is_node (table ++ d ∷ []) x ≡ true
   node_stays x h = node_more x ∙ list_any-append (same x) (nodes table) new_nodes ∙ or_left (is_node table x) (list_any (same x) new_nodes) h
 
+  -- a node keeps its number where the next sequence comes behind the others
   pub number_stays : (x : List ℕ) → is_node table x ≡ true → number_of (table ++ d ∷ []) x ≡ number_of table x
   number_stays x h = ap (position_or_len (same x)) nodes_more ∙ index_in_prefix (same x) (nodes table) new_nodes h
 
@@ -210,6 +221,7 @@ module _ (table : List Definition) (d : Definition) (p : List ℕ) (k : ℕ) (re
       ap (position_or_len (same (q ++ y))) nodes_more ∙ index_behind (same (q ++ y)) (nodes table) new_nodes (no_node y)
       ∙ ap (λ i. length (nodes table) + i) (index_behind_prefix q y (proper_prefixes rest) ∙ ap (λ z. position_or_len (same y) (proper_prefixes z)) e ∙ index_of_prefix y j r)
 
+  -- what the next sequence goes on behind is a node
   pub new_node : (y : List ℕ) (j : ℕ) (r : List ℕ) → rest ≡ y ++ j ∷ r → is_node (table ++ d ∷ []) ((p ++ k ∷ []) ++ y) ≡ true
   new_node y j r e =
       let q = p ++ k ∷ [] in
@@ -263,9 +275,11 @@ module _ (table : List Definition) (d : Definition) (p : List ℕ) (k : ℕ) (re
         | inr f ↦ or_right (has_edge table x j) (begins (x ++ j ∷ []) d.sequence) (new_edge_begins x j f)
       ])
 
+  -- where the next sequence leaves the others, there is a node
   pub parent_is_node : is_node table p ≡ true
   parent_is_node = n.opened p (prefix_of_longer p [] k)
 
+  -- the next sequence puts one edge behind the others at the node where it leaves them
   pub edges_at_parent : edges (table ++ d ∷ []) p ≡ edges table p ++ k ∷ []
   edges_at_parent =
       edges_are (table ++ d ∷ []) p (edges table p ++ k ∷ [])
@@ -275,6 +289,7 @@ module _ (table : List Definition) (d : Definition) (p : List ℕ) (k : ℕ) (re
       ∙ ap (λ b. b || j == k) (sym (edge_is_listed table p j)) ∙ ap (λ b. list_any (λ i. j == i) (edges table p) || b) (sym (or_false (j == k)))
       ∙ sym (list_any-append (λ i. j == i) (edges table p) (k ∷ [])))
 
+  -- the next sequence leaves the edges of every other node
   pub edges_elsewhere : (x : List ℕ) → is_node table x ≡ true → same x p ≡ false → edges (table ++ d ∷ []) x ≡ edges table x
   edges_elsewhere x h other =
       edges_are (table ++ d ∷ []) x (edges table x) (edges_sorted table x)
@@ -296,6 +311,7 @@ module _ (table : List Definition) (d : Definition) (p : List ℕ) (k : ℕ) (re
 
   -- ---- leaves
 
+  -- the next sequence is the last leaf
   pub leaves_more : leaves (table ++ d ∷ []) ≡ leaves table ++ d.sequence ∷ []
   leaves_more =
       one_rising (leaves (table ++ d ∷ [])) (leaves table ++ d.sequence ∷ []) (leaves_sorted (table ++ d ∷ []))

@@ -34,6 +34,7 @@ texts_on all i t h e =
     let d : Definition = record { sequence = []; text = [] } in
     rw add-one (ap texts_of (drop-cons all i d h) ∙ ap (λ x. x ∷ texts_of (drop (suc i) all)) (sym (text_read all i t d h e)))
 
+-- with the offset of one more text pushed, those of the texts left come behind it
 pub offsets_step : (all : List Definition) (i offset next : ℕ) (whole offsets more t : List ℕ) → whole ≡ offsets ++ packed_offsets offset (texts_of (drop i all))
     → texts_of (drop i all) ≡ t ∷ texts_of (drop (i + 1) all)
     → more ≡ offsets ++ offset ∷ [] → next ≡ offset + length t → whole ≡ more ++ packed_offsets next (texts_of (drop (i + 1) all))
@@ -42,18 +43,21 @@ offsets_step all i offset next whole offsets more t e f g h =
     e ∙ ap (λ ts. offsets ++ packed_offsets offset ts) f ∙ sym (append_assoc offsets (offset ∷ []) (packed_offsets (offset + length t) rest))
     ∙ ap (λ x. x ++ packed_offsets (offset + length t) rest) (sym g) ∙ ap (λ n. more ++ packed_offsets n rest) (sym h)
 
+-- with one more text pushed to the pool, the texts left come behind it
 pub pool_step : (all : List Definition) (i : ℕ) (whole bytes more t : List ℕ) → whole ≡ bytes ++ pool (texts_of (drop i all)) → texts_of (drop i all) ≡ t ∷ texts_of (drop (i + 1) all)
     → more ≡ bytes ++ t → whole ≡ more ++ pool (texts_of (drop (i + 1) all))
 pool_step all i whole bytes more t e f g =
     let rest = texts_of (drop (i + 1) all) in
     e ∙ ap (λ ts. bytes ++ pool ts) f ∙ sym (append_assoc bytes t (pool rest)) ∙ ap (λ x. x ++ pool rest) (sym g)
 
+-- a text of UTF-8 before others that are UTF-8 leaves them all so
 pub utf8_step : (all : List Definition) (i : ℕ) (t : List ℕ) → texts_of (drop i all) ≡ t ∷ texts_of (drop (i + 1) all) → IsUtf8 t → list_all is_utf8 (texts_of (drop (i + 1) all)) ≡ true
     → list_all is_utf8 (texts_of (drop i all)) ≡ true
 utf8_step all i t f u h = ap (list_all is_utf8) f ∙ and_from (is_utf8 t) (list_all is_utf8 (texts_of (drop (i + 1) all))) (is_utf8-from_IsUtf8 t u) h
 
 -- ---- the search among rising keysyms
 
+-- a list of packed edges and that of their keysyms agree at each index
 pub key_there : (edges : List PackedEdge) (m : ℕ) (e : PackedEdge) → m < length edges → e ≡ get_or edges m e → slice_index (keys_of edges) m ≡ e.keysym
 key_there edges m e h at = get_or-map (λ (e : PackedEdge). e.keysym) edges m e 0 h ∙ ap (λ (e : PackedEdge). e.keysym) (sym at)
 
@@ -76,7 +80,8 @@ greater_from edges key m rise greater k le h = go (eq-or-lt_of_le le)
     go : (m ≡ k) ⊎ (m < k) → key < slice_index (keys_of edges) k
     go (inl same) = let P : ℕ → Type 0 = λ n. key < slice_index (keys_of edges) n in subst P same greater
     go (inr lower) =
-        (let n = keys_length edges in let l : slice_index (keys_of edges) m < slice_index (keys_of edges) k = below_from_sorted (keys_of edges) m k 0 (sorted_from_strictly_increasing (keys_of edges) rise) lower (omega arith) in omega arith)
+        (let n = keys_length edges in let l : slice_index (keys_of edges) m < slice_index (keys_of edges) k = below_from_sorted
+        (keys_of edges) m k 0 (sorted_from_strictly_increasing (keys_of edges) rise) lower (omega arith) in omega arith)
 
 -- where the keysym can be at one index alone and is not there, it is nowhere
 pub nowhere_else : (edges : List PackedEdge) (key first count : ℕ) → count ≤ 1 → ((k : ℕ) → k < first → slice_index (keys_of edges) k < key)
@@ -92,6 +97,7 @@ nowhere_else edges key first count few below above not_there k h same = elim (ca
 
 -- ---- the arrays of a table spell it
 
+-- a settled table that is packed is unpacked again
 pub unpack : (table : List Definition) → IsSettled table → unpacked (packed_nodes 0 (rows_of table)) (packed_edges (rows_of table)) (packed_offsets 0 (texts_of table)) (pool (texts_of table)) ≡ table
 unfolding unpacked
 unpack table s =
@@ -115,6 +121,7 @@ first_offset : (rows : List NodeRow) (offset : ℕ) (d : PackedNode) → (get_or
 first_offset [] offset d = refl
 first_offset (r ∷ rows) offset d = refl
 
+-- there is one packed node more than rows
 pub packed_count : (rows : List NodeRow) (offset : ℕ) → length (packed_nodes offset rows) ≡ length rows + 1
 packed_count [] offset = refl
 packed_count (r ∷ rows) offset = let e = packed_count rows (offset + length r.edges) in omega arith
@@ -159,6 +166,7 @@ module _ (nodes' : List PackedNode) (edges' : List PackedEdge) (offsets bytes : 
       (subst (λ (x : NodeRow). NodePiece (packed_nodes 0 (rows_of table)) (packed_edges (rows_of table)) 0 i x) (row_at_node i h)
       (node_piece (rows_of table) 0 i (let n = length-map (nodes table) (row_of table) in omega arith))))
 
+  -- there is one packed node more than nodes of the table
   pub nodes_count : length nodes' ≡ length (nodes table) + 1
   nodes_count = ap length p.nodes_are ∙ packed_count (rows_of table) 0 ∙ ap (λ n. n + 1) (length-map (nodes table) (row_of table))
 
@@ -177,10 +185,12 @@ module _ (nodes' : List PackedNode) (edges' : List PackedEdge) (offsets bytes : 
 
 -- ---- what a search of a node's edges tells
 
+-- the packed edges of some keysyms have these keysyms
 pub packed_keys : (table : List Definition) (x ks : List ℕ) → keys_of (map packed_edge (map (edge_of table x) ks)) ≡ ks
 packed_keys table x [] = refl
 packed_keys table x (k ∷ ks) = ap (λ z. k ∷ z) (packed_keys table x ks)
 
+-- the keysyms of a node's packed edges strictly rise
 pub keys_rise : (table : List Definition) (x : List ℕ) (es : List PackedEdge) → es ≡ map packed_edge (map (edge_of table x) (edges table x)) → IsStrictlyIncreasing (keys_of es)
 keys_rise table x es e = subst IsStrictlyIncreasing (sym (ap keys_of e ∙ packed_keys table x (edges table x))) (IsStrictlyIncreasing-from_sorted (edges table x) (edges_sorted table x))
 
@@ -207,6 +217,7 @@ packed_edge_is table x i es e es_are h at =
     at ∙ ap (λ y. get_or y i e) es_are ∙ get_or-map packed_edge (map (edge_of table x) (edges table x)) i (edge_of table x 0) e (omega arith)
     ∙ ap packed_edge (get_or-map (edge_of table x) (edges table x) i 0 (edge_of table x 0) (omega arith))
 
+-- a packed edge at an index of a node has the keysym of the edge there, and leads where that leads
 pub edge_read : (table : List Definition) (x : List ℕ) (i : ℕ) (es : List PackedEdge) (e : PackedEdge) (t : Target) → es ≡ map packed_edge (map (edge_of table x) (edges table x)) → i < length es
     → e ≡ get_or es i e → t ≡ unpacked_target e.target
     → (slice_get (edges table x) i ≡ Some e.keysym) × (target_of table x e.keysym ≡ Some t)
@@ -220,6 +231,7 @@ edge_read table x i es e t es_are h at unpacked_is =
     let lead : t ≡ where_to table (x ++ k ∷ []) = unpacked_is ∙ ap (λ (y : PackedEdge). unpacked_target y.target) is ∙ unpack_target (where_to table (x ++ k ∷ [])) in
     (got ∙ ap (λ j. Some j) (sym key), ap (target_of table x) key ∙ target_at_edge table x k (listed_edge table x k listed) ∙ ap (λ y. Some y) (sym lead))
 
+-- a node has as many packed edges as edges
 pub edges_counted : (table : List Definition) (x : List ℕ) (es : List PackedEdge) → es ≡ map packed_edge (map (edge_of table x) (edges table x)) → length es ≡ length (edges table x)
 edges_counted table x es e = ap length e ∙ length-map (map (edge_of table x) (edges table x)) packed_edge ∙ length-map (edges table x) (edge_of table x)
 

@@ -17,6 +17,7 @@ use Rattle.compose_model.proofs.NodeLemmas.{same_from}
 abbrev pub Before : List ℕ → List ℕ → Type 0
 Before x y = slice_cmp nat_cmp x y ≡ Less
 
+-- a condition or a false one is the condition
 pub or_false : (b : Bool) → b || false ≡ b
 or_false true = refl
 or_false false = refl
@@ -27,6 +28,7 @@ and_or false b c = refl
 
 -- ---- order
 
+-- a list doesn't come before an equal one
 pub not_before_itself : (x y : List ℕ) → x ≡ y → Before x y → ⊥
 not_before_itself x y e h = let t : Equal ≡ Less = sym (tied_itself nat_list_cmp_total x) ∙ ap (slice_cmp nat_cmp x) e ∙ h in cc
 
@@ -46,6 +48,7 @@ before_longer (j ∷ x) (k ∷ q) y h = then_step (nat_cmp j k) (slice_cmp nat_c
 behind_same : (k : ℕ) (x y : List ℕ) → slice_cmp nat_cmp (k ∷ x) (k ∷ y) ≡ slice_cmp nat_cmp x y
 behind_same k x y = ap (λ o. ordering_then o (slice_cmp nat_cmp x y)) (tied_itself nat_cmp_total k)
 
+-- lists behind the same prefix compare as without it
 pub behind_prefix : (q x y : List ℕ) → slice_cmp nat_cmp (q ++ x) (q ++ y) ≡ slice_cmp nat_cmp x y
 behind_prefix [] x y = refl
 behind_prefix (k ∷ q) x y = behind_same k (q ++ x) (q ++ y) ∙ behind_prefix q x y
@@ -56,6 +59,7 @@ not_before_prefix [] [] h = cc
 not_before_prefix [] (k ∷ y) h = cc
 not_before_prefix (k ∷ q) y h = not_before_prefix q y (sym (behind_same k (q ++ y) q) ∙ h)
 
+-- a proper prefix comes before its extensions
 pub prefix_before : (p s : List ℕ) → is_proper_prefix p s ≡ true → Before p s
 prefix_before p [] h = cc
 prefix_before [] (k ∷ s) h = refl
@@ -64,6 +68,7 @@ prefix_before (j ∷ p) (k ∷ s) h =
     let is : j ≡ k = eqb-true j k both.0 in
     subst (λ (i : ℕ). slice_cmp nat_cmp (j ∷ p) (i ∷ s) ≡ Less) is (behind_same j p s ∙ prefix_before p s both.1)
 
+-- the empty list comes before every other
 pub root_before : (p : List ℕ) (k : ℕ) → Before [] (p ++ k ∷ [])
 root_before [] k = refl
 root_before (j ∷ p) k = refl
@@ -170,6 +175,7 @@ behind_sorted q (x ∷ xs) s = (
   behind_sorted q xs s.1,
 )
 
+-- the proper prefixes of a list strictly rise
 pub prefixes_sorted : (s : List ℕ) → IsStrictlySortedBy (slice_cmp nat_cmp) (proper_prefixes s)
 unfolding IsStrictlySortedBy
 prefixes_sorted [] = tt
@@ -195,12 +201,14 @@ pub all_found : (P : List ℕ → Type 0) (xs : List (List ℕ)) → ((x : List 
 all_found P [] f = tt
 all_found P (x ∷ xs) f = (f x (or_left (same x x) (list_any (same x) xs) (same_from x x refl)), all_found P xs (λ y h. f y (or_right (same y x) (list_any (same y) xs) h)))
 
+-- what comes before a list comes before all its extensions
 pub all_before_longer : (x q : List ℕ) (ys : List (List ℕ)) → Before x q → AllByRecursion (λ y. slice_cmp nat_cmp x y ≡ Less) (map (λ y. q ++ y) ys)
 all_before_longer x q [] h = tt
 all_before_longer x q (y ∷ ys) h = (before_longer x q y h, all_before_longer x q ys h)
 
 -- ---- rising keysyms
 
+-- what holds of each keysym that is found in a list holds of all its elements
 pub all_found_keys : (P : ℕ → Type 0) (ks : List ℕ) → ((k : ℕ) → list_any (λ j. k == j) ks ≡ true → P k) → AllByRecursion P ks
 all_found_keys P [] f = tt
 all_found_keys P (k ∷ ks) f = (f k (or_left (k == k) (list_any (λ j. k == j) ks) (eq-eqb k k refl)), all_found_keys P ks (λ i h. f i (or_right (i == k) (list_any (λ j. i == j) ks) h)))

@@ -106,6 +106,7 @@ pub record Put (ds : List ℕ) (es : List NodeEdge) (k : ℕ) (e : NodeEdge) (no
   pub packed_is : set packed q (packed_edge e.edge) ≡ laid 0 ds (take (k + 1) es) (drop (k + 1) es)
   pub counts_are : (c : ℕ) → c ≡ get_or counts e.node c → set counts e.node (c + 1) ≡ counts_of (gathered 0 ds (take (k + 1) es))
 
+-- while the edges before an index are put, the one at that index has its place in the packed edges
 pub put_at : (ds : List ℕ) (es : List NodeEdge) (k : ℕ) (e : NodeEdge) (nodes : List PackedNode) (packed : List PackedEdge) (counts : List ℕ) → AreAtNodes (length ds) es → k < length es
     → e ≡ get_or es k e → nodes ≡ packed_nodes 0 (gathered 0 ds es)
     → packed ≡ laid 0 ds (take k es) (drop k es) → counts ≡ counts_of (gathered 0 ds (take k es)) → Put ds es k e nodes packed counts
@@ -144,6 +145,7 @@ blanks : (es : List Edge) → map (λ e. blank) es ≡ replicate (length es) bla
 blanks [] = refl
 blanks (e ∷ es) = ap (λ x. blank ∷ x) (blanks es)
 
+-- with no edge put, each place of the packed edges is blank
 pub laid_none : (i : ℕ) (ds : List ℕ) (es : List NodeEdge) → laid i ds [] es ≡ replicate (length (packed_edges (gathered i ds es))) blank
 laid_none i [] es = refl
 laid_none i (d ∷ ds) es =
@@ -153,6 +155,7 @@ laid_none i (d ∷ ds) es =
     (λ t. blanks own t ++ laid_none (1 + i) ds es t)
     ∙ replicate-append-replicate (length own) (length rest) blank ∙ ap (λ m. replicate m blank) n
 
+-- with every edge put, the packed edges are those of the rows
 pub laid_all : (i : ℕ) (ds : List ℕ) (es : List NodeEdge) → laid i ds es [] ≡ packed_edges (gathered i ds es)
 laid_all i [] es = refl
 laid_all i (d ∷ ds) es = λ t. append-nil (map packed_edge (edges_at i es)) t ++ laid_all (1 + i) ds es t

@@ -24,6 +24,7 @@ use Rattle.compose_tree.specs.Targets.{target_of, leaf_number, leaf_text}
 pub leaf_means : (table : List Definition) (s : List ℕ) → list_any (same s) (leaves table) ≡ is_sequence table s
 leaf_means table s = list_any-rising (slice_cmp nat_cmp) exact_bytes (same s) (map (λ d. d.sequence) table) ∙ list_any-map (same s) (λ (d : Definition). d.sequence) table
 
+-- the number of a sequence's leaf is below the number of leaves
 pub leaf_below : (table : List Definition) (s : List ℕ) → is_sequence table s ≡ true → leaf_number table s < length (leaves table)
 leaf_below table s h = found_below s (leaves table) (leaf_means table s ∙ h)
 
@@ -37,12 +38,14 @@ text_of_leaf table s h = ap (text_at table) (found_at s (leaves table) (leaf_mea
 pub goes_on : (table : List Definition) (p : List ℕ) (k : ℕ) → is_node table (p ++ k ∷ []) ≡ is_extended table (p ++ k ∷ [])
 goes_on table p k = node_means table (p ++ k ∷ []) ∙ ap (λ b. b || is_extended table (p ++ k ∷ [])) (never_empty p k)
 
+-- behind the key there is this node
 pub record ToNode (table : List Definition) (p : List ℕ) (k : ℕ) (node : NodeId) : Type 0 where
   pub extended : is_extended table (p ++ k ∷ []) ≡ true
   pub is_node : is_node table (p ++ k ∷ []) ≡ true
   pub number : number_of table (p ++ k ∷ []) ≡ node.0
   pub in_range : node.0 < length (nodes table)
 
+-- behind the key there is this leaf, and no sequence goes on
 pub record ToLeaf (table : List Definition) (p : List ℕ) (k : ℕ) (leaf : LeafId) : Type 0 where
   pub extended : is_extended table (p ++ k ∷ []) ≡ false
   pub sequence : is_sequence table (p ++ k ∷ []) ≡ true
@@ -50,6 +53,7 @@ pub record ToLeaf (table : List Definition) (p : List ℕ) (k : ℕ) (leaf : Lea
   pub in_range : leaf.0 < length (leaves table)
   pub text : leaf_text table leaf.0 ≡ text_at table (p ++ k ∷ [])
 
+-- behind the key there is neither a node nor a leaf
 pub record Nowhere (table : List Definition) (p : List ℕ) (k : ℕ) : Type 0 where
   pub extended : is_extended table (p ++ k ∷ []) ≡ false
   pub sequence : is_sequence table (p ++ k ∷ []) ≡ false
@@ -60,6 +64,7 @@ Leads table p k (Some (Node n)) = ToNode table p k n
 Leads table p k (Some (Leaf l)) = ToLeaf table p k l
 Leads table p k None = Nowhere table p k
 
+-- the target of a key says what stands behind it
 pub leads : (table : List Definition) (p : List ℕ) (k : ℕ) → Leads table p k (target_of table p k)
 leads table p k = go (is_node table (p ++ k ∷ [])) (is_sequence table (p ++ k ∷ [])) refl refl
   where
@@ -88,6 +93,7 @@ effect_at rests (Some (Node n)) = extends
 effect_at rests (Some (Leaf l)) = completes
 effect_at rests None = cond rests passes cancels
 
+-- the effect of a key that isn't ignored is told by its target, and by whether anything is pending
 pub effect_by_target : (table : List Definition) (p : List ℕ) (k : ℕ) → is_ignored k ≡ false → effect table p k ≡ effect_at (is_empty p) (target_of table p k)
 effect_by_target table p k fed = go (target_of table p k) (leads table p k)
   where

@@ -23,6 +23,7 @@ odd_code n = elim (cases_Bool ((n * 2 + 1) % 2 == 0)) [
   | inr e ↦ e
 ]
 
+-- a target that is packed is unpacked again
 pub unpack_target : (t : Target) → unpacked_target (packed_target t) ≡ t
 unpack_target (Node n) =
     ap (λ b. cond {A = Target} b (Node (record { 0 = (n.0 * 2) / 2 })) (Leaf (record { 0 = (n.0 * 2) / 2 }))) (even_code n.0)
@@ -31,9 +32,11 @@ unpack_target (Leaf l) =
     ap (λ b. cond {A = Target} b (Node (record { 0 = (l.0 * 2 + 1) / 2 })) (Leaf (record { 0 = (l.0 * 2 + 1) / 2 }))) (odd_code l.0)
     ∙ (let e : (l.0 * 2 + 1) / 2 ≡ l.0 = omega arith in ap (λ i. Leaf (record { 0 = i })) e)
 
+-- an edge that is packed is unpacked again
 pub unpack_edge : (e : Edge) → unpacked_edge (packed_edge e) ≡ e
 unpack_edge e = λ i. record { keysym = e.keysym; target = unpack_target e.target i }
 
+-- edges that are packed are unpacked again
 pub unpack_edges : (es : List Edge) → map unpacked_edge (map packed_edge es) ≡ es
 unpack_edges [] = refl
 unpack_edges (e ∷ es) = λ i. unpack_edge e i ∷ unpack_edges es i
@@ -92,6 +95,7 @@ texts_unpack (t ∷ texts) offset prefix e =
     two offset t [] bytes h l = λ i. h i ∷ l i
     two offset t (u ∷ texts) bytes h l = λ i. h i ∷ l i
 
+-- texts that are packed in a pool are unpacked again
 pub unpack_texts : (texts : List (List ℕ)) → unpacked_texts (packed_offsets 0 texts) (pool texts) ≡ texts
 unpack_texts texts = texts_unpack texts 0 [] refl
 

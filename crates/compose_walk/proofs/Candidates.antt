@@ -137,6 +137,7 @@ module _ (names : KeysymNames) (fresh : List ℕ) (old new : List Definition) wh
       go again passes e = (let r = ap (λ x. pending_by x p j) e in from again [] r (here.rests r) (root_clear names fresh old new))
       go again cancels e = absurd (uncancelled_head old p j w u e)
 
+  -- where the tables have no candidate, the new table follows the old one
   pub follows_without : ((q : List ℕ) (k : ℕ) → Candidate names fresh old new q k → ⊥) → Follows names fresh old new
   follows_without none w f u = agrees_on none [] w (root_clear names fresh old new) f u
 
@@ -150,6 +151,7 @@ module _ (names : KeysymNames) (fresh : List ℕ) (old new : List Definition) wh
         by (inl e) = edge_not_fresh fresh old p k are e
         by (inr s) = s.3
 
+    -- the last key of a candidate is not ignored
     pub candidate_fed : (p : List ℕ) (k : ℕ) → Candidate names fresh old new p k → is_ignored k ≡ false
     candidate_fed p k c = by c.key
       where
@@ -236,6 +238,7 @@ module _ (names : KeysymNames) (fresh : List ℕ) (old new : List Definition) wh
       go again passes h = absurd (rest passes h refl)
       go again cancels h = absurd (uncancelled_head old v j (w ++ k ∷ []) u h)
 
+  -- the keys of each difference are an old node and a key that are a candidate
   pub difference_is_candidate : (x : Evidence) → IsDifference names fresh old new x → (p : List ℕ) × (k : ℕ) × Candidate names fresh old new p k × (x.keys ≡ p ++ k ∷ [])
   difference_is_candidate x d =
       let s = d.shows in

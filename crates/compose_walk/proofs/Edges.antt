@@ -64,6 +64,7 @@ module _ (names : KeysymNames) (old new : List Definition) (sound : is_table old
   to_node : (n : NodeId) → t ≡ Node n → Leads old (node old i) k (Some (Node n))
   to_node n e = subst (λ (y : Target). Leads old (node old i) k (Some y)) e leads_on
 
+  -- the number of the node to which the edge leads is below the count of the stands that are kept
   pub child_below : (n : NodeId) → t ≡ Node n → n.0 < length before
   child_below n e = let l : n.0 < length (nodes old) = (to_node n e).in_range in let s : length before ≡ length (nodes old) = ap length stood ∙ length-map (nodes old) _ in omega arith
 
@@ -92,6 +93,7 @@ module _ (names : KeysymNames) (old new : List Definition) (sound : is_table old
       is_found : f ≡ found_at old (node old i) k
       is_found z = record { depth = ed z; node = (en ∙ sym (number_at_node old i in_range)) z; keysym = ek z }
 
+  -- where the steps agree at the edge, it adds nothing to what is found
   pub found_unless_differs : is_some (difference_of a b) ≡ false → (xs : List Found) (m : ℕ) → slice_get (edges old (node old i)) index ≡ Some m
       → xs ≡ xs ++ map (found_at old (node old i)) (filter (differs_at names old new (node old i)) (m ∷ []))
   found_unless_differs d xs m h =

@@ -162,7 +162,8 @@ these_two =
     (all_differences named [] grave_a acute_e_line refl refl none_fresh both_found (subst (λ (xs : List Found). IsPermutation xs both_found) (sym found_are) (IsPermutation-refl both_found)) in_order)
 
 these_two_text : all_explained named both
-    ≡ codes "keys dead_acute" ++ 10 ∷ codes "kind waiting" ++ 10 ∷ codes "old " ++ 34 ∷ 34 ∷ 10 ∷ codes "new " ++ 34 ∷ 34 ∷ 10 ∷ 10 ∷ codes "keys dead_grave a" ++ 10 ∷ codes "kind text" ++ 10 ∷ codes "old " ++ 34 ∷ codes "x" ++ 34 ∷ 10 ∷ codes "new "
+    ≡ codes "keys dead_acute" ++ 10 ∷ codes "kind waiting" ++ 10 ∷ codes "old " ++ 34 ∷ 34 ∷ 10 ∷ codes "new " ++ 34 ∷ 34 ∷ 10
+    ∷ 10 ∷ codes "keys dead_grave a" ++ 10 ∷ codes "kind text" ++ 10 ∷ codes "old " ++ 34 ∷ codes "x" ++ 34 ∷ 10 ∷ codes "new "
     ++ 34 ∷ codes "a" ++ 34 ∷ 10 ∷ 10 ∷ codes "2 differences: 1 text, 0 cancelled, 1 waiting" ++ 10 ∷ []
 unfolding digits
 these_two_text = refl

@@ -8,9 +8,11 @@ use Rattle.std.proofs.lemmas.Bool.{and_parts, and_from, or_cases, or_left, or_ri
 use Rattle.compose_model.specs.Table.{comes_before}
 use Rattle.compose_walk.specs.Evidence.{comes_first}
 
+-- a shorter list of keys comes first
 pub first_by_length : (v w : List ℕ) → length v < length w → comes_first v w ≡ true
 first_by_length v w h = or_left (nat_lt (length v) (length w)) (length v == length w && comes_before v w) (lt-ltb (length v) (length w) h)
 
+-- of two lists that are as long, the one that is before the other in the order of sequences comes first
 pub first_by_order : (v w : List ℕ) → length v ≡ length w → slice_cmp nat_cmp v w ≡ Less → comes_first v w ≡ true
 first_by_order v w e h =
     or_right (nat_lt (length v) (length w)) (length v == length w && comes_before v w) (and_from (length v == length w) (comes_before v w) (eq-eqb (length v) (length w) e) (ap is_lt h))
@@ -24,12 +26,14 @@ less_is Greater h = cc
 abbrev pub FirstParts : List ℕ → List ℕ → Type 0
 FirstParts v w = (length v < length w) ⊎ ((length v ≡ length w) × (slice_cmp nat_cmp v w ≡ Less))
 
+-- a list that comes first is shorter, or as long and before the other in the order of sequences
 pub first_parts : (v w : List ℕ) → comes_first v w ≡ true → FirstParts v w
 first_parts v w h = elim (or_cases (nat_lt (length v) (length w)) (length v == length w && comes_before v w) h) [
   | inl e ↦ inl (ltb-true (length v) (length w) e)
   | inr e ↦ (let p = and_parts (length v == length w) (comes_before v w) e in inr (eqb-true (length v) (length w) p.0, less_is (slice_cmp nat_cmp v w) p.1))
 ]
 
+-- what comes before a list of keys comes before all that this list comes before
 pub first_then : (u v w : List ℕ) → comes_first u v ≡ true → comes_first v w ≡ true → comes_first u w ≡ true
 first_then u v w a b = go (first_parts u v a) (first_parts v w b)
   where

@@ -39,12 +39,14 @@ some_of : (o : Option Kind) → is_some o ≡ true → (kind : Kind) × (o ≡ S
 some_of None h = cc
 some_of (Some kind) h = (kind, refl)
 
+-- the first of all differences of two tables is their least counterexample
 pub first_difference : (names : KeysymNames) (fresh : List ℕ) (old new : List Definition) (x : Evidence) (xs : List Evidence) → is_table old ≡ true → is_table new ≡ true → AreFresh fresh old
     → AreDifferences names fresh old new (x ∷ xs) → IsLeast names fresh old new x
 first_difference names fresh old new x xs t_old t_new are d = least_from names fresh old new x d.each.0.shows (λ q k c.
     (let kind = some_of (difference_at names old new q k) c.differs in
     first_of (q ++ k ∷ []) x xs d.rise (d.all (evidence names old new q k kind.0) (candidate_is names fresh old new t_old t_new are q k kind.0 c kind.1))))
 
+-- where two tables have no difference, the new one follows the old one
 pub no_difference : (names : KeysymNames) (fresh : List ℕ) (old new : List Definition) → is_table old ≡ true → is_table new ≡ true → AreFresh fresh old → AreDifferences names fresh old new []
     → Follows names fresh old new
 no_difference names fresh old new t_old t_new are d = follows_without names fresh old new (λ q k c.

@@ -87,10 +87,12 @@ has_flat f y p (q ∷ ps) m h = elim (or_cases (same p q) (list_any (same p) ps)
   | inr n ↦ has_right y (f q) (flat_map f ps) (has_flat f y p ps n h)
 ]
 
+-- what holds for each element of two lists holds for each of the two put together
 pub all_append : {X : Type 0} (P : X → Type 0) (xs ys : List X) → AllByRecursion P xs → AllByRecursion P ys → AllByRecursion P (xs ++ ys)
 all_append P [] ys a b = b
 all_append P (x ∷ xs) ys a b = (a.0, all_append P xs ys a.1 b)
 
+-- what holds for the value of each keysym of a list that passes a test holds for each value of those that pass
 pub all_filtered : {Y : Type 0} (P : Y → Type 0) (f : ℕ → Y) (q : ℕ → Bool) (xs : List ℕ) → ((k : ℕ) → has_key xs k ≡ true → q k ≡ true → P (f k)) → AllByRecursion P (map f (filter q xs))
 all_filtered P f q [] h = tt
 all_filtered P f q (x ∷ xs) h = go (q x) refl (all_filtered P f q xs (λ k m n. h k (or_right (k == x) (has_key xs k) m) n))
@@ -99,6 +101,7 @@ all_filtered P f q (x ∷ xs) h = go (q x) refl (all_filtered P f q xs (λ k m n
     go true e a = (h x (or_left (x == x) (has_key xs x) (eq-eqb x x refl)) e, a)
     go false e a = a
 
+-- what holds for all that comes of each list holds for all that comes of the lists together
 pub all_flat : {Y : Type 0} (P : Y → Type 0) (f : List ℕ → List Y) (ps : List (List ℕ)) → ((p : List ℕ) → list_any (same p) ps ≡ true → AllByRecursion P (f p)) → AllByRecursion P (flat_map f ps)
 all_flat P f [] h = tt
 all_flat P f (p ∷ ps) h =
@@ -177,6 +180,7 @@ in_order table p q k j hp hq n = by (length q == length p) refl n
 -- ---- what is found are the candidates
 
 module _ (names : KeysymNames) (fresh : List ℕ) (old new : List Definition) (t_old : is_table old ≡ true) (t_new : is_table new ≡ true) (are : AreFresh fresh old) where
+  -- an old node up to which the tables agree, and a candidate there
   pub record IsFound (f : Found) : Type 0 where
     pub before : List ℕ
     pub key : ℕ
@@ -216,11 +220,13 @@ module _ (names : KeysymNames) (fresh : List ℕ) (old new : List Definition) (t
         };
       }))
 
+  -- all that the pass finds are candidates at nodes up to which the tables agree
   pub all_are_found : AllByRecursion IsFound (all_found names fresh old new (nodes old))
   all_are_found =
       all_append IsFound (map (found_at old []) (differing_starts names fresh old new)) (flat_map (found_behind names old new) (nodes old)) found_starts
       (all_flat IsFound (found_behind names old new) (nodes old) found_behind_node)
 
+  -- each candidate is among what the pass finds
   pub has_candidate : (p : List ℕ) (k : ℕ) → Candidate names fresh old new p k → Has (found_at old p k) (all_found names fresh old new (nodes old))
   has_candidate p k c = by c.key
     where
@@ -240,6 +246,7 @@ module _ (names : KeysymNames) (fresh : List ℕ) (old new : List Definition) (t
 
   -- ---- one that was found
 
+  -- what was found is a place: an old node up to which the tables agree, and a key there, not ignored, at which they differ
   pub place_of : (f : Found) → IsFound f → IsPlace names old new f
   place_of f h = record {
     in_range = (let e : f.node ≡ number_of old h.before = ap (λ (g : Found). g.node) h.is in let l = number_below old h.before h.candidate.clear.reached.node in omega arith);
@@ -310,6 +317,7 @@ module _ (names : KeysymNames) (fresh : List ℕ) (old new : List Definition) (t
       go true e number later = ap₂ (λ m ps. (m, number_of new (pending new x)) ∷ ps) number later
       go false e number later = cc
 
+  -- where nothing is found, the new table follows, and the pairs of the stands simulate
   pub none_is_follower : all_found names fresh old new (nodes old) ≡ [] → (pairs : List (ℕ × ℕ)) → pairs ≡ stand_pairs 0 (map (stand names old new) (nodes old)) → IsFollower names fresh old new pairs
   none_is_follower e pairs is =
       let f = follows_if_none e in

@@ -30,6 +30,7 @@ all_at P [] i d a h = absurd (omega arith)
 all_at P (x ∷ xs) zero d a h = a.0
 all_at P (x ∷ xs) (suc i) d a h = all_at P xs i d a.1 (omega arith)
 
+-- in a strictly sorted list the element at an index is found at that index
 pub index_is : (xs : List (List ℕ)) (i : ℕ) → IsStrictlySortedBy (slice_cmp nat_cmp) xs → i < length xs → position_or_len (same (get_or xs i [])) xs ≡ i
 unfolding IsStrictlySortedBy
 index_is [] i s h = absurd (omega arith)
@@ -42,11 +43,13 @@ index_is (x ∷ xs) (suc i) s h =
 pub number_at_node : (table : List Definition) (i : ℕ) → i < length (nodes table) → number_of table (node table i) ≡ i
 number_at_node table i h = index_is (nodes table) i (nodes_sorted table) h
 
+-- the element at an index within a list is in the list
 pub any_at : (xs : List (List ℕ)) (i : ℕ) → i < length xs → list_any (same (get_or xs i [])) xs ≡ true
 any_at [] i h = absurd (omega arith)
 any_at (x ∷ xs) zero h = or_left (same x x) (list_any (same x) xs) (same_from x x refl)
 any_at (x ∷ xs) (suc i) h = or_right (same (get_or xs i []) x) (list_any (same (get_or xs i [])) xs) (any_at xs i (omega arith))
 
+-- the list with a number below the count of nodes is a node
 pub node_is_node : (table : List Definition) (i : ℕ) → i < length (nodes table) → is_node table (node table i) ≡ true
 node_is_node table i h = any_at (nodes table) i h
 
@@ -54,6 +57,7 @@ node_is_node table i h = any_at (nodes table) i h
 pub root_at_zero : (table : List Definition) (i : ℕ) → i ≡ 0 → node table i ≡ []
 root_at_zero table i e = ap (node table) e ∙ node_zero table
 
+-- a node whose number is not 0 has a keysym
 pub not_root : (table : List Definition) (i : ℕ) → i < length (nodes table) → i == 0 ≡ false → is_empty (node table i) ≡ false
 not_root table i h e = elim (cases_Bool (is_empty (node table i))) [
   | inl f ↦ absurd (

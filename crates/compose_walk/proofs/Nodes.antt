@@ -34,6 +34,7 @@ found_more f q xs i x start before after h b a =
     a ∙ ap (λ ys. ys ++ map f (filter q (x ∷ []))) b ∙ append_assoc start (map f (filter q (take i xs))) (map f (filter q (x ∷ [])))
     ∙ ap (λ ys. start ++ ys) (sym (map-append f (filter q (take i xs)) (filter q (x ∷ []))) ∙ ap (map f) (sym (filter-append q (take i xs) (x ∷ [])) ∙ ap (filter q) (sym (taken_more xs i x h))))
 
+-- what is read at an index within a list is the element there
 pub slice_get_at : (xs : List ℕ) (i : ℕ) → i < length xs → slice_get xs i ≡ Some (get_or xs i 0)
 slice_get_at [] i h = absurd (omega arith)
 slice_get_at (x ∷ xs) zero h = refl
@@ -155,6 +156,7 @@ module _ (names : KeysymNames) (old new : List Definition) (sound : is_table old
     pub parent : s.parent.0 ≡ number_of old (without_last p)
     pub keysym : s.keysym ≡ last_key p
 
+  -- the stand of an old node tells what is pending in the new table after it, and the node and the key that lead to it
   pub standing : (p : List ℕ) (s : Stand) → stand names old new p ≡ Some s → Standing p s
   standing p s e = go (agrees names old new p) refl e
     where
@@ -177,6 +179,7 @@ module _ (names : KeysymNames) (old new : List Definition) (sound : is_table old
           }
       go false a h = cc
 
+  -- an old node without a stand is one up to which the tables do not agree
   pub dark : (p : List ℕ) → stand names old new p ≡ None → agrees names old new p ≡ false
   dark p e = go (agrees names old new p) e
     where

@@ -224,6 +224,7 @@ module _ (names : KeysymNames) (fresh : List ℕ) (old new : List Definition) (t
       All-permutation WasFound (all_found names fresh old new (nodes old)) xs moved
       (All-from_recursion WasFound (all_found names fresh old new (nodes old)) (all_are_found names fresh old new t_old t_new are))
 
+  -- in whatever order all that is found is put, each is a place at which the tables first differ
   pub all_placed : (xs : List Found) → IsPermutation (all_found names fresh old new (nodes old)) xs → All (IsPlace names old new) xs
   all_placed xs moved k d low = place_of names fresh old new t_old t_new are (get_or xs k d) (all_ordered xs moved k d low)
 

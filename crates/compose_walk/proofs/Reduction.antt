@@ -14,6 +14,7 @@ use Rattle.compose_model.proofs.Reached.{IsReached, root_reached, reached_more, 
 
 -- ---- agreement at one key
 
+-- a list that tests as empty has no keysyms
 pub empty_is : (u : List ℕ) → is_empty u ≡ true → u ≡ []
 empty_is [] h = refl
 empty_is (k ∷ u) h = cc
@@ -50,9 +51,11 @@ module _ (names : KeysymNames) (fresh : List ℕ) (old new : List Definition) wh
     pub reached : IsReached old p
     pub along : AgreeAlong names old new [] [] p
 
+  -- the tables agree along no keys at all, after which nothing is pending
   pub root_clear : Clear []
   root_clear = record { reached = root_reached old; along = tt }
 
+  -- where the tables agree along a node, and at a key by which the old table goes on, they agree along the node with that key
   pub clear_more : (p : List ℕ) (k : ℕ) → Clear p → effect old p k ≡ extends → Agrees (step names old p k) (step names new (pending new p) k) → Clear (p ++ k ∷ [])
   clear_more p k c e a = record {
     reached = reached_more old p k c.reached e;

@@ -26,6 +26,7 @@ use Rattle.compose_walk.proofs.NodeNumbers.{on_nodes, set_node}
 
 -- ---- the steps of the program differ as the model's do
 
+-- a node has the number 0 exactly where it is the root
 pub zero_test : (table : List Definition) (q : List ℕ) → is_node table q ≡ true → number_of table q == 0 ≡ is_empty q
 zero_test table [] h = eq-eqb (number_of table []) 0 (root_number table)
 zero_test table (k ∷ q) h = elim (cases_Bool (number_of table (k ∷ q) == 0)) [
@@ -33,6 +34,7 @@ zero_test table (k ∷ q) h = elim (cases_Bool (number_of table (k ∷ q) == 0))
   | inr e ↦ e
 ]
 
+-- steps of the program differ in the kind in which those of the model differ, or neither do
 pub differ_alike : (names : KeysymNames) (old new : List Definition) (p v : List ℕ) (k : ℕ) (a b : KeyStep) → is_node old p ≡ true → is_node new v ≡ true → IsStep names old p k a
     → IsStep names new v k b
     → option_map kind_of (difference_of a b) ≡ difference (step names old p k) (step names new v k)
@@ -84,6 +86,7 @@ last_push [] k = refl
 last_push (j ∷ []) k = refl
 last_push (j ∷ i ∷ p) k = last_push (i ∷ p) k
 
+-- a list that is not empty is the list without its last key, and then that key
 pub pushed : (q : List ℕ) → is_empty q ≡ false → q ≡ without_last q ++ last_key q ∷ []
 pushed [] h = cc
 pushed (k ∷ []) h = refl
@@ -93,6 +96,7 @@ push_some : (p : List ℕ) (k : ℕ) → is_empty (p ++ k ∷ []) ≡ false
 push_some [] k = refl
 push_some (j ∷ p) k = refl
 
+-- a node without its last key is a node
 pub prefix_node : (table : List Definition) (q : List ℕ) → is_node table q ≡ true → is_node table (without_last q) ≡ true
 prefix_node table [] h = root_is_node table
 prefix_node table (k ∷ q) h = shorter_node table (without_last (k ∷ q)) (last_key (k ∷ q) ∷ []) (ap (is_node table) (sym (pushed (k ∷ q) refl)) ∙ h)
@@ -109,6 +113,7 @@ module _ (names : KeysymNames) (old new : List Definition) where
       (agrees_from names old new (pending_from old u (k ∷ w)) (pending_from new v (k ∷ w)) x))
 
   module _ (t_old : is_table old ≡ true) where
+    -- the tables agree along one key more exactly where they agree so far and do not differ at it
     pub agrees_push : (p : List ℕ) (k : ℕ) → is_node old p ≡ true → agrees names old new (p ++ k ∷ []) ≡ agrees names old new p && not (differs_at names old new p k)
     agrees_push p k h =
         agrees_from-append [] [] p (k ∷ [])

@@ -22,10 +22,12 @@ use Rattle.compose_walk.proofs.Nodes.{found_more}
 
 -- ---- the roots
 
+-- a table has at least one node
 pub root_below : (table : List Definition) → 0 < length (nodes table)
 root_below table = let r = root_first table in let n : length (nodes table) ≡ suc (length r.0) = ap length r.1 in omega arith
 
 module _ (names : KeysymNames) (fresh : List ℕ) (old new : List Definition) (k : ℕ) where
+  -- a key that leads somewhere from the old root is no differing start
   pub known_start : (t : Option Target) → t ≡ target_of old (node old 0) k → is_some t ≡ true → false ≡ is_differing_start names fresh old new k
   known_start None e s = cc
   known_start (Some t) e s =
@@ -43,6 +45,7 @@ module _ (names : KeysymNames) (fresh : List ℕ) (old new : List Definition) (k
           ap (λ p. has_edge old p k) (sym (node_zero old)) ∙ edge_extends old (node old 0) k
           ∙ or_from (is_extended old (node old 0 ++ k ∷ [])) (is_sequence old (node old 0 ++ k ∷ [])) l.extended l.sequence
 
+  -- a fresh keysym is no differing start
   pub fresh_start : has_key fresh k ≡ true → false ≡ is_differing_start names fresh old new k
   fresh_start h = sym (ap (λ b. not (has_edge old [] k) && (not b && differs_at names old new [] k)) h ∙ and_none (not (has_edge old [] k)))
     where
@@ -50,6 +53,7 @@ module _ (names : KeysymNames) (fresh : List ℕ) (old new : List Definition) (k
       and_none true = refl
       and_none false = refl
 
+  -- a keysym that is not fresh and leads nowhere from the old root is a differing start exactly where the steps at rest differ
   pub other_start : target_of old (node old 0) k ≡ None → has_key fresh k ≡ false → (a b : KeyStep) → IsStep names old (node old 0) k a → IsStep names new (node new 0) k b
       → is_some (difference_of a b) ≡ is_differing_start names fresh old new k
   other_start e f a b sa sb =
@@ -58,6 +62,7 @@ module _ (names : KeysymNames) (fresh : List ℕ) (old new : List Definition) (k
       ∙ ap (λ p. differs_at names old new p k) (node_zero old)
       ∙ sym (ap (λ x. not x && (not (has_key fresh k) && differs_at names old new [] k)) (no_edge e) ∙ ap (λ x. not x && differs_at names old new [] k) f)
 
+-- an option that tests as holding nothing is none
 pub none_of : {X : Type 0} (o : Option X) → is_some o ≡ false → o ≡ None
 none_of None h = refl
 none_of (Some x) h = cc
@@ -69,6 +74,7 @@ module _ (names : KeysymNames) (fresh : List ℕ) (old new : List Definition) (i
   at_root : slice_get (edges new []) index ≡ Some k
   at_root = ap (λ p. slice_get (edges new p) index) (sym (node_zero new)) ∙ at
 
+  -- a differing start is added to those found so far, as the key at the root
   pub start_found : is_differing_start names fresh old new k ≡ true → (f : Found) → f.depth ≡ 0 → f.node ≡ 0 → f.keysym ≡ k → (after : List Found) → after ≡ before ++ f ∷ []
       → after ≡ map (found_at old []) (filter (is_differing_start names fresh old new) (take (index + 1) (edges new [])))
   start_found d f ed en ek after a =
@@ -78,11 +84,13 @@ module _ (names : KeysymNames) (fresh : List ℕ) (old new : List Definition) (i
       is : f ≡ found_at old [] k
       is i = record { depth = ed i; node = (en ∙ sym (root_number old)) i; keysym = ek i }
 
+  -- an edge of the new root that is no differing start adds nothing to those found so far
   pub start_passed : is_differing_start names fresh old new k ≡ false → before ≡ map (found_at old []) (filter (is_differing_start names fresh old new) (take (index + 1) (edges new [])))
   start_passed d =
       found_more (found_at old []) (is_differing_start names fresh old new) (edges new []) index k [] before before at_root found
       (sym (append-nil before) ∙ ap (λ b. before ++ map (found_at old []) (cond b (k ∷ []) [])) (sym d))
 
+-- past the last edge of the new root, all differing starts are found
 pub starts_all : (names : KeysymNames) (fresh : List ℕ) (old new : List Definition) (index : ℕ) → length (edges new (node new 0)) ≤ index
     → map (found_at old []) (filter (is_differing_start names fresh old new) (take index (edges new []))) ≡ map (found_at old []) (differing_starts names fresh old new)
 starts_all names fresh old new index h =

@@ -32,17 +32,21 @@ module _ (names : KeysymNames) (table : List Definition) (p : List ℕ) (k : ℕ
     next = n ∙ sym (ap (λ y. number_of table (pending_by y p k)) e);
   }
 
+  -- a step to a node neither cancels nor commits anything, and that node is pending after it
   pub step_to_node : (n : NodeId) → Some (Node n) ≡ target_of table p k → (s : KeyStep) → s.cancels ≡ false → text_bytes s.text ≡ [] → s.next.0 ≡ n.0 → IsStep names table p k s
   step_to_node n h s c t m = step_by extends (effect_of (Some (Node n)) h) s c t (m ∙ sym (leads_to (Some (Node n)) h).number)
 
+  -- a step to a leaf commits its text and does not cancel, and nothing is pending after it
   pub step_to_leaf : (l : LeafId) (bytes : List ℕ) → Some (Leaf l) ≡ target_of table p k → leaf_text table l.0 ≡ Some bytes → (s : KeyStep) → s.cancels ≡ false → text_bytes s.text ≡ bytes
       → s.next.0 ≡ 0 → IsStep names table p k s
   step_to_leaf l bytes h found s c t m =
       step_by completes (effect_of (Some (Leaf l)) h) s c (t ∙ sym (ap (λ o. unwrap_or o []) (sym (leads_to (Some (Leaf l)) h).text ∙ found))) (m ∙ sym (root_number table))
 
+  -- a step from rest by a key that leads nowhere commits the key's own text, and nothing is pending after it
   pub step_at_rest : None ≡ target_of table p k → p ≡ [] → (s : KeyStep) → s.cancels ≡ false → text_bytes s.text ≡ text names k → s.next.0 ≡ 0 → IsStep names table p k s
   step_at_rest h at s c t m = step_by passes (effect_of None h ∙ ap (λ u. cond (is_empty u) passes cancels) at) s c t (m ∙ sym (root_number table))
 
+  -- a step by a key that leads nowhere from pending keysyms cancels, commits nothing, and leaves nothing pending
   pub step_breaks : None ≡ target_of table p k → is_empty p ≡ false → (s : KeyStep) → s.cancels ≡ true → text_bytes s.text ≡ [] → s.next.0 ≡ 0 → IsStep names table p k s
   step_breaks h at s c t m = step_by cancels (effect_of None h ∙ ap (λ b. cond b passes cancels) at) s c t (m ∙ sym (root_number table))
 

@@ -13,10 +13,13 @@ regrouped : (s keys word old new : List ℕ)
     ≡ s ++ (((line keys ++ line (codes "kind " ++ word)) ++ line (codes "old " ++ old)) ++ line (codes "new " ++ new))
 regrouped s keys word old new = simp append_assoc
 
-pub four_lines : (names : KeysymNames) (x : Evidence) (s a b c d e f g h word old new : List ℕ) → a ≡ s ++ keys_line names x.keys → b ≡ a ++ 10 ∷ codes "kind " → c ≡ b ++ word → word ≡ kind_word x.kind → d ≡ c ++ 10 ∷ codes "old "
+-- what is pushed for a piece of evidence, part by part, is its four lines behind what was there
+pub four_lines : (names : KeysymNames) (x : Evidence) (s a b c d e f g h word old new : List ℕ) → a ≡ s
+    ++ keys_line names x.keys → b ≡ a ++ 10 ∷ codes "kind " → c ≡ b ++ word → word ≡ kind_word x.kind → d ≡ c ++ 10 ∷ codes "old "
     → e ≡ d ++ quote old → old ≡ x.old_text → f ≡ e ++ 10 ∷ codes "new " → g ≡ f ++ quote new → new ≡ x.new_text → h ≡ g ++ 10 ∷ [] → h ≡ s ++ explained names x
 four_lines names x s a b c d e f g h word old new ea eb ec ew ed ee eo ef eg en eh =
-    eh ∙ ap (λ y. y ++ 10 ∷ []) (eg ∙ ap (λ y. f ++ quote y) en ∙ ap (λ y. y ++ quote x.new_text) (ef ∙ ap (λ y. y ++ 10 ∷ codes "new ") (ee ∙ ap (λ y. d ++ quote y) eo ∙ ap (λ y. y ++ quote x.old_text)
+    eh ∙ ap (λ y. y ++ 10 ∷ []) (eg ∙ ap (λ y. f ++ quote y) en
+    ∙ ap (λ y. y ++ quote x.new_text) (ef ∙ ap (λ y. y ++ 10 ∷ codes "new ") (ee ∙ ap (λ y. d ++ quote y) eo ∙ ap (λ y. y ++ quote x.old_text)
     (ed ∙ ap (λ y. y ++ 10 ∷ codes "old ") (ec ∙ ap (λ y. b ++ y) ew ∙ ap (λ y. y ++ kind_word x.kind) (eb ∙ ap (λ y. y ++ 10 ∷ codes "kind ") ea))))))
     ∙ regrouped s (keys_line names x.keys) (kind_word x.kind) (quote x.old_text) (quote x.new_text)
 
@@ -30,4 +33,5 @@ pub counts : (xs : List Evidence) (s h : List ℕ) (word : List ℕ) (t c w : �
     → h ≡ s ++ (decimal (length xs) ++ 32 ∷ (word ++ (codes ": " ++ (decimal t ++ (codes " text, " ++ (decimal c ++ (codes " cancelled, " ++ (decimal w ++ (codes " waiting" ++ 10 ∷ [])))))))))
     → h ≡ s ++ count_line xs
 counts xs s h word t c w ew et ec ecw e =
-    rw (ew, et, ec, ecw) at (e ∙ words_regrouped s (decimal (length xs)) word (decimal t) (decimal c) (decimal w) (32 ∷ []) (codes ": ") (codes " text") (codes ", ") (codes " cancelled") (codes " waiting"))
+    rw (ew, et, ec, ecw) at (e ∙ words_regrouped s (decimal (length xs)) word (decimal t) (decimal c)
+    (decimal w) (32 ∷ []) (codes ": ") (codes " text") (codes ", ") (codes " cancelled") (codes " waiting"))

@@ -52,6 +52,7 @@ module _ (names : KeysymNames) (old new : List Definition) (sound : is_table old
   some_stand xs e o r =
       r ∙ ap (λ ys. get_or ys i o) e ∙ get_or-map (stand names old new) (nodes old) i [] o in_range
 
+  -- a node up to which the tables agree has a stand
   pub is_there : is_some (stand names old new (node old i)) ≡ true
   is_there =
       ap
@@ -78,15 +79,18 @@ module _ (names : KeysymNames) (old new : List Definition) (sound : is_table old
     before_is : node old s.parent.0 ≡ without_last (node old i)
     before_is = ap (node old) said.parent ∙ node_at_number old (without_last (node old i)) (prefix_node old (node old i) here)
 
+    -- the node that leads to a node has the lesser number
     pub parent_below : s.parent.0 < i
     parent_below =
         let less = parent_before old (without_last (node old i)) (last_key (node old i)) (prefix_node old (node old i) here) (ap (is_node old) (sym (pushed (node old i) some_key)) ∙ here) in
         let at_i : number_of old (without_last (node old i) ++ last_key (node old i) ∷ []) ≡ i = ap (number_of old) (sym (pushed (node old i) some_key)) ∙ number_at_node old i in_range in
         let from : s.parent.0 ≡ number_of old (without_last (node old i)) = said.parent in omega arith
 
+    -- the number of the node that leads to a node is below the count of nodes
     pub parent_in_range : s.parent.0 < length (nodes old)
     parent_in_range = let less = parent_below in omega arith
 
+    -- the tables agree up to the node that leads to one up to which they agree
     pub parent_agrees : agrees names old new (node old s.parent.0) ≡ true
     parent_agrees =
         ap (agrees names old new) before_is
@@ -94,6 +98,7 @@ module _ (names : KeysymNames) (old new : List Definition) (sound : is_table old
         (sym (agrees_push names old new sound (without_last (node old i)) (last_key (node old i)) (prefix_node old (node old i) here)) ∙ ap (agrees names old new) (sym (pushed (node old i) some_key))
         ∙ agree)).0
 
+    -- keys that begin with a node begin with the node that leads to it, and go on with the key by which it does
     pub one_back : (whole keys : List ℕ) → whole ≡ node old i ++ keys → whole ≡ node old s.parent.0 ++ s.keysym ∷ keys
     one_back whole keys e =
         e ∙ ap (λ p. p ++ keys) (pushed (node old i) some_key) ∙ append_assoc (without_last (node old i)) (last_key (node old i) ∷ []) keys
@@ -116,9 +121,11 @@ module _ (names : KeysymNames) (old new : List Definition) (sound : is_table old
 
 module _ (names : KeysymNames) (old new : List Definition) (p v : List ℕ) (k : ℕ) (hp : is_node old p ≡ true) (hv : is_node new v ≡ true) (together : v ≡ pending new p) (a b : KeyStep)
     (old_step : IsStep names old p k a) (new_step : IsStep names new v k b) where
+  -- where the tables differ at a key, the two steps of the program differ
   pub some_difference : differs_at names old new p k ≡ true → is_some (difference_of a b) ≡ true
   some_difference d = differs_alike names old new p v k a b hp hv together old_step new_step ∙ d
 
+  -- evidence with the node and the key as its keys, the kind in which the steps differ, and their texts is that of this place
   pub evidence_is : (x : Evidence) → x.keys ≡ p ++ k ∷ [] → ((found : Found_kind) → difference_of a b ≡ Some found → x.kind ≡ kind_of found) → x.old_text ≡ text_bytes a.text
       → x.new_text ≡ text_bytes b.text
       → (kind : Kind) → difference_at names old new p k ≡ Some kind → x ≡ evidence names old new p k kind
@@ -138,6 +145,7 @@ module _ (names : KeysymNames) (old new : List Definition) (p v : List ℕ) (k :
 -- ---- all evidence
 
 module _ (names : KeysymNames) (old new : List Definition) where
+  -- evidence that is right for the kind in which the tables differ at a place is the evidence of what was found there
   pub told : (f : Found) → IsPlace names old new f → (x : Evidence)
       → ((kind : Kind) → difference_at names old new (node old f.node) f.keysym ≡ Some kind → x ≡ evidence names old new (node old f.node) f.keysym kind) → x ≡ evidence_found names old new f
   told f place x e = go (difference_at names old new (node old f.node) f.keysym) refl place.differ

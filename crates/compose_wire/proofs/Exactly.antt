@@ -15,6 +15,7 @@ module _ (held held' : List ℕ) where
   frame_or_fault : (q : RequestValue) (more : List ℕ) → Fits q → held ≡ frame q ++ more → (fault : Fault) → fault_at held ≡ Some fault → ⊥
   frame_or_fault q more f e fault w = let n : None ≡ Some fault = sym (no_fault q more f) ∙ ap fault_at (sym e) ∙ w in cc
 
+  -- held bytes that begin with a frame give its request, or nothing where a load wants memory
   pub gives_request : (r : Result (Option Request) WireFault) → Gives r held held' → (q : RequestValue) (more : List ℕ) → Fits q → held ≡ frame q ++ more → GivesRequest q more r held'
   gives_request (Ok (Some p)) so q more f e = one_frame _ q held' more so.0 f (sym so.1 ∙ e)
   gives_request (Ok None) so q more f e = absurd (so.0.no_frame (q, more, f, e))
@@ -25,6 +26,7 @@ module _ (held held' : List ℕ) where
       let same = one_frame so.0.0 q so.0.1 more so.0.2 f (sym so.0.4 ∙ e) in
       (subst (λ (p : RequestValue). IsLoaded p.body) same.0 so.0.3, so.1 ∙ e)
 
+  -- held bytes that begin with a fault give that fault
   pub gives_fault : (r : Result (Option Request) WireFault) → Gives r held held' → (fault : Fault) → fault_at held ≡ Some fault → r ≡ Err (wire_fault fault)
   gives_fault (Ok (Some p)) so fault w = absurd (frame_or_fault _ held' so.0 so.1 fault w)
   gives_fault (Ok None) so fault w = let n : None ≡ Some fault = sym so.0.no_fault ∙ w in cc
@@ -33,6 +35,7 @@ module _ (held held' : List ℕ) where
   gives_fault (Err TooLong) so fault w = let n : Some _ ≡ Some fault = sym so.0 ∙ w in cc
   gives_fault (Err NoMemory) so fault w = absurd (frame_or_fault so.0.0 so.0.1 so.0.2 so.0.4 fault w)
 
+  -- held bytes that are less than a frame, and have no fault, give nothing
   pub gives_none : (r : Result (Option Request) WireFault) → Gives r held held' → IsBegun held → r ≡ Ok None
   gives_none (Ok (Some p)) so b = absurd (b.no_frame (_, held', so.0, so.1))
   gives_none (Ok None) so b = refl

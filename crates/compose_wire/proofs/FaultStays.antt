@@ -17,6 +17,7 @@ length_stays rest more l =
     let long : 4 ≤ length (drop 4 rest) = omega (arith, length-drop 4 rest) in
     ap (take 4) (drop-append-le 4 rest more (omega arith)) ∙ take-append-le 4 (drop 4 rest) more long
 
+-- the fault that bytes begin with stays where more bytes come
 pub fault_stays : (held more : List ℕ) (fault : Fault) → fault_at held ≡ Some fault → fault_at (held ++ more) ≡ Some fault
 unfolding told
 fault_stays [] more fault e = cc

@@ -38,6 +38,7 @@ module _ (q : Request) (more : List ℕ) (f : Fits q) where
     is = ap₂ (λ (r : Request) (x : List ℕ). frame r ++ x) (sym request_again) (sym rest_again);
   }
 
+-- the request with whose frame held bytes begin is the one that is read of them
 pub is_read : (held : List ℕ) → BeginsWithFrame held → IsRead held
 is_read held b = subst (λ (h : List ℕ). IsRead h) (sym b.3) (read_again b.0 b.1 b.2)
 
@@ -63,6 +64,7 @@ module _ (h : List ℕ) (n session : ℕ) (body : Body) (sized : IsSize (Ok (Som
         let same_body : body ≡ body_at (get_or h 0 0) (take (size_said h) (drop 9 h)) = says ∙ ap (λ m. body_at (get_or h 0 0) (take m (drop 9 h))) sized.1 in
         λ i. record { session = same_session i; body = same_body i }
 
+    -- what is read behind the size of a whole frame is its request, and the bytes begin with that frame
     pub first_stands : Fits (record { session = session; body = body }) × (h ≡ frame (record { session = session; body = body }) ++ drop (9 + n) h) × (9 + n ≤ length h)
     first_stands =
         let r = is_read h sized.0 in (

@@ -7,6 +7,7 @@ use Rattle.compose_wire.specs.Messages.{Body, open_session, key, reset, close, l
 use Rattle.compose_wire.specs.Frames.{frame, kind_of, payload}
 use Rattle.compose_wire.specs.Feeding.{body_at}
 
+-- the body of a request that fits is read back from its kind and payload
 pub body_again : (b : Body) → BodyFits b → body_at (kind_of b) (payload b) ≡ b
 body_again open_session f = refl
 body_again (key k) f = ap key (from_be_bytes-to_be_bytes_4 k f)
@@ -16,6 +17,7 @@ body_again (load Refuse bytes) f = refl
 body_again (load Longest bytes) f = refl
 body_again ask f = refl
 
+-- the length of a payload that fits has 32 bits
 pub payload_fits : (b : Body) → BodyFits b → length (payload b) < 2 ^ 32
 payload_fits open_session f = omega arith
 payload_fits (key k) f = omega arith
@@ -35,6 +37,7 @@ parted (i ∷ a) (j ∷ b) x y l e =
     let r = parted a b x y (omega arith) tails in
     (ap₂ (λ h t. h ∷ t) heads r.0, r.1)
 
+-- bytes begin with the frame of at most one request, and are the same behind it
 pub one_frame : (q r : Request) (x y : List ℕ) → Fits q → Fits r → frame q ++ x ≡ frame r ++ y → (q ≡ r) × (x ≡ y)
 one_frame q r x y f g e =
     let kinds : kind_of q.body ≡ kind_of r.body = cc in

@@ -50,5 +50,6 @@ module _ (h : List ℕ) (bytes : AreBytes h) (known : is_between 1 7 (get_or h 0
     right : option_map wire_fault (length_fault (get_or h 0 0) n) ≡ None → fault_at h ≡ None
     right e = head_decides h known head ∙ ap (length_fault (get_or h 0 0)) (sym said) ∙ none_before (length_fault (get_or h 0 0) n) e
 
+    -- where the length is right and so much payload is held, a whole frame stands
     pub whole_stands : option_map wire_fault (length_fault (get_or h 0 0) n) ≡ None → n ≤ length h - 9 → IsSize (Ok (Some n)) h
     whole_stands e fits = (frame_stands h bytes (right e) head (let s = said in omega arith), said, omega arith)

@@ -62,6 +62,7 @@ gives-push c k rows row new = ap (λ o. option_map_or (λ d. d == c) o false) (f
     by (Some d) e true same = absurd (none_is_not_some (sym new ∙ ap (first_character rows) (sym (eqb-true k row.value same)) ∙ e))
     by (Some d) e false same = unmoved (d == c) (row.character == c) (row.value == k) (flipped k row.value false same)
 
+-- a row with a value that no row has yet is no second one of it
 pub each_first-push : (rows : List CharacterRow) (row : CharacterRow) → first_character rows row.value ≡ None → IsEachFirst rows → IsEachFirst (rows ++ row ∷ [])
 each_first-push rows row new each = λ c k.
     list_any-append (is_entry c k) rows (row ∷ []) ∙ or-none (list_any (is_entry c k) rows) (is_entry c k row)
@@ -128,5 +129,6 @@ character_rows-insert m row new =
 pub with_character-new : (rows : List CharacterRow) (k c : ℕ) → first_character rows k ≡ None → with_character rows k c ≡ rows ++ record { value = k; character = c } ∷ []
 with_character-new rows k c new = ap (λ o. cond (is_some o) rows (rows ++ record { value = k; character = c } ∷ [])) new
 
+-- a keysym that has a character keeps it
 pub with_character-known : (rows : List CharacterRow) (k c : ℕ) → is_some (first_character rows k) ≡ true → with_character rows k c ≡ rows
 with_character-known rows k c known = ap (λ b. cond b rows (rows ++ record { value = k; character = c } ∷ [])) known

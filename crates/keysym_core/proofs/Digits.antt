@@ -28,6 +28,7 @@ short_digits (suc k) (suc room) upper n acc small more =
     shorter (nat_eq (n / 16) 0) (digit_glyph upper (n % 16) ∷ acc) _ _ (λ _. omega arith)
     (λ _. let fewer = short_digits k room upper (n / 16) (digit_glyph upper (n % 16) ∷ acc) (quotient-lt n k small) (omega arith) in omega (arith, fewer))
 
+-- a number below 16 to the power of k + 1 has at most k + 1 hexadecimal digits
 pub length-digits-le : (k n : ℕ) (upper : Bool) → n < 16 ^ (k + 1) → k < 64 → length (digits 16 upper n) ≤ k + 1
 unfolding digits
 length-digits-le k n upper small more = omega (arith, short_digits k 64 upper n [] small more)
@@ -42,6 +43,7 @@ pub all_digits-zeros : (count : ℕ) (ds : List ℕ) → AllDigits 16 ds → All
 all_digits-zeros zero ds h = h
 all_digits-zeros (suc count) ds h = (omega arith, all_digits-zeros count ds h)
 
+-- at most n digits padded to four are from four to n, where n is at least four
 pub length-at_least_four : (ds : List ℕ) (n : ℕ) → length ds ≤ n → 4 ≤ n → (4 ≤ length (at_least_four ds)) × (length (at_least_four ds) ≤ n)
 length-at_least_four ds n few room =
     let all : length (at_least_four ds) ≡ 4 - length ds + length ds = length-append (replicate (4 - length ds) 48) ds ∙ ap (λ m. m + length ds) (length-replicate (4 - length ds) 48) in

@@ -24,7 +24,8 @@ graphic_none c h = ap (λ t. cond t (Some c) None) (not-true (is_graphic c) h)
 abbrev number_if : Bool → List ℕ → Option ℕ
 number_if begun digits = cond (begun && is_hexadecimal 4 6 digits) (graphic_character (hexadecimal digits)) None
 
-number_read : (digits others : List ℕ) → is_hexadecimal 4 6 digits ≡ true → begins is_hexadecimal_digit others ≡ false → numbered_character (codes "U+" ++ (digits ++ others)) ≡ graphic_character (hexadecimal digits)
+number_read : (digits others : List ℕ) → is_hexadecimal 4 6 digits ≡ true → begins is_hexadecimal_digit others
+    ≡ false → numbered_character (codes "U+" ++ (digits ++ others)) ≡ graphic_character (hexadecimal digits)
 number_read digits others h stops =
     let all : list_all is_hexadecimal_digit digits ≡ true = (and_parts (is_between 4 6 (length digits)) (list_all is_hexadecimal_digit digits) h).1 in
     ap (λ t. number_if t (run is_hexadecimal_digit (digits ++ others))) (starts (codes "U+") (digits ++ others))
@@ -80,7 +81,8 @@ noted_said text c e =
     let tests = and_parts (begins_with (codes "U+") marked) (is_hexadecimal 4 6 digits) s.0 in
     let g = graphic_said (hexadecimal digits) c s.1 in
     let bytes : text ≡ run is_blank text ++ (o.0 ++ (codes "U+" ++ (digits ++ others))) =
-    parts_of is_blank text ∙ ap (λ t. run is_blank text ++ t) (o.2 ∙ ap (λ t. o.0 ++ t) (start_said (codes "U+") marked tests.0 ∙ ap (λ t. codes "U+" ++ t) (parts_of is_hexadecimal_digit (drop 2 marked)))) in (
+    parts_of is_blank text ∙ ap (λ t. run is_blank text ++ t)
+    (o.2 ∙ ap (λ t. o.0 ++ t) (start_said (codes "U+") marked tests.0 ∙ ap (λ t. codes "U+" ++ t) (parts_of is_hexadecimal_digit (drop 2 marked)))) in (
       record {
         blanks = run is_blank text;
         opening = o.0;
@@ -105,6 +107,7 @@ no_character n e = go (is_graphic n) refl
     go false g = refl
     go true g = let s = graphic_some n g in cc
 
+-- the character that is read of a comment's text is the one that the text notes
 pub character_said : (text : List ℕ) → NotesCharacter text (noted_character text)
 character_said text = go (noted_character text) refl
   where
@@ -116,6 +119,7 @@ not_both : (t : Bool) → t ≡ true → not t ≡ true → ⊥
 not_both true e n = cc
 not_both false e n = cc
 
+-- the character that a comment's text notes is the one that is read of it
 pub character_read : (text : List ℕ) (character : Option ℕ) → NotesCharacter text character → noted_character text ≡ character
 character_read text (Some c) n = noted_read text c n.0 ∙ graphic_some c n.1
 character_read text None n = go (noted_character text) refl

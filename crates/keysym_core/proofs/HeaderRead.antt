@@ -108,9 +108,11 @@ name_read name blanks number named blank stops begun =
 define_read : (bytes : List ℕ) → entry_said (define ++ bytes) ≡ entry_of bytes
 define_read bytes = ap (λ t. cond t (entry_of (drop (length define) (define ++ bytes))) None) (starts define bytes) ∙ ap entry_of (drop-append_seam define bytes)
 
+-- seven parts in a row may be grouped from the right
 pub in_order : (a b c d e f g : List ℕ) → a ++ b ++ c ++ d ++ e ++ f ++ g ≡ a ++ (b ++ (c ++ (d ++ (e ++ (f ++ g)))))
 in_order a b c d e f g = simp append_assoc
 
+-- an entry that the grammar finds in a line is read of it
 pub line_read : (line : List ℕ) (entry : Entry) → DefinesEntry line entry → entry_said line ≡ Some entry
 line_read line entry d =
     let end = comment_bytes d.comment in
@@ -126,5 +128,6 @@ line_read line entry d =
     ∙ ap (λ v. let o : Option Entry = Some (record { name = entry.name; value = v; character = noted_character (unwrap_or d.comment []) }) in o) d.is_value
     ∙ ap (λ c. let o : Option Entry = Some (record { name = entry.name; value = entry.value; character = c }) in o) (noted d.comment entry.character d.is_character)
 
+-- a line defines at most one entry
 pub one_entry : (line : List ℕ) (a b : Entry) → DefinesEntry line a → DefinesEntry line b → a ≡ b
 one_entry line a b d e = let x = line_read line a d in let y = line_read line b e in cc

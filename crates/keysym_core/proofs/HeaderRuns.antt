@@ -9,6 +9,7 @@ use Rattle.compose_text.specs.Bytes.{begins}
 
 -- ---- bytes that pass, before one that doesn't
 
+-- bytes that all pass, before one that doesn't, are as long as the run
 pub run_length-all : (p : ℕ → Bool) (prefix rest : List ℕ) → list_all p prefix ≡ true → begins p rest ≡ false → run_length p (prefix ++ rest) ≡ length prefix
 run_length-all p [] [] all stops = refl
 run_length-all p [] (b ∷ rest) all stops = ap (λ t. cond (not (not t)) (1 + run_length p rest) 0) stops
@@ -16,14 +17,17 @@ run_length-all p (b ∷ prefix) rest all stops =
     let parts = and_parts (p b) (list_all p prefix) all in
     ap (λ t. cond (not (not t)) (1 + run_length p (prefix ++ rest)) 0) parts.0 ∙ ap (λ n. 1 + n) (run_length-all p prefix rest parts.1 stops) ∙ one-add (length prefix)
 
+-- bytes that all pass, before one that doesn't, are the run
 pub run_all : (p : ℕ → Bool) (prefix rest : List ℕ) → list_all p prefix ≡ true → begins p rest ≡ false → run p (prefix ++ rest) ≡ prefix
 run_all p prefix rest all stops = ap (λ n. take n (prefix ++ rest)) (run_length-all p prefix rest all stops) ∙ take-append_seam prefix rest
 
+-- behind bytes that all pass stands what begins with one that doesn't
 pub behind_all : (p : ℕ → Bool) (prefix rest : List ℕ) → list_all p prefix ≡ true → begins p rest ≡ false → behind_run p (prefix ++ rest) ≡ rest
 behind_all p prefix rest all stops = ap (λ n. drop n (prefix ++ rest)) (run_length-all p prefix rest all stops) ∙ drop-append_seam prefix rest
 
 -- ---- the run at the beginning of any bytes
 
+-- bytes are their first run and what stands behind it
 pub parts_of : (p : ℕ → Bool) (bytes : List ℕ) → bytes ≡ run p bytes ++ behind_run p bytes
 parts_of p bytes = sym (take-append-drop (run_length p bytes) bytes)
 
@@ -34,6 +38,7 @@ run_more p b bytes e = ap (λ t. cond (not (not t)) (1 + run_length p bytes) 0) 
 run_none : (p : ℕ → Bool) (b : ℕ) (bytes : List ℕ) → p b ≡ false → run_length p (b ∷ bytes) ≡ 0
 run_none p b bytes e = ap (λ t. cond (not (not t)) (1 + run_length p bytes) 0) e
 
+-- every byte of a run passes
 pub run_passes : (p : ℕ → Bool) (bytes : List ℕ) → list_all p (run p bytes) ≡ true
 run_passes p [] = refl
 run_passes p (b ∷ bytes) = go (p b) refl (run_passes p bytes)
@@ -42,6 +47,7 @@ run_passes p (b ∷ bytes) = go (p b) refl (run_passes p bytes)
     go true e h = ap (λ n. list_all p (take n (b ∷ bytes))) (run_more p b bytes e) ∙ and_from (p b) (list_all p (run p bytes)) e h
     go false e h = ap (λ n. list_all p (take n (b ∷ bytes))) (run_none p b bytes e)
 
+-- no byte that passes begins what stands behind a run
 pub behind_stops : (p : ℕ → Bool) (bytes : List ℕ) → begins p (behind_run p bytes) ≡ false
 behind_stops p [] = refl
 behind_stops p (b ∷ bytes) = go (p b) refl (behind_stops p bytes)
@@ -50,6 +56,7 @@ behind_stops p (b ∷ bytes) = go (p b) refl (behind_stops p bytes)
     go true e h = ap (λ n. begins p (drop n (b ∷ bytes))) (run_more p b bytes e) ∙ h
     go false e h = ap (λ n. begins p (drop n (b ∷ bytes))) (run_none p b bytes e) ∙ e
 
+-- a run has as many bytes as its length says
 pub length-run : (p : ℕ → Bool) (bytes : List ℕ) → length (run p bytes) ≡ run_length p bytes
 length-run p [] = refl
 length-run p (b ∷ bytes) = go (p b) refl (length-run p bytes)
@@ -60,9 +67,11 @@ length-run p (b ∷ bytes) = go (p b) refl (length-run p bytes)
 
 -- ---- a given start
 
+-- bytes put behind a start begin with it
 pub starts : (start rest : List ℕ) → begins_with start (start ++ rest) ≡ true
 starts start rest = (bytes_decides (take (length start) (start ++ rest)) start).1 (take-append_seam start rest)
 
+-- bytes that begin with a start are the start and what is left behind it
 pub start_said : (start bytes : List ℕ) → begins_with start bytes ≡ true → bytes ≡ start ++ drop (length start) bytes
 start_said start bytes h = sym (take-append-drop (length start) bytes) ∙ ap (λ t. t ++ drop (length start) bytes) ((bytes_decides (take (length start) bytes) start).0 h)
 

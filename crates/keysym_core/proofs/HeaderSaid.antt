@@ -104,6 +104,7 @@ from_parts line bytes blanks number entry v begun rest named blank =
       is_character = v.is_character;
     }
 
+-- an entry that is read of a line is one that the grammar finds in it
 pub line_said : (line : List ℕ) (entry : Entry) → entry_said line ≡ Some entry → DefinesEntry line entry
 line_said line entry e =
     let bytes = drop (length define) line in

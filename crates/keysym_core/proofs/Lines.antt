@@ -25,6 +25,7 @@ position-or_length p xs = by (nat_lt (position_or_len p xs) (length xs)) refl
 name_byte-ascii : (b : ℕ) → not (not (is_name_byte b)) ≡ true → b < 128
 name_byte-ascii b h = grind (arith, nat_tests)
 
+-- the bytes of a name are ASCII
 pub name-ascii : (bytes : List ℕ) → IsAscii (run is_name_byte bytes)
 name-ascii [] = IsAscii-nil
 name-ascii (b ∷ bytes) = by (not (not (is_name_byte b))) refl (name-ascii bytes)

@@ -103,6 +103,7 @@ addable_name : (o : Option ℕ) (agrees keysym : Bool) → (not (is_some o) && a
 addable_name None agrees keysym h = refl
 addable_name (Some v) agrees keysym h = absurd (true≢false (sym h))
 
+-- a row that may be added has a name that no row has yet
 pub addable_is_new : (rows : List NameRow) (row : NameRow) → is_addable rows row ≡ true → row_value rows row.name ≡ None
 addable_is_new rows row h = addable_name (row_value rows row.name) (agrees_with_form row) (is_keysym row.value) h
 
@@ -112,6 +113,7 @@ addable_form true true keysym h = refl
 addable_form true false keysym h = h
 addable_form false agrees keysym h = absurd (true≢false (sym h))
 
+-- a row that may be added agrees with what its name's form says
 pub addable_agrees : (rows : List NameRow) (row : NameRow) → is_addable rows row ≡ true → agrees_with_form row ≡ true
 addable_agrees rows row h = addable_form (not (is_some (row_value rows row.name))) (agrees_with_form row) (is_keysym row.value) h
 
@@ -121,6 +123,7 @@ last_of_three true true keysym h = h
 last_of_three true false keysym h = absurd (true≢false (sym h))
 last_of_three false agrees keysym h = absurd (true≢false (sym h))
 
+-- a row that may be added has a keysym for its value
 pub addable_is_keysym : (rows : List NameRow) (row : NameRow) → is_addable rows row ≡ true → row.value ≤ max_keysym
 addable_is_keysym rows row h = leb-true row.value max_keysym (last_of_three (not (is_some (row_value rows row.name))) (agrees_with_form row) (is_keysym row.value) h)
 
@@ -129,6 +132,7 @@ both_parts : (a b : Bool) → (a && b) ≡ true → (a ≡ true) × (b ≡ true)
 both_parts true b h = (refl, h)
 both_parts false b h = absurd (true≢false (sym h))
 
+-- of rows that may all be added, the first may be, and then the others
 pub addable_first : (rows : List NameRow) (row : NameRow) (others : List NameRow) → are_addable rows (row ∷ others) ≡ true
     → (is_addable rows row ≡ true) × (are_addable (rows ++ row ∷ []) others ≡ true)
 addable_first rows row others h = both_parts (is_addable rows row) (are_addable (rows ++ row ∷ []) others) h
@@ -169,6 +173,7 @@ first_turn names left all row whole addable =
     let first = addable_first names row left addable in
     record { keysym = addable_is_keysym names row first.0; addable = first.0; whole = append_assoc names (row ∷ []) left ∙ whole; others = first.1 }
 
+-- of listed rows that may all be added, the next one is added and leaves those behind it
 pub turn : (names : List NameRow) (rows : List (Bor (List ℕ) × ℕ)) (i : ℕ) (d : Bor (List ℕ) × ℕ) → i < length rows
     → names ++ map listed_row (drop i rows) ≡ map listed_row rows → are_addable names (map listed_row (drop i rows)) ≡ true
     → Turn names (listed_row (get_or rows i d)) (map listed_row (drop (i + 1) rows)) (map listed_row rows)
@@ -222,6 +227,7 @@ pub record NamedAt (k at position : ℕ) (rows : List NameRow) : Type 0 where
   pub found : slice_get rows index ≡ Some row
   pub first : first_name rows k ≡ Some row.name
 
+-- the first index of a keysym is that of its first name
 pub named_index : (k at : ℕ) (rows : List NameRow) (position : ℕ) → index_from k at rows ≡ Some position → NamedAt k at position rows
 named_index k at [] position e = absurd (none_is_not_some e)
 named_index k at (row ∷ rows) position e = by (nat_eq k row.value) refl e (named_index k (at + 1) rows position)

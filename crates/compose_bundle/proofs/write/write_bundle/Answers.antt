@@ -7,7 +7,8 @@ use Rattle.compose_bundle.proofs.write.write_bundle.Goals as goal
 
 pub returns-in-Err-put_source : goal.returns-in-Err-put_source
 returns-in-Err-put_source c =
-    source_fails c.args.sources.now c.args.certificate.now c.loop-index.index c.in-Err-put_source.ensures.0 c.in-Err-put_source.fault c.loop-index.payload.items c.put_source.new.payload.items c.in-Err-put_source.ensures.1 c.loop-index.invariant.so_far c.in-Err-put_source.ensures.2
+    source_fails c.args.sources.now c.args.certificate.now c.loop-index.index c.in-Err-put_source.ensures.0 c.in-Err-put_source.fault
+    c.loop-index.payload.items c.put_source.new.payload.items c.in-Err-put_source.ensures.1 c.loop-index.invariant.so_far c.in-Err-put_source.ensures.2
 
 pub loop-index-preserved : goal.loop-index-preserved
 loop-index-preserved c =

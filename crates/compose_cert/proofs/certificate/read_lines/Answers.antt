@@ -9,5 +9,13 @@ pub invariant_of-result : goal.invariant_of-result
 invariant_of-result c =
     let found : Certificate = record { bound = c.in_ok-bound.bound; pairs = c.in_ok-pairs.pairs.items; typings = c.in_ok-typings.typings.items; fresh = c.in_ok-fresh.fresh.items } in
     let said : certificate_of c.args.bytes.now ≡ Ok found =
-    rw (c.in_ok-version.ensures, c.in_ok-bound.ensures.says (codes "bound") refl, c.in_ok-pair_count.ensures.says (codes "pairs") refl, c.in_ok-pairs.ensures, c.in_ok-typing_count.ensures.says (codes "typings") refl, c.in_ok-typings.ensures, c.in_ok-fresh.ensures) refl in
+    rw (
+      c.in_ok-version.ensures,
+      c.in_ok-bound.ensures.says (codes "bound") refl,
+      c.in_ok-pair_count.ensures.says (codes "pairs") refl,
+      c.in_ok-pairs.ensures,
+      c.in_ok-typing_count.ensures.says (codes "typings") refl,
+      c.in_ok-typings.ensures,
+      c.in_ok-fresh.ensures,
+    ) refl in
     is_counted-certificate found (read_is_spelled c.args.bytes.now found said).fits

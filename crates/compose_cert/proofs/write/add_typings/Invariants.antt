@@ -6,4 +6,5 @@ use Rattle.compose_cert.proofs.write.add_typings.Given as goal
 -- the text with the lines that are left is the whole, and the typings that are left are spelled where all of them are
 abbrev pub invariant-loop-typing : goal.invariant-loop-typing
 invariant-loop-typing l =
-    (string_bytes l.text ++ ended (map typing_text (drop l.typing-index l.typings)) ≡ string_bytes l.fn.text ++ ended (counted (codes "typings") (length l.typings) ∷ map typing_text l.typings)) × (list_all is_spelled (drop l.typing-index l.typings) ≡ list_all is_spelled l.typings)
+    (string_bytes l.text ++ ended (map typing_text (drop l.typing-index l.typings)) ≡ string_bytes l.fn.text ++ ended (counted (codes "typings") (length l.typings) ∷ map typing_text l.typings))
+    × (list_all is_spelled (drop l.typing-index l.typings) ≡ list_all is_spelled l.typings)

@@ -23,7 +23,8 @@ returns-in_err-take_turns g c =
     let first = g.S.Answer.state c.args.service.now in
     let accepted = c.accept_all.ensures unsent g.S.Answer.reading now first c.rounds.invariant in
     let ready =
-    still_goes_on unsent g.S.Answer.reading now c.accept_all.new.self.accepted c.mark_ready.new.self.accepted c.accept_all.new.self.slots.items c.mark_ready.new.self.slots.items c.mark_ready.ensures.0 c.mark_ready.ensures.1 first accepted
+    still_goes_on unsent g.S.Answer.reading now c.accept_all.new.self.accepted c.mark_ready.new.self.accepted
+    c.accept_all.new.self.slots.items c.mark_ready.new.self.slots.items c.mark_ready.ensures.0 c.mark_ready.ensures.1 first accepted
     in
     let turned = c.take_turns.ensures first ready in
     (turned.all, turned.after, turned.served)
@@ -35,8 +36,10 @@ rounds-preserved g c =
     let first = g.S.Answer.state c.args.service.now in
     let accepted = c.accept_all.ensures unsent g.S.Answer.reading now first c.rounds.invariant in
     let ready =
-    still_goes_on unsent g.S.Answer.reading now c.accept_all.new.self.accepted c.mark_ready.new.self.accepted c.accept_all.new.self.slots.items c.mark_ready.new.self.slots.items c.mark_ready.ensures.0 c.mark_ready.ensures.1 first accepted
+    still_goes_on unsent g.S.Answer.reading now c.accept_all.new.self.accepted c.mark_ready.new.self.accepted
+    c.accept_all.new.self.slots.items c.mark_ready.new.self.slots.items c.mark_ready.ensures.0 c.mark_ready.ensures.1 first accepted
     in
     still_goes_on unsent g.S.Answer.reading
-    (g.S.Answer.state c.take_turns.new.service) c.take_turns.new.self.accepted c.share_room.new.self.accepted c.take_turns.new.self.slots.items c.share_room.new.self.slots.items c.share_room.ensures.0 c.share_room.ensures.1 first
+    (g.S.Answer.state c.take_turns.new.service) c.take_turns.new.self.accepted c.share_room.new.self.accepted
+    c.take_turns.new.self.slots.items c.share_room.new.self.slots.items c.share_room.ensures.0 c.share_room.ensures.1 first
     (c.take_turns.ensures first ready)

@@ -34,13 +34,15 @@ loop-edge-init c =
 pub bounds-nodes-node : goal.bounds-nodes-node
 bounds-nodes-node c =
     let p =
-    put_at c.args.depths.now c.args.edges.now c.loop-edge.edge-index c.edge-item.result c.args.nodes.now c.loop-edge.packed.items c.loop-edge.counts.items c.requires.at_nodes c.loop-edge-test.true c.edge-item.is c.requires.nodes c.loop-edge.invariant.so_far c.loop-edge.invariant.counted in
+    put_at c.args.depths.now c.args.edges.now c.loop-edge.edge-index c.edge-item.result c.args.nodes.now c.loop-edge.packed.items c.loop-edge.counts.items
+    c.requires.at_nodes c.loop-edge-test.true c.edge-item.is c.requires.nodes c.loop-edge.invariant.so_far c.loop-edge.invariant.counted in
     omega (arith, p.at_node)
 
 pub overflow_add-offset : goal.overflow_add-offset
 overflow_add-offset c =
     let p =
-    put_at c.args.depths.now c.args.edges.now c.loop-edge.edge-index c.edge-item.result c.args.nodes.now c.loop-edge.packed.items c.loop-edge.counts.items c.requires.at_nodes c.loop-edge-test.true c.edge-item.is c.requires.nodes c.loop-edge.invariant.so_far c.loop-edge.invariant.counted in
+    put_at c.args.depths.now c.args.edges.now c.loop-edge.edge-index c.edge-item.result c.args.nodes.now c.loop-edge.packed.items c.loop-edge.counts.items
+    c.requires.at_nodes c.loop-edge-test.true c.edge-item.is c.requires.nodes c.loop-edge.invariant.so_far c.loop-edge.invariant.counted in
     let none : PackedNode = record { depth = 0; first = 0 } in
     let offset : (get_or c.args.nodes.now c.edge-item.result.node none).first + c.index-count.result.now ≡ p.q =
     ap (λ n. (get_or c.args.nodes.now c.edge-item.result.node none).first + n) c.index-count.ensures ∙ p.next none c.index-count.result.now in
@@ -49,7 +51,8 @@ overflow_add-offset c =
 pub index_mut-requires : goal.index_mut-requires
 index_mut-requires c =
     let p =
-    put_at c.args.depths.now c.args.edges.now c.loop-edge.edge-index c.edge-item.result c.args.nodes.now c.loop-edge.packed.items c.loop-edge.counts.items c.requires.at_nodes c.loop-edge-test.true c.edge-item.is c.requires.nodes c.loop-edge.invariant.so_far c.loop-edge.invariant.counted in
+    put_at c.args.depths.now c.args.edges.now c.loop-edge.edge-index c.edge-item.result c.args.nodes.now c.loop-edge.packed.items c.loop-edge.counts.items
+    c.requires.at_nodes c.loop-edge-test.true c.edge-item.is c.requires.nodes c.loop-edge.invariant.so_far c.loop-edge.invariant.counted in
     let none : PackedNode = record { depth = 0; first = 0 } in
     let offset : (get_or c.args.nodes.now c.edge-item.result.node none).first + c.index-count.result.now ≡ p.q =
     ap (λ n. (get_or c.args.nodes.now c.edge-item.result.node none).first + n) c.index-count.ensures ∙ p.next none c.index-count.result.now in
@@ -58,7 +61,8 @@ index_mut-requires c =
 pub overflow_add-count : goal.overflow_add-count
 overflow_add-count c =
     let p =
-    put_at c.args.depths.now c.args.edges.now c.loop-edge.edge-index c.edge-item.result c.args.nodes.now c.loop-edge.packed.items c.loop-edge.counts.items c.requires.at_nodes c.loop-edge-test.true c.edge-item.is c.requires.nodes c.loop-edge.invariant.so_far c.loop-edge.invariant.counted in
+    put_at c.args.depths.now c.args.edges.now c.loop-edge.edge-index c.edge-item.result c.args.nodes.now c.loop-edge.packed.items c.loop-edge.counts.items
+    c.requires.at_nodes c.loop-edge-test.true c.edge-item.is c.requires.nodes c.loop-edge.invariant.so_far c.loop-edge.invariant.counted in
     let none : PackedNode = record { depth = 0; first = 0 } in
     let offset : (get_or c.args.nodes.now c.edge-item.result.node none).first + c.index-count.result.now ≡ p.q =
     ap (λ n. (get_or c.args.nodes.now c.edge-item.result.node none).first + n) c.index-count.ensures ∙ p.next none c.index-count.result.now in
@@ -67,7 +71,8 @@ overflow_add-count c =
 pub loop-edge-preserved : goal.loop-edge-preserved
 loop-edge-preserved c =
     let p =
-    put_at c.args.depths.now c.args.edges.now c.loop-edge.edge-index c.edge-item.result c.args.nodes.now c.loop-edge.packed.items c.loop-edge.counts.items c.requires.at_nodes c.loop-edge-test.true c.edge-item.is c.requires.nodes c.loop-edge.invariant.so_far c.loop-edge.invariant.counted in
+    put_at c.args.depths.now c.args.edges.now c.loop-edge.edge-index c.edge-item.result c.args.nodes.now c.loop-edge.packed.items c.loop-edge.counts.items
+    c.requires.at_nodes c.loop-edge-test.true c.edge-item.is c.requires.nodes c.loop-edge.invariant.so_far c.loop-edge.invariant.counted in
     let none : PackedNode = record { depth = 0; first = 0 } in
     let offset : (get_or c.args.nodes.now c.edge-item.result.node none).first + c.index-count.result.now ≡ p.q =
     ap (λ n. (get_or c.args.nodes.now c.edge-item.result.node none).first + n) c.index-count.ensures ∙ p.next none c.index-count.result.now in

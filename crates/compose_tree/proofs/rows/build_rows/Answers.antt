@@ -11,13 +11,15 @@ shared_here all i previous s count e last is = e ∙ last s ∙ ap (shared_with_
 
 pub add_sequence-requires-clause-shared : goal.add_sequence-requires-clause-shared
 add_sequence-requires-clause-shared c =
-    shared_here c.args.sequences.now c.loop-index.index c.loop-index.previous.now c.sequence_of-sequence.result.now c.shared_prefix-shared.result c.shared_prefix-shared.ensures c.loop-index.invariant.last c.sequence_of-sequence.ensures
+    shared_here c.args.sequences.now c.loop-index.index c.loop-index.previous.now c.sequence_of-sequence.result.now
+    c.shared_prefix-shared.result c.shared_prefix-shared.ensures c.loop-index.invariant.last c.sequence_of-sequence.ensures
 
 pub add_sequence-requires-clause-below : goal.add_sequence-requires-clause-below
 add_sequence-requires-clause-below c =
     let all = c.args.sequences.now in
     let e =
-    shared_here all c.loop-index.index c.loop-index.previous.now c.sequence_of-sequence.result.now c.shared_prefix-shared.result c.shared_prefix-shared.ensures c.loop-index.invariant.last c.sequence_of-sequence.ensures in
+    shared_here all c.loop-index.index c.loop-index.previous.now c.sequence_of-sequence.result.now
+    c.shared_prefix-shared.result c.shared_prefix-shared.ensures c.loop-index.invariant.last c.sequence_of-sequence.ensures in
     let a = adds_at all c.loop-index.index c.len-count.ensures.settled (omega arith) in
     omega (arith, e, a.within, ap length c.sequence_of-sequence.ensures)
 

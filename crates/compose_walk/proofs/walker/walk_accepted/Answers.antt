@@ -20,7 +20,8 @@ evidence-requires-clause-in_range g c =
     let old = g.T.ComposeTable.definitions c.args.old.now in
     let new = g.U.ComposeTable.definitions c.args.new.now in
     (place_of names c.args.fresh.now old new c.node_count.ensures.settled.definitions c.node_count-2.ensures.settled.definitions c.requires c.index-least.result.now
-    (chosen_found names c.args.fresh.now old new c.node_count.ensures.settled.definitions c.node_count-2.ensures.settled.definitions c.requires c.in_ok-pass.pass.found.items c.deref-2.result.now c.in_ok-pass.ensures.found c.deref-2.ensures.value c.least_of.result c.least_of.ensures c.index-least.result.now c.index-least.ensures)).in_range
+    (chosen_found names c.args.fresh.now old new c.node_count.ensures.settled.definitions c.node_count-2.ensures.settled.definitions c.requires c.in_ok-pass.pass.found.items
+    c.deref-2.result.now c.in_ok-pass.ensures.found c.deref-2.ensures.value c.least_of.result c.least_of.ensures c.index-least.result.now c.index-least.ensures)).in_range
 
 pub evidence-requires-clause-agree : goal.evidence-requires-clause-agree
 evidence-requires-clause-agree g c =
@@ -28,7 +29,8 @@ evidence-requires-clause-agree g c =
     let old = g.T.ComposeTable.definitions c.args.old.now in
     let new = g.U.ComposeTable.definitions c.args.new.now in
     (place_of names c.args.fresh.now old new c.node_count.ensures.settled.definitions c.node_count-2.ensures.settled.definitions c.requires c.index-least.result.now
-    (chosen_found names c.args.fresh.now old new c.node_count.ensures.settled.definitions c.node_count-2.ensures.settled.definitions c.requires c.in_ok-pass.pass.found.items c.deref-2.result.now c.in_ok-pass.ensures.found c.deref-2.ensures.value c.least_of.result c.least_of.ensures c.index-least.result.now c.index-least.ensures)).agree
+    (chosen_found names c.args.fresh.now old new c.node_count.ensures.settled.definitions c.node_count-2.ensures.settled.definitions c.requires c.in_ok-pass.pass.found.items
+    c.deref-2.result.now c.in_ok-pass.ensures.found c.deref-2.ensures.value c.least_of.result c.least_of.ensures c.index-least.result.now c.index-least.ensures)).agree
 
 pub evidence-requires-clause-differ : goal.evidence-requires-clause-differ
 evidence-requires-clause-differ g c =
@@ -36,7 +38,8 @@ evidence-requires-clause-differ g c =
     let old = g.T.ComposeTable.definitions c.args.old.now in
     let new = g.U.ComposeTable.definitions c.args.new.now in
     (place_of names c.args.fresh.now old new c.node_count.ensures.settled.definitions c.node_count-2.ensures.settled.definitions c.requires c.index-least.result.now
-    (chosen_found names c.args.fresh.now old new c.node_count.ensures.settled.definitions c.node_count-2.ensures.settled.definitions c.requires c.in_ok-pass.pass.found.items c.deref-2.result.now c.in_ok-pass.ensures.found c.deref-2.ensures.value c.least_of.result c.least_of.ensures c.index-least.result.now c.index-least.ensures)).differ
+    (chosen_found names c.args.fresh.now old new c.node_count.ensures.settled.definitions c.node_count-2.ensures.settled.definitions c.requires c.in_ok-pass.pass.found.items
+    c.deref-2.result.now c.in_ok-pass.ensures.found c.deref-2.ensures.value c.least_of.result c.least_of.ensures c.index-least.result.now c.index-least.ensures)).differ
 
 pub evidence-requires-clause-fed : goal.evidence-requires-clause-fed
 evidence-requires-clause-fed g c =
@@ -44,7 +47,8 @@ evidence-requires-clause-fed g c =
     let old = g.T.ComposeTable.definitions c.args.old.now in
     let new = g.U.ComposeTable.definitions c.args.new.now in
     (place_of names c.args.fresh.now old new c.node_count.ensures.settled.definitions c.node_count-2.ensures.settled.definitions c.requires c.index-least.result.now
-    (chosen_found names c.args.fresh.now old new c.node_count.ensures.settled.definitions c.node_count-2.ensures.settled.definitions c.requires c.in_ok-pass.pass.found.items c.deref-2.result.now c.in_ok-pass.ensures.found c.deref-2.ensures.value c.least_of.result c.least_of.ensures c.index-least.result.now c.index-least.ensures)).fed
+    (chosen_found names c.args.fresh.now old new c.node_count.ensures.settled.definitions c.node_count-2.ensures.settled.definitions c.requires c.in_ok-pass.pass.found.items
+    c.deref-2.result.now c.in_ok-pass.ensures.found c.deref-2.ensures.value c.least_of.result c.least_of.ensures c.index-least.result.now c.index-least.ensures)).fed
 
 pub returns : goal.returns
 returns g c =
@@ -54,5 +58,6 @@ returns g c =
     first_is_least names c.args.fresh.now old new c.node_count.ensures.settled.definitions c.node_count-2.ensures.settled.definitions c.requires c.least_of.result c.index-least.result.now
     (subst (λ (xs : List Found). IsFirstBest comes_sooner xs (length xs) c.least_of.result) (c.deref-2.ensures.value ∙ c.in_ok-pass.ensures.found) c.least_of.ensures)
     (c.index-least.ensures ∙ ap (λ xs. get_or xs c.least_of.result c.index-least.result.now) c.in_ok-pass.ensures.found)
-    (chosen_found names c.args.fresh.now old new c.node_count.ensures.settled.definitions c.node_count-2.ensures.settled.definitions c.requires c.in_ok-pass.pass.found.items c.deref-2.result.now c.in_ok-pass.ensures.found c.deref-2.ensures.value c.least_of.result c.least_of.ensures c.index-least.result.now c.index-least.ensures)
+    (chosen_found names c.args.fresh.now old new c.node_count.ensures.settled.definitions c.node_count-2.ensures.settled.definitions c.requires c.in_ok-pass.pass.found.items
+    c.deref-2.result.now c.in_ok-pass.ensures.found c.deref-2.ensures.value c.least_of.result c.least_of.ensures c.index-least.result.now c.index-least.ensures)
     c.evidence.result c.evidence.ensures

@@ -19,7 +19,8 @@ split_at-requires c =
     let p = packed_as c.self.inside.nodes.items c.self.inside.edges.items c.self.inside.offsets.items (string_bytes c.self.inside.texts) c.args.self.now c.self.invariant c.self.view_is in
     let b =
     edges_between c.self.inside.nodes.items c.self.inside.edges.items c.self.inside.offsets.items
-    (string_bytes c.self.inside.texts) c.args.self.now p c.args.node.0 c.index.result.now.first c.index-2.result.now.first c.index.result.now c.index-2.result.now c.requires c.index.ensures c.index-2.ensures refl refl in
+    (string_bytes c.self.inside.texts) c.args.self.now p c.args.node.0 c.index.result.now.first c.index-2.result.now.first
+    c.index.result.now c.index-2.result.now c.requires c.index.ensures c.index-2.ensures refl refl in
     let n = ap length c.deref.ensures.value in
     omega (arith, b.0, b.1, n)
 
@@ -27,14 +28,16 @@ pub overflow_sub-end : goal.overflow_sub-end
 overflow_sub-end c =
     let p = packed_as c.self.inside.nodes.items c.self.inside.edges.items c.self.inside.offsets.items (string_bytes c.self.inside.texts) c.args.self.now c.self.invariant c.self.view_is in
     (edges_between c.self.inside.nodes.items c.self.inside.edges.items c.self.inside.offsets.items
-    (string_bytes c.self.inside.texts) c.args.self.now p c.args.node.0 c.index.result.now.first c.index-2.result.now.first c.index.result.now c.index-2.result.now c.requires c.index.ensures c.index-2.ensures refl refl).0
+    (string_bytes c.self.inside.texts) c.args.self.now p c.args.node.0 c.index.result.now.first c.index-2.result.now.first
+    c.index.result.now c.index-2.result.now c.requires c.index.ensures c.index-2.ensures refl refl).0
 
 pub split_at-requires-2 : goal.split_at-requires-2
 split_at-requires-2 c =
     let p = packed_as c.self.inside.nodes.items c.self.inside.edges.items c.self.inside.offsets.items (string_bytes c.self.inside.texts) c.args.self.now c.self.invariant c.self.view_is in
     let b =
     edges_between c.self.inside.nodes.items c.self.inside.edges.items c.self.inside.offsets.items
-    (string_bytes c.self.inside.texts) c.args.self.now p c.args.node.0 c.index.result.now.first c.index-2.result.now.first c.index.result.now c.index-2.result.now c.requires c.index.ensures c.index-2.ensures refl refl in
+    (string_bytes c.self.inside.texts) c.args.self.now p c.args.node.0 c.index.result.now.first c.index-2.result.now.first
+    c.index.result.now c.index-2.result.now c.requires c.index.ensures c.index-2.ensures refl refl in
     let n = ap length c.deref.ensures.value in
     omega (arith, b.0, b.1, n, c.split_at.ensures.back_len)
 
@@ -43,4 +46,5 @@ returns-clause-value c =
     let p = packed_as c.self.inside.nodes.items c.self.inside.edges.items c.self.inside.offsets.items (string_bytes c.self.inside.texts) c.args.self.now c.self.invariant c.self.view_is in
     c.split_at-2.ensures.front ∙ ap (take (c.index-2.result.now.first - c.index.result.now.first)) (c.split_at.ensures.back ∙ ap (drop c.index.result.now.first) c.deref.ensures.value)
     ∙ (edges_between c.self.inside.nodes.items c.self.inside.edges.items c.self.inside.offsets.items
-    (string_bytes c.self.inside.texts) c.args.self.now p c.args.node.0 c.index.result.now.first c.index-2.result.now.first c.index.result.now c.index-2.result.now c.requires c.index.ensures c.index-2.ensures refl refl).2
+    (string_bytes c.self.inside.texts) c.args.self.now p c.args.node.0 c.index.result.now.first c.index-2.result.now.first
+    c.index.result.now c.index-2.result.now c.requires c.index.ensures c.index-2.ensures refl refl).2

@@ -26,7 +26,8 @@ unwrap-stand-requires g c =
     let old = g.T.ComposeTable.definitions c.args._old.now in
     let new = g.U.ComposeTable.definitions c.args._new.now in
     ap is_some
-    (some_stand c.args._names.now old new c.requires.table c.loop-node.node c.loop-node.invariant.in_range c.loop-node.invariant.agree c.args.self.now.stands.items c.requires.stands c.index-slot.result.now c.index-slot.ensures)
+    (some_stand c.args._names.now old new c.requires.table c.loop-node.node c.loop-node.invariant.in_range
+    c.loop-node.invariant.agree c.args.self.now.stands.items c.requires.stands c.index-slot.result.now c.index-slot.ensures)
     ∙ is_there c.args._names.now old new c.requires.table c.loop-node.node c.loop-node.invariant.in_range c.loop-node.invariant.agree
 
 pub insert-requires : goal.insert-requires
@@ -36,7 +37,8 @@ insert-requires g c =
     let new = g.U.ComposeTable.definitions c.args._new.now in
     let at =
     sym
-    (some_stand names old new c.requires.table c.loop-node.node c.loop-node.invariant.in_range c.loop-node.invariant.agree c.args.self.now.stands.items c.requires.stands c.index-slot.result.now c.index-slot.ensures)
+    (some_stand names old new c.requires.table c.loop-node.node c.loop-node.invariant.in_range
+    c.loop-node.invariant.agree c.args.self.now.stands.items c.requires.stands c.index-slot.result.now c.index-slot.ensures)
     ∙ c.unwrap-stand.ensures in
     let fits =
     room names old new c.requires.table c.loop-node.node c.loop-node.invariant.in_range c.loop-node.invariant.agree c.unwrap-stand.result at (ne_eqb c.loop-node.node 0 c.loop-node-test.true)
@@ -50,7 +52,8 @@ loop-node-smaller g c =
     let new = g.U.ComposeTable.definitions c.args._new.now in
     let at =
     sym
-    (some_stand names old new c.requires.table c.loop-node.node c.loop-node.invariant.in_range c.loop-node.invariant.agree c.args.self.now.stands.items c.requires.stands c.index-slot.result.now c.index-slot.ensures)
+    (some_stand names old new c.requires.table c.loop-node.node c.loop-node.invariant.in_range
+    c.loop-node.invariant.agree c.args.self.now.stands.items c.requires.stands c.index-slot.result.now c.index-slot.ensures)
     ∙ c.unwrap-stand.ensures in
     parent_below names old new c.requires.table c.loop-node.node c.loop-node.invariant.in_range c.loop-node.invariant.agree c.unwrap-stand.result at (ne_eqb c.loop-node.node 0 c.loop-node-test.true)
 
@@ -61,7 +64,8 @@ loop-node-preserved g c =
     let new = g.U.ComposeTable.definitions c.args._new.now in
     let at =
     sym
-    (some_stand names old new c.requires.table c.loop-node.node c.loop-node.invariant.in_range c.loop-node.invariant.agree c.args.self.now.stands.items c.requires.stands c.index-slot.result.now c.index-slot.ensures)
+    (some_stand names old new c.requires.table c.loop-node.node c.loop-node.invariant.in_range
+    c.loop-node.invariant.agree c.args.self.now.stands.items c.requires.stands c.index-slot.result.now c.index-slot.ensures)
     ∙ c.unwrap-stand.ensures in
     let other = ne_eqb c.loop-node.node 0 c.loop-node-test.true in
     record {

@@ -29,7 +29,8 @@ loop-number-preserved g c =
       stands = c.in_ok-take_node.ensures.stands;
       found =
           found_next c.args.names.now c.args.fresh.now old
-          (g.U.ComposeTable.definitions c.args.new.now) c.loop-number.number c.loop-number.pass.found.items c.take_node.new.self.found.items below c.loop-number.invariant.found c.in_ok-take_node.ensures.found;
+          (g.U.ComposeTable.definitions c.args.new.now) c.loop-number.number c.loop-number.pass.found.items
+          c.take_node.new.self.found.items below c.loop-number.invariant.found c.in_ok-take_node.ensures.found;
     }
 
 pub take_node-requires-clause-new_in_range : goal.take_node-requires-clause-new_in_range
