@@ -2,9 +2,11 @@
 """run.py PROGRAM BENCH: times of the program and of single calls, and libxkbcommon at the same work, in turns.
 
 PROGRAM is `composecheck`, BENCH is `compose_bench` (crates/compose_bench). It needs Debian's libx11-data, x11proto-dev
-and libxkbcommon-dev, and a C compiler. Each figure is the least of some runs, on the table of en_US.UTF-8."""
+and libxkbcommon-dev, and a C compiler. Each figure is the least of some runs, on the table of en_US.UTF-8;
+those of keys in sessions are medians."""
 import os
 import re
+import statistics
 import subprocess
 import sys
 import tempfile
@@ -16,12 +18,15 @@ import key_streams
 
 SHORT_NAMES = os.path.join(TOP, "share", "composecheck", "short-unicode-names.h")
 ENGLISH = "/usr/share/X11/locale/en_US.UTF-8/Compose"
+FINNISH = "/usr/share/X11/locale/fi_FI.UTF-8/Compose"
 KEYS = 10_000_000
 CHARACTERS = 1000
 MOST_NODES = 1_048_576
 MOST_CHARACTERS = 65_536
+MOST_DEFINITIONS = 100_000
 ADDED = 20
 KEYS_IN_SESSIONS = 1_000_000
+KEY_TURNS = 9
 MOST_SESSIONS = 4_096
 
 
@@ -149,6 +154,22 @@ def measure_migration(program, folder, reading):
         print(f"{name}, {len(characters)} characters: {seconds * 1000:.2f} ms; {seconds / reading:.2f} of reading")
 
 
+def compare_keys(bench, service, folder):
+    """Keys through a service beside the same keys by a bare `feed`, with the first byte of each text read: the medians of some turns."""
+    turns = {sessions: [] for sessions in (1, 100, MOST_SESSIONS)}
+    for _ in range(KEY_TURNS):
+        for sessions, told in turns.items():
+            times = figures([bench, "keys", *service, "pressed", str(sessions)], folder)
+            told.append([times[name] / times["keys"] for name in ("feed", "key", "whole reply")])
+    for sessions, told in turns.items():
+        bare = statistics.median(feed for feed, _, _ in told)
+        print(f"keys in {sessions} sessions: {bare:.1f} ns a key by a bare feed")
+        for column, name in ((1, "its status and text read"), (2, "its reply handed out whole")):
+            ratios = sorted(row[column] / row[0] for row in told)
+            served = statistics.median(row[column] for row in told)
+            print(f"  through a service, {name}: {served:.1f} ns; ratio {statistics.median(ratios):.2f} ({ratios[0]:.2f} to {ratios[-1]:.2f})")
+
+
 def measure_service(program, bench, folder):
     """Calls of a service: keys beside a bare `feed`, loads beside `check_bytes`, and opening and closing sessions."""
     write(folder, "nobody", "")
@@ -157,10 +178,7 @@ def measure_service(program, bench, folder):
     keys = key_streams.stream(key_streams.sequences(ENGLISH, key_streams.header_values()), KEYS_IN_SESSIONS, 2)
     key_streams.write(keys, os.path.join(folder, "pressed"))
     service = ["names", ENGLISH, "itself"]
-    for sessions in (1, 100, MOST_SESSIONS):
-        times = least_figures({"keys": [bench, "keys", *service, "pressed", str(sessions)]}, folder, 5)["keys"]
-        bare, served = times["feed"] / times["keys"], times["key"] / times["keys"]
-        print(f"keys in {sessions} sessions: {served:.1f} ns a key through a service, {bare:.1f} by a bare feed; ratio {served / bare:.2f}")
+    compare_keys(bench, service, folder)
     times = least_figures({"load": [bench, "load", *service]}, folder, 5)["load"]
     loading, checking = times["load"] / 1e6, times["check"] / 1e6
     print(f"an accepted load of the same table: {loading:.3f} ms; check_bytes on the same bytes {checking:.3f} ms; ratio {loading / checking:.2f}")
@@ -188,6 +206,25 @@ def measure_limits(program, bench, folder):
     print(f"certificate of {found['pairs']} pairs, {size} bytes: read in {found['read certificate'] / 1e6:.0f} ms, written in {found['write certificate'] / 1e6:.0f} ms, at most {memory / 1e6:.0f} MB with its text twice")
 
 
+def many_definitions(first):
+    """A table of as many sequences of three keys as there may be, of which each has another text by the letter that it begins with."""
+    keys = [f"U{0x4e00 + number:04X}" for number in range(MOST_DEFINITIONS // 100)]
+    return "".join(f'<Multi_key> <{key}> <U{0x3400 + other:04X}> : "{first}{other}"\n' for key in keys for other in range(100))
+
+
+def measure_differences(program, folder):
+    """`diff` on two real tables beside `explain --all` on their manifests, in turns; and on two tables of the most definitions."""
+    for name, table in {"english": ENGLISH, "finnish": FINNISH}.items():
+        write(folder, name, f"root\t{table}\n")
+    explain = [program, "explain", "--all", "--names", "builtin", "english", "finnish"]
+    times = least_processes({"diff": [program, "diff", ENGLISH, FINNISH], "explain": explain}, folder, 15)
+    print(f"diff of two tables: {times['diff'] * 1000:.2f} ms; explain --all {times['explain'] * 1000:.2f}; ratio {times['diff'] / times['explain']:.2f}")
+    write(folder, "many old", many_definitions("a"))
+    write(folder, "many new", many_definitions("b"))
+    seconds, memory = process([program, "diff", "many old", "many new"], folder)
+    print(f"diff of two tables of {MOST_DEFINITIONS} sequences: {seconds:.2f} s, at most {memory / 1e6:.0f} MB")
+
+
 def main():
     program, bench = (os.path.abspath(path) for path in sys.argv[1:3])
     with tempfile.TemporaryDirectory() as folder:
@@ -198,6 +235,7 @@ def main():
         reading = compare_processes(program, folder)
         measure_migration(program, folder, reading)
         measure_service(program, bench, folder)
+        measure_differences(program, folder)
         measure_limits(program, bench, folder)
 
 

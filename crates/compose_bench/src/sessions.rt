@@ -6,10 +6,11 @@ use crate::serving::{close_sessions, open_sessions, read_count, start};
 use crate::stopwatch::{Stopwatch, now};
 use crate::typing::{Counts, read_keys};
 use arrayvec::ArrayString;
+use compose_model::Status;
 use compose_service::Service;
 use compose_state::ComposeState;
 use compose_tree::ComposeTable;
-use compose_wire::{Answer, Body, Request};
+use compose_wire::{Answer, Body, Reply, Request};
 use keysym_core::{Keysym, Names};
 
 /// How often the same keys are typed, and the same sessions are opened and closed.
@@ -69,7 +70,8 @@ fn measure_keys<T: ComposeTable>(
     measure_rounds(rt, &names, service, presses, count)
 }
 
-/// Prints the quickest times of typing the keys without a service and through it, by turns; each key has the same answer in both.
+/// Prints the quickest times of typing the keys without a service, through it, and through it with each reply handed out whole, by turns;
+/// each key has the same answer in all three.
 fn measure_rounds<T: ComposeTable>(
     rt: &HostRuntime,
     names: &Names,
@@ -79,10 +81,12 @@ fn measure_rounds<T: ComposeTable>(
 ) -> Result<(), Failure> {
     let mut bare = Stopwatch::new();
     let mut served = Stopwatch::new();
+    let mut whole = Stopwatch::new();
     for _ in 0..TYPINGS {
         let fed = feed_round(rt, service.table(), names, presses, count, &mut bare)?;
         let answered = answer_round(rt, service, presses, count, &mut served)?;
-        if fed != answered {
+        let handed = whole_round(rt, service, presses, count, &mut whole)?;
+        if fed != answered || fed != handed {
             return Err(Failure::Input);
         }
     }
@@ -93,6 +97,7 @@ fn measure_rounds<T: ComposeTable>(
             ("keys", keys),
             ("feed", bare.least()),
             ("key", served.least()),
+            ("whole reply", whole.least()),
         ],
     )
 }
@@ -169,7 +174,7 @@ fn feed_all<T: ComposeTable>(
         if let Some(state) = states.get_mut(press.session as usize) {
             let fed = state.feed(table, names, press.keysym);
             fed.text_into(&mut text);
-            counts.count(fed.status, text.len());
+            counts.count(fed.status, text.as_str());
         }
     }
     counts
@@ -207,9 +212,55 @@ fn answer_all<T: ComposeTable>(
         let Answer::Fed(status, _, text) = &reply.answer else {
             return Err(Failure::Input);
         };
-        counts.count(*status, text.len());
+        counts.count(*status, text.as_str());
     }
     Ok(counts)
+}
+
+/// The same, where each reply is handed out whole.
+fn whole_round<T: ComposeTable>(
+    rt: &HostRuntime,
+    service: &mut Service<T>,
+    presses: &[Press],
+    count: u32,
+    stopwatch: &mut Stopwatch,
+) -> Result<Counts, Failure> {
+    open_sessions(rt, service, count)?;
+    let start = now(rt)?;
+    let counts = answer_all_whole(rt, service, presses)?;
+    stopwatch.stop(rt, start)?;
+    close_sessions(rt, service, 0, count)?;
+    Ok(counts)
+}
+
+/// Has the service answer each key, and hands the reply out whole each time.
+fn answer_all_whole<T: ComposeTable>(
+    rt: &HostRuntime,
+    service: &mut Service<T>,
+    presses: &[Press],
+) -> Result<Counts, Failure> {
+    let mut counts = Counts::new();
+    for press in presses {
+        let request = Request {
+            session: press.session,
+            body: Body::Key(press.keysym.value()),
+        };
+        let reply = service.answer(rt.alloc(), &request);
+        let Some((status, text)) = fed_of(&reply) else {
+            return Err(Failure::Input);
+        };
+        counts.count(status, text);
+    }
+    Ok(counts)
+}
+
+/// The status and the text of a reply to a key. It is not compiled into its caller, so that each reply is made whole.
+#[inline(never)]
+fn fed_of(reply: &Reply) -> Option<(Status, &str)> {
+    match &reply.answer {
+        Answer::Fed(status, _, text) => Some((*status, text.as_str())),
+        _ => None,
+    }
 }
 
 /// Opens as many sessions, and closes them from the first one to the last: the first apart, before which all others stand.

@@ -9,7 +9,7 @@ use compose_state::ComposeState;
 use compose_tree::PackedTable;
 use keysym_core::{Keysym, Names};
 
-/// How often each status came, and the bytes of all committed texts.
+/// How often each status came, the bytes of all committed texts, and the sum of their first bytes.
 #[derive(Clone, Copy, PartialEq, Eq, Drop)]
 pub struct Counts {
     nothing: u64,
@@ -17,6 +17,7 @@ pub struct Counts {
     composed: u64,
     cancelled: u64,
     text_bytes: u64,
+    first_bytes: u64,
 }
 
 impl Counts {
@@ -28,11 +29,12 @@ impl Counts {
             composed: 0,
             cancelled: 0,
             text_bytes: 0,
+            first_bytes: 0,
         }
     }
 
-    /// Counts a key.
-    pub fn count(&mut self, status: Status, text_bytes: usize) {
+    /// Counts a key, and reads the first byte of its text, so that the text is made.
+    pub fn count(&mut self, status: Status, text: &str) {
         let count = match status {
             Status::Nothing => &mut self.nothing,
             Status::Composing => &mut self.composing,
@@ -40,7 +42,9 @@ impl Counts {
             Status::Cancelled => &mut self.cancelled,
         };
         *count = count.saturating_add(1);
-        self.text_bytes = self.text_bytes.saturating_add(text_bytes as u64);
+        self.text_bytes = self.text_bytes.saturating_add(text.len() as u64);
+        let first = text.as_bytes().first().copied().unwrap_or(0);
+        self.first_bytes = self.first_bytes.saturating_add(u64::from(first));
     }
 }
 
@@ -82,6 +86,7 @@ fn print_counts(rt: &HostRuntime, time: u64, counts: Counts) -> Result<(), Failu
             ("composed", counts.composed),
             ("cancelled", counts.cancelled),
             ("text bytes", counts.text_bytes),
+            ("first bytes", counts.first_bytes),
         ],
     )
 }
@@ -120,7 +125,7 @@ fn type_all(table: &PackedTable, names: &Names, keys: &[Keysym]) -> Counts {
     for key in keys {
         let fed = state.feed(table, names, *key);
         fed.text_into(&mut text);
-        counts.count(fed.status, text.len());
+        counts.count(fed.status, text.as_str());
     }
     counts
 }

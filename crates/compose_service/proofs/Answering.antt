@@ -55,6 +55,7 @@ not_keysym k r none some = elim (cases_Bool (is_keysym k)) [
   | inr e ↦ e
 ]
 
+-- where a reader gives each number up to the greatest keysym and none above it, what it gives is that number, a keysym
 pub keysym_is : (k x : ℕ) (r : Option ℕ) → r ≡ Some x → (k ≤ 0x1fffffff → r ≡ Some k) → (0x1fffffff < k → r ≡ None) → (x ≡ k) × IsTrue (is_keysym k)
 keysym_is k x r is some none = elim (cases_Bool (is_keysym k)) [
   | inl e ↦ (let k_is : r ≡ Some k = some (leb-true k 0x1fffffff e) in cc, e)
@@ -64,19 +65,23 @@ keysym_is k x r is some none = elim (cases_Bool (is_keysym k)) [
 module _ (old : ServiceState) (n : ℕ) where
   -- ---- Open
 
+  -- an Open of a session that is there may be refused as taken, and nothing changes
   pub open_taken : (number : ℕ) → number ≡ code words.session_taken → IsSome (session_of old.sessions n) → Answered old n words.open_session (Refused number) old
   unfolding Answered
   open_taken number e h = (words.refused words.session_taken, (h, refl), e)
 
+  -- an Open of another session may be refused as full where there are already as many sessions as there may be, and nothing changes
   pub open_full : (number : ℕ) → number ≡ code words.full → IsNone (session_of old.sessions n) → max_sessions ≤ length old.sessions → Answered old n words.open_session (Refused number) old
   unfolding Answered
   open_full number e h l = (words.refused words.full, (h, l, refl), e)
 
+  -- an Open of a new session that would have room may be refused for being out of memory, and the sessions stay
   pub open_no_memory : (number : ℕ) (rows : List Row) → number ≡ code words.no_memory → IsNone (session_of old.sessions n) → length old.sessions < max_sessions → rows ≡ old.sessions
       → Answered old n words.open_session (Refused number) (with_sessions old rows)
   unfolding Answered
   open_no_memory number rows e h l r = (words.refused words.no_memory, (h, l, ap (with_sessions old) r), e)
 
+  -- an Open of a new session that has room may be answered with opened, and the session stands last, at rest
   pub open_opened : (rows : List Row) → IsNone (session_of old.sessions n) → length old.sessions < max_sessions → rows ≡ old.sessions ++ record { number = n; session = rest } ∷ []
       → Answered old n words.open_session Opened (with_sessions old rows)
   unfolding Answered
@@ -91,10 +96,12 @@ module _ (old : ServiceState) (n : ℕ) where
     one_there : IsSome (session_of rows n) → IsSome (session_of (map (refed_row old.table n) old.sessions) n)
     one_there h = subst (λ (rs : List Row). IsSome (session_of rs n)) refed_rows h
 
+    -- a key for a session that is not there is refused for that, and the sessions stay as they are after refeeding
     pub key_no_session : (k number : ℕ) → number ≡ code words.no_session → IsNone (session_of rows n) → Answered old n (words.key k) (Refused number) (with_sessions old rows)
     unfolding Answered
     key_no_session k number e h = (words.refused words.no_session, (none_there h, ap (with_sessions old) refed_rows), e)
 
+    -- a key that is no keysym is refused for that where its session is there, and the sessions stay as they are after refeeding
     pub key_bad : (k number : ℕ) → number ≡ code words.bad_keysym → IsSome (session_of rows n) → IsFalse (is_keysym k) → Answered old n (words.key k) (Refused number) (with_sessions old rows)
     unfolding Answered
     key_bad k number e h f = (words.refused words.bad_keysym, (one_there h, f, ap (with_sessions old) refed_rows), e)
@@ -118,39 +125,47 @@ module _ (old : ServiceState) (n : ℕ) where
           says,
         )
 
+    -- a reset of a session that is not there is refused for that, and the sessions stay as they are after refeeding
     pub reset_no_session : (number : ℕ) (rows' : List Row) → number ≡ code words.no_session → IsNone (session_of rows n) → rows' ≡ rows
         → Answered old n words.reset (Refused number) (with_sessions old rows')
     unfolding Answered
     reset_no_session number rows' e h r = (words.refused words.no_session, (none_there h, ap (with_sessions old) (r ∙ refed_rows)), e)
 
+    -- a reset of a session that is there may be answered as done, and the session is then at rest
     pub reset_done : (rows' : List Row) → IsSome (session_of rows n) → rows' ≡ with_session rows n rest → Answered old n words.reset WasReset (with_sessions old rows')
     unfolding Answered
     reset_done rows' h r = (words.was_reset, (one_there h, ap (with_sessions old) (r ∙ ap (λ rs. with_session rs n rest) refed_rows)), tt)
 
+    -- a close of a session that is not there is refused for that, and the sessions stay as they are after refeeding
     pub close_no_session : (number : ℕ) (rows' : List Row) → number ≡ code words.no_session → IsNone (session_of rows n) → rows' ≡ rows
         → Answered old n words.close (Refused number) (with_sessions old rows')
     unfolding Answered
     close_no_session number rows' e h r = (words.refused words.no_session, (none_there h, ap (with_sessions old) (r ∙ refed_rows)), e)
 
+    -- a close of a session that is there may be answered as done, and the session is then gone
     pub close_done : (rows' : List Row) → IsSome (session_of rows n) → rows' ≡ without_session rows n → Answered old n words.close Closed (with_sessions old rows')
     unfolding Answered
     close_done rows' h r = (words.closed, (one_there h, ap (with_sessions old) (r ∙ ap (λ rs. without_session rs n) refed_rows)), tt)
 
+    -- a question about a session that is not there is refused for that, and the sessions stay as they are after refeeding
     pub ask_no_session : (number : ℕ) → number ≡ code words.no_session → IsNone (session_of rows n) → Answered old n words.ask (Refused number) (with_sessions old rows)
     unfolding Answered
     ask_no_session number e h = (words.refused words.no_session, (none_there h, ap (with_sessions old) refed_rows), e)
 
+    -- a question about a session that is there may be answered with the status and the pending keysyms that it has after refeeding
     pub ask_told : (answer : Answer) (s : Session) → session_of rows n ≡ Some s → SaysAnswer answer (words.state s.status s.pending) → Answered old n words.ask answer (with_sessions old rows)
     unfolding Answered
     ask_told answer s h says = (words.state s.status s.pending, (subst (λ (rs : List Row). session_of rs n ≡ Some s) refed_rows h, ap (with_sessions old) refed_rows), says)
 
   -- a key, where its session is refed and fed at once
 
+  -- a key for a session that is not stored is refused for that, and what is stored stays
   pub key_nobody : (k number : ℕ) (rows : List Row) → number ≡ code words.no_session → session_of old.sessions n ≡ None → rows ≡ old.sessions
       → Answered old n (words.key k) (Refused number) (with_sessions old rows)
   key_nobody k number rows e none r =
       key_no_session rows (r ∙ sym (nobody_changed n (session_loaded old.table) old.sessions none)) k number e (ap (λ rs. is_some (session_of rs n)) r ∙ ap is_some none)
 
+  -- a key for a session that is stored is answered as the table answers it after refeeding the session, which is then stored fed
   pub key_refed : (k x : ℕ) (answer : Answer) (rows : List Row) (s : Session) → (x ≡ k) × IsTrue (is_keysym k) → session_of old.sessions n ≡ Some s
       → rows ≡ with_session old.sessions n (session_fed old.table (session_loaded old.table s) x)
       → SaysAnswer answer (words.fed (session_fed old.table (session_loaded old.table s) x).status (not (is_ignored x)) (step old.names old.table (session_loaded old.table s).pending x).text)
@@ -172,6 +187,7 @@ swap_sound inside old is table certificate rows free valid kept e =
     subst (λ (rs : List Row). AreKept table rs) (sym e) (swap_kept inside.names certificate.fresh inside.table table inside.sessions follows valid'.fresh kept)
 
 module _ (now : ServiceState) (rule : Rule) (bytes : List ℕ) {T : Type 0} (view : T → List Definition) where
+  -- a load that is checked and refused may be answered with that refusal, and nothing changes
   pub load_refused : (n : ℕ) (why : Refusal) (number : ℕ) → number ≡ code (refusal_of why) → Checked now rule bytes view (Err why) → Answered now n (words.load rule bytes) (Refused number) now
   unfolding Answered Checked
   load_refused n SessionTaken number e h = (words.refused words.session_taken, h, e)
@@ -184,14 +200,17 @@ module _ (now : ServiceState) (rule : Rule) (bytes : List ℕ) {T : Type 0} (vie
   load_refused n VerdictNo number e h = (words.refused words.verdict_no, h, e)
   load_refused n NoMemory number e h = (words.refused words.no_memory, h, e)
 
+  -- the table of a load that passed its check is prefix-free
   pub load_free : (p : T × Certificate) → Checked now rule bytes view (Ok p) → is_prefix_free (view p.0) ≡ true
   unfolding Checked
   load_free p h = h.1
 
+  -- the certificate of a load that passed its check is valid for the move from the current table to the loaded one
   pub load_valid : (p : T × Certificate) → Checked now rule bytes view (Ok p) → IsValid now.names now.table (view p.0) now.repertoire p.1
   unfolding Checked
   load_valid p h = h.2
 
+  -- a load that passed its check may be answered as loaded, with the count of loads, and its table is then the current one
   pub load_done : (n : ℕ) (p : T × Certificate) (answer : Answer) (new : ServiceState) → Checked now rule bytes view (Ok p) → new ≡ swapped now (view p.0) p.1.fresh
       → SaysAnswer answer (words.loaded (one_more now.loads)) → Answered now n (words.load rule bytes) answer new
   unfolding Answered Checked
@@ -199,6 +218,7 @@ module _ (now : ServiceState) (rule : Rule) (bytes : List ℕ) {T : Type 0} (vie
 
   -- ---- what a load reads as
 
+  -- a payload that is not read as a bundle refuses the load by that fault
   pub bundle_fault : (fault : BundleFault) → AreBytes bytes → NotRead fault bytes → Checked now rule bytes view (Err (of_bundle fault))
   unfolding Checked
   bundle_fault bundle_faults.Form are h = (ap (bundle_parts rule now.names) (none bytes are h), refl)
@@ -221,6 +241,7 @@ module _ (now : ServiceState) (rule : Rule) (bytes : List ℕ) {T : Type 0} (vie
     table_refused_by fault (Err why) is e h = (reads (Err why) e, refl)
     table_refused_by fault (Ok table) is e h = absurd (no_fault fault table h)
 
+    -- sources of a bundle that give no table refuse the load by that fault
     pub table_fault : (fault : TableFault) → TableGives view (Err fault) (first_table now.names b.sources rule) → Checked now rule bytes view (Err (of_table fault))
     unfolding Checked
     table_fault table_faults.NoMemory h = refl
@@ -235,6 +256,7 @@ module _ (now : ServiceState) (rule : Rule) (bytes : List ℕ) {T : Type 0} (vie
       reads_on : (said : Result Certificate CertFault) → certificate_of b.certificate ≡ said → reading rule now.names bytes ≡ parts_by (Ok (view table)) said
       reads_on said e = reads (Ok (view table)) is_table ∙ ap (parts_by (Ok (view table))) e
 
+      -- where the table is read, a certificate that is not read refuses the load by that fault
       pub certificate_fault : (fault : CertFault) → CertificateGives (Err fault) (certificate_of b.certificate) → Checked now rule bytes view (Err (of_certificate fault))
       unfolding Checked
       certificate_fault cert_faults.NoMemory h = refl
@@ -242,10 +264,12 @@ module _ (now : ServiceState) (rule : Rule) (bytes : List ℕ) {T : Type 0} (vie
       certificate_fault cert_faults.TooLarge h = (reads_on (Err cert_faults.TooLarge) h, refl)
 
       module _ (certificate : Certificate) (is_certificate : certificate_of b.certificate ≡ Ok certificate) where
+        -- where table and certificate are read, a certificate that is not valid refuses the load with the verdict no
         pub not_valid : (IsValid now.names now.table (view table) now.repertoire certificate → ⊥) → Checked now rule bytes view (Err VerdictNo)
         unfolding Checked
         not_valid h = (view table, certificate, reads_on (Ok certificate) is_certificate, h, refl)
 
+        -- where table and certificate are read, a prefix-free table with a valid certificate passes the check
         pub valid : is_prefix_free (view table) ≡ true → IsValid now.names now.table (view table) now.repertoire certificate → Checked now rule bytes view (Ok (table, certificate))
         unfolding Checked
         valid free h = (reads_on (Ok certificate) is_certificate, free, h)
@@ -259,6 +283,7 @@ raised now rule bytes view (Err e) why is h = subst (λ (y : Refusal). Checked n
 -- ---- any request
 
 module _ (old : ServiceState) (n : ℕ) (body : Body) (answer : Answer) (new : ServiceState) where
+  -- each answer of the service says one that the late service may give, under the number of the same session
   pub answered_stored : Answered old n body answer new
       → (said : words.Answer) × LateAnswers reading old n body said new × SaysReply (record { session = n; answer = answer }) (record { session = n; answer = said })
   unfolding Answered

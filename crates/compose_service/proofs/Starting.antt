@@ -41,6 +41,7 @@ module _ (names : KeysymNames) (repertoire : Repertoire) where
   fails fault (Err why) certificate h = (why, refl, h)
   fails fault (Ok table) certificate h = absurd (no_fault fault table h)
 
+  -- where the service is given no table, it does not start, by the fault of that table
   pub table_fault : {T : Type 0} (view : T → List Definition) (result : Result ServiceState StartFault) (fault : TableFault) (said : Result (List Definition) NoTable)
       (certificate : Result Certificate CertFault)
       → IsErrAnd result (λ e. e ≡ table_raised fault) → TableGives view (Err fault) said → StartGives names repertoire result (started names repertoire said certificate)
@@ -60,8 +61,10 @@ module _ (names : KeysymNames) (repertoire : Repertoire) where
     both : started names repertoire said spelt ≡ begun_by (fault_of names table table repertoire certificate) table certificate
     both = ap₂ (λ x y. started names repertoire x y) t c
 
+    -- where the verdict on its own certificate is yes, the service starts with that table and certificate
     pub starts : Yes ≡ verdict_of (fault_of names table table repertoire certificate) → started names repertoire said spelt ≡ Ok (record { table = table; certificate = certificate })
     starts e = both ∙ ap (λ o. begun_by o table certificate) (verdict_yes (fault_of names table table repertoire certificate) e)
 
+    -- where the verdict on its own certificate is no, the service does not start, by the checker's fault
     pub starts_not : (f : CheckFault) → No f ≡ verdict_of (fault_of names table table repertoire certificate) → started names repertoire said spelt ≡ Err (not_valid f)
     starts_not f e = both ∙ ap (λ o. begun_by o table certificate) (verdict_no (fault_of names table table repertoire certificate) f e)

@@ -174,11 +174,12 @@ impl<T: ComposeTable> Service<T> {
     /// Answers one request, which is one step of the machine. A Key, a Reset, a Close and an Ask take no memory and always give their
     /// answer; a request that is refused changes nothing.
     ///
-    /// Open: O(1), its growth spread over the Opens. Key: one look-up of the session and what `ComposeState::refeed_and_feed` costs,
-    /// which is what `feed` costs where no load came since the session was last used; only then, and where the key breaks off a
-    /// sequence, what is pending is walked once more. Reset, Ask: O(1) beside refeeding. Close: that, and O(sessions opened later),
-    /// since the order of opening is kept. Load: what reading, settling, building and checking cost; an accepted one touches no
-    /// session, unless its certificate has fresh keysyms, and then refeeds each.
+    /// Open: O(1), its growth spread over the Opens. Key: what `ComposeState::refeed_and_feed` costs, which is what `feed` costs where no
+    /// load came since the session was last used; only then, and where the key breaks off a sequence, what is pending is walked once
+    /// more. The session of a key is looked for where one with the same last twelve bits of its number was found last, and else by its
+    /// hash. Reset, Ask: O(1) beside refeeding. Close: that, and O(sessions opened later), since the order of opening is kept. Load: what
+    /// reading, settling, building and checking cost; an accepted one touches no session, unless its certificate has fresh keysyms, and
+    /// then refeeds each.
     #[inline(always)]
     pub fn answer(&mut self, alloc: Global, request: &Request) -> Reply
         ensures stored { (said : words.Answer)
@@ -286,14 +287,14 @@ impl<T: ComposeTable> Service<T> {
         let Some(keysym) = Keysym::new(keysym) else {
             return self.refuse_key(number, keysym);
         };
-        let mut text = ArrayString::new();
-        let Some((status, accepted)) = self
-            .sessions
-            .feed(number, &self.table, &self.names, keysym, &mut text)
-        else {
+        let fed = self.sessions.feed(number, &self.table, &self.names, keysym);
+        let Some(fed) = fed else {
             return Answer::Refused(Refusal::NoSession.code());
         };
-        Answer::Fed(status, accepted, text)
+        // a text is blanked where it is made, and the key would wait for that
+        let mut text = ArrayString::new();
+        fed.text_into(&mut text);
+        Answer::Fed(fed.status, fed.accepted, text)
     }
 
     /// Refuses a key whose number is no keysym's.

@@ -1,17 +1,16 @@
 //! The sessions of a service, by number.
-ghost use Rattle.std.specs.Prelude.{◌≡◌, ◌<◌, ◌++◌, [], ◌∷◌, ℕ, length, map, not, true, Some, None, is_some, IsNone, MatchOption, OnOk, OnErr};
-ghost use Rattle.keysym_core.specs.Keysym.{is_ignored};
+ghost use Rattle.std.specs.Prelude.{◌≡◌, ◌<◌, ◌++◌, [], ◌∷◌, ℕ, length, map, true, Some, None, is_some, IsNone, MatchOption, OnOk, OnErr, nat_eq, slice_get};
+ghost use Rattle.std.specs.Map.{lookup};
 ghost use Rattle.compose_model.specs.Session.{Session, rest, loaded, fed as session_fed};
-ghost use Rattle.compose_model.specs.Step.{step};
+ghost use Rattle.compose_state.specs.Answers.{IsFed};
 ghost use Rattle.compose_wire.specs.Messages as words;
 ghost use Rattle.compose_wire.specs.Replies.{SaysAnswer};
 ghost use Rattle.compose_machine.specs.Machine.{session_of, with_session, without_session, all_loaded};
 ghost use Rattle.compose_machine.specs.Late.{refed_row, rows_at_swap};
 
-use arrayvec::{ArrayString, ArrayVec};
+use arrayvec::ArrayVec;
 use compose_cert::Certificate;
-use compose_model::Status;
-use compose_state::ComposeState;
+use compose_state::{ComposeState, Fed};
 use compose_tree::ComposeTable;
 use compose_wire::Answer;
 use indexmap::IndexMap;
@@ -19,10 +18,15 @@ use keysym_core::{Keysym, Names};
 use std::alloc::{AllocError, Global};
 use std::marker::Model;
 
+/// How many hints are kept.
+const HINTS: usize = 4_096;
+
 /// Sessions by their numbers, in the order in which they were opened.
 #[derive(Drop)]
 pub struct Sessions {
     rows: IndexMap<u32, ComposeState>,
+    // for the last twelve bits of a number, the index of the session that was found last: a hint, which is checked and never trusted
+    hints: [u16; HINTS],
 }
 
 impl Model for Sessions {
@@ -42,6 +46,7 @@ impl Sessions {
     {
         Sessions {
             rows: IndexMap::new(alloc),
+            hints: [0; HINTS],
         }
     }
 
@@ -82,38 +87,34 @@ impl Sessions {
         true
     }
 
-    /// Refeeds the session by the table and feeds a key to it, if there is one, and tells its status then and whether the key was
-    /// accepted. The text of the key replaces what the string holds. Takes no memory, and costs what `ComposeState::refeed_and_feed`
-    /// does.
+    /// Refeeds the session by the table and feeds a key to it, if there is one. Takes no memory, and costs what
+    /// `ComposeState::refeed_and_feed` does; the session is looked for at its hint first.
     #[inline(always)]
-    pub fn feed<T: ComposeTable>(
+    pub fn feed<'t, T: ComposeTable>(
         &mut self,
         number: u32,
-        table: &T,
+        table: &'t T,
         names: &Names,
         keysym: Keysym,
-        text: &mut ArrayString<255>,
-    ) -> Option<(Status, bool)>
+    ) -> Option<Fed<'t>>
         ensures { MatchOption result ((session_of self.old number ≡ None) × (self.new ≡ self.old))
             (λ told. (s : Session) × (session_of self.old number ≡ Some s)
             × (self.new
             ≡ with_session self.old number
             (session_fed (T.definitions table.now)
             (loaded (T.definitions table.now) s) keysym))
-            × (told.0
-            ≡ (session_fed (T.definitions table.now)
-            (loaded (T.definitions table.now) s) keysym).status)
-            × (told.1 ≡ not (is_ignored keysym))
-            × (text.new.bytes
-            ≡ (step names.now (T.definitions table.now)
-            (loaded (T.definitions table.now) s).pending keysym).text)) }
+            × IsFed names.now (T.definitions table.now)
+            (loaded (T.definitions table.now) s) keysym told) }
     {
-        let Some(session) = self.rows.get_mut(&number) else {
+        let hint = &mut self.hints[number as usize % HINTS];
+        let Some(index) = index_of(&self.rows, number, hint) else {
+            return None;
+        };
+        let Some(session) = self.rows.get_index_mut(index) else {
             return None;
         };
         let fed = session.refeed_and_feed(table, names, keysym);
-        fed.text_into(text);
-        Some((fed.status, fed.accepted))
+        Some(fed)
     }
 
     /// Puts the session at rest, if there is one, and tells whether there is. O(1).
@@ -176,4 +177,21 @@ impl Sessions {
             },
         );
     }
+}
+
+/// The index of the session, if there is one. Looks at the hinted index first, and hints what it finds elsewhere. O(1).
+#[inline(always)]
+fn index_of(rows: &IndexMap<u32, ComposeState>, number: u32, hint: &mut u16) -> Option<usize>
+    ensures { MatchOption result (lookup (nat_eq number) rows.now.entries ≡ None)
+        (λ index. (s : Session) × (slice_get rows.now.entries index ≡ Some (number, s))) }
+{
+    let hinted = usize::from(*hint);
+    if let Some((there, _)) = rows.get_index(hinted) {
+        if *there == number {
+            return Some(hinted);
+        }
+    }
+    let (index, _, _) = rows.get_full(&number)?;
+    *hint = u16::try_from(index).unwrap_or(0);
+    Some(index)
 }
