@@ -11,12 +11,15 @@ use Rattle.compose_tree.specs.declared.table.Target.TheVariants.{Node, Leaf}
 use Rattle.compose_tree.proofs.Lookups.{node_few, node_listed}
 use Rattle.compose_tree.proofs.Steps.{Leads, leads, ToNode, ToLeaf}
 
+-- a key whose target is a node leads to the list with one keysym more, which is that node
 pub to_node : (table : List Definition) (p : List ℕ) (k : ℕ) (target : Target) (n : NodeId) → target_of table p k ≡ Some target → target ≡ Node n → ToNode table p k n
 to_node table p k target n e is = subst (Leads table p k) (e ∙ ap Some is) (leads table p k)
 
+-- a key whose target is a leaf completes the sequence of that leaf
 pub to_leaf : (table : List Definition) (p : List ℕ) (k : ℕ) (target : Target) (l : LeafId) → target_of table p k ≡ Some target → target ≡ Leaf l → ToLeaf table p k l
 to_leaf table p k target l e is = subst (Leads table p k) (e ∙ ap Some is) (leads table p k)
 
+-- the node to which a key leads is the list with that key behind it
 pub child_path : (table : List Definition) (p : List ℕ) (k : ℕ) (n : NodeId) → ToNode table p k n → p ++ k ∷ [] ≡ node table n.0
 child_path table p k n to = sym (node_at_number table (p ++ k ∷ []) to.is_node) ∙ ap (node table) to.number
 

@@ -66,6 +66,7 @@ module _ (names : KeysymNames) (fresh : List ℕ) (old new : List Definition) wh
       more : (p ++ k ∷ []) ++ w ≡ p ++ k ∷ w
       more = append_assoc p (k ∷ []) w
 
+  -- a sequence of the old table that is not kept begins with a counterexample
   pub lost_evident : (s : List ℕ) → is_table old ≡ true → AreFresh fresh old → is_sequence old s ≡ true → (IsKept names old new s → ⊥) → Evidence names fresh old new s
   lost_evident s t a h n = first_part s [] s refl (sequence_avoids fresh old s a h) (sequence_goes_on old s t h) tt
       (elim (cases_Bool (agree_along names old new [] [] s)) [ inl e ↦ absurd (n (along_from names old new [] [] s e)) | inr e ↦ e ])
@@ -75,6 +76,7 @@ module _ (names : KeysymNames) (fresh : List ℕ) (old new : List Definition) wh
   one_more s r x =
       record { keys = x.keys; rest = x.rest ++ r; kind = x.kind; old_text = x.old_text; new_text = x.new_text; begin = ap (λ y. y ++ r) x.begin ∙ append_assoc x.keys x.rest r; part = x.part }
 
+  -- a sequence of the new table that is a new start begins with a counterexample
   pub start_evident : (s : List ℕ) → is_table new ≡ true → is_sequence new s ≡ true → is_new_start names fresh old new s ≡ true → Evidence names fresh old new s
   start_evident [] t h n = cc
   start_evident (k ∷ s) t h n =

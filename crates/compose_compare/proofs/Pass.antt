@@ -80,7 +80,8 @@ lost_behind names fresh old new p k w t n free_old free_new lost h =
       h,
       record {
         not_kept =
-            λ kept. let some : Some (pending new p) ≡ None = ap (λ b. cond b (Some (pending new p)) None) (sym (along_test names old new [] [] p (agree-append names old new [] [] p (k ∷ w) kept).0)) ∙ lost in cc;
+            λ kept. let some : Some (pending new p) ≡ None = ap (λ b. cond b (Some (pending new p)) None) (sym (along_test names old new [] [] p (agree-append names old new [] [] p (k ∷ w) kept).0))
+            ∙ lost in cc;
         not_changed = λ x. not_extended_there (list_any-weaker (λ (d : Definition). same (p ++ k ∷ w) d.sequence) (λ d. is_proper_prefix p d.sequence) (λ d e. begun d e) new x.in_new);
         not_waiting =
             λ x. not_extended_there

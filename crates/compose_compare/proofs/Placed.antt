@@ -44,9 +44,11 @@ found_node table p n e = go (is_node table p) refl e
 pub found_below : (table : List Definition) (p : List ℕ) (n : NodeId) → Some n ≡ node_of table p → n.0 < length (nodes table)
 found_below table p n e = let f = found_node table p n e in subst (λ (m : ℕ). m < length (nodes table)) (sym f.1) (number_below table p f.0)
 
+-- the node that a table has for some keys is these keys
 pub found_path : (table : List Definition) (p : List ℕ) (n : NodeId) → Some n ≡ node_of table p → node table n.0 ≡ p
 found_path table p n e = let f = found_node table p n e in ap (node table) f.1 ∙ node_at_number table p f.0
 
+-- the number of the node that a table has for some keys is below the count of its nodes
 pub some_below : (table : List Definition) (p : List ℕ) (o : Option NodeId) → o ≡ node_of table p → IfSome o (λ (n : NodeId). n.0 < length (nodes table))
 some_below table p None e = tt
 some_below table p (Some n) e = found_below table p n e
@@ -109,6 +111,7 @@ module _ (names : KeysymNames) (old new : List Definition) (p : List ℕ) where
   pub stood_node : is_node new (pending new p) ≡ true
   stood_node = pending_is_node new [] p (root_is_node new)
 
+  -- the node at which the new table stands has a number below the count of its nodes
   pub stood_below : (t : NodeId) → Some t ≡ stand_of names old new p → t.0 < length (nodes new)
   stood_below t e = subst (λ (m : ℕ). m < length (nodes new)) (sym (stood t e).number) (number_below new (pending new p) stood_node)
 
@@ -154,14 +157,17 @@ module _ (names : KeysymNames) (old new : List Definition) (p : List ℕ) (k : �
 
 -- ---- at the root
 
+-- after no keys the new table stands at its root
 pub root_stands : (names : KeysymNames) (old new : List Definition) → Some (node_id 0) ≡ stand_of names old new (node old 0)
 root_stands names old new = ap (λ n. Some (node_id n)) (sym (root_number new)) ∙ ap (stand_of names old new) (sym (node_zero old))
 
+-- each table has its own root for the root of another table
 pub root_same : (table other : List Definition) → Some (node_id 0) ≡ node_of table (node other 0)
 root_same table other =
     ap (λ n. Some (node_id n)) (sym (root_number table)) ∙ sym (ap (λ b. cond b (Some (node_id (number_of table []))) None) (root_is_node table))
     ∙ ap (node_of table) (sym (node_zero other))
 
+-- the root begins nothing anew
 pub root_anew : (fresh : List ℕ) (old new : List Definition) → false ≡ begins_anew fresh old (node new 0)
 root_anew fresh old new = ap (begins_anew fresh old) (sym (node_zero new))
 

@@ -58,7 +58,7 @@ fn are_kept(changes: &[Change]) -> bool
     ensures { result ≡ list_all is_harmless changes.now }
 {
     for change in changes {
-        if !is_harmless(*change) {
+        if !change.is_harmless() {
             return false;
         }
     }
@@ -71,22 +71,12 @@ fn are_added(changes: &[Option<Change>]) -> bool
 {
     for slot in changes {
         if let Some(change) = slot
-            && !is_harmless(*change)
+            && !change.is_harmless()
         {
             return false;
         }
     }
     true
-}
-
-/// Whether nobody who types with the old table meets the change.
-fn is_harmless(change: Change) -> bool
-    ensures { result ≡ is_harmless change }
-{
-    match change {
-        Change::Kept | Change::Added => true,
-        Change::Changed | Change::Waiting | Change::Removed | Change::NewStart => false,
-    }
 }
 
 /// Tells what happens to each sequence of both tables. Where the keysyms are fresh for the old table, the new table follows the

@@ -45,6 +45,18 @@ pub enum Change {
     NewStart,
 }
 
+impl Change {
+    /// Whether nobody who types with the old table meets the change.
+    pub fn is_harmless(self) -> bool
+        ensures { result ≡ is_harmless self }
+    {
+        match self {
+            Change::Kept | Change::Added => true,
+            Change::Changed | Change::Waiting | Change::Removed | Change::NewStart => false,
+        }
+    }
+}
+
 /// A new table follows an old one exactly where every sequence of the old one is kept and no added one is a new start.
 pub fn law_keeps()
     ensures enough { (names : KeysymNames) (fresh : List ℕ) (old new : List Definition)

@@ -52,7 +52,7 @@ flipped p x e = elim (cases_Bool (same x p)) [
 
 module _ {Y : Type 0} (f g : List ℕ → Y) (p : List ℕ) (others : (x : List ℕ) → same x p ≡ false → g x ≡ f x) where
   -- along a list without p the maps agree
-  nothing_changed : (xs : List (List ℕ)) → list_any (same p) xs ≡ false → map g xs ≡ map f xs
+  pub nothing_changed : (xs : List (List ℕ)) → list_any (same p) xs ≡ false → map g xs ≡ map f xs
   nothing_changed [] h = refl
   nothing_changed (x ∷ xs) h = go (same p x) refl h (nothing_changed xs)
     where
@@ -65,7 +65,7 @@ module _ {Y : Type 0} (f g : List ℕ → Y) (p : List ℕ) (others : (x : List 
   all_larger x e (y ∷ xs) a = ap₂ (λ z zs. z ∷ zs) (others y (ap (same y) e ∙ apart x y a.0)) (all_larger x e xs a.1)
 
   -- along a sorted list with p they differ at its place alone
-  changed_at : (xs : List (List ℕ)) → IsStrictlySortedBy (slice_cmp nat_cmp) xs → list_any (same p) xs ≡ true → map g xs ≡ set (map f xs) (position_or_len (same p) xs) (g p)
+  pub changed_at : (xs : List (List ℕ)) → IsStrictlySortedBy (slice_cmp nat_cmp) xs → list_any (same p) xs ≡ true → map g xs ≡ set (map f xs) (position_or_len (same p) xs) (g p)
   unfolding IsStrictlySortedBy
   changed_at [] s h = cc
   changed_at (x ∷ xs) s h = go (same p x) refl h (changed_at xs s.1)
@@ -100,9 +100,11 @@ module _ (table definitions : List Definition) (i : ℕ) (sequence : List ℕ) (
   other_stays : (x : List ℕ) → same x sequence ≡ false → after x ≡ before x
   other_stays x h = last_after x ∙ ap (λ b. cond b (Some i) (before x)) h
 
+  -- a further definition whose sequence is none of the table's changes the last definition of no leaf
   pub no_leaf : is_sequence table sequence ≡ false → map after (leaves table) ≡ map before (leaves table)
   no_leaf h = nothing_changed before after sequence other_stays (leaves table) (leaf_means table sequence ∙ h)
 
+  -- a further definition whose sequence is one of the table's is then the last one of that leaf alone
   pub one_leaf : is_sequence table sequence ≡ true → map after (leaves table) ≡ set (map before (leaves table)) (leaf_number table sequence) (Some i)
   one_leaf h =
       changed_at before after sequence other_stays (leaves table) (rising_sorted nat_list_cmp_total (map (λ (d : Definition). d.sequence) table)) (leaf_means table sequence ∙ h)

@@ -3,3 +3,6 @@ pub mod LastOnes
 pub mod Walks
 pub mod PlacesSoFar
 pub mod NumberedLines
+pub mod WrittenEvents
+pub mod CountingSoFar
+pub mod CountingLaw

@@ -106,6 +106,7 @@ module _ (names : KeysymNames) (sources : List Source) where
       by_many others false e h = by_found others (line_gives names sources v >>= with_room v definitions) e h
 
   module _ (root : List ℕ) (table : List Definition) where
+    -- where the definitions are read without a fault, the lines of definitions give them, one each and in order
     pub lines_told : definitions_of names sources root ≡ Ok table → map (line_gives names sources) (definition_lines sources root) ≡ each table
     lines_told h = go (nat_lt (source_named sources root) (length sources)) h
       where
@@ -119,6 +120,7 @@ module _ (names : KeysymNames) (sources : List Source) where
             let read = read_to_end names sources all 0 0 table h in let no_more = few all 0 0 table h (omega arith) in
             ap (λ vs. map (line_gives names sources) (said_lines vs)) (take_all max_lines all (omega (arith, no_more))) ∙ lines_give all read.0 ∙ ap each (sym read.1)
 
+    -- where the definitions are read without a fault, there are as many places as definitions
     pub as_many : definitions_of names sources root ≡ Ok table → length (definition_places sources root) ≡ length table
     as_many h =
         length-map (definition_lines sources root) place_of ∙ sym (length-map (definition_lines sources root) (line_gives names sources)) ∙ ap (λ rs. length rs) (lines_told h)

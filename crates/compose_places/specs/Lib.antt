@@ -1,3 +1,4 @@
 pub mod Places
 pub mod Last
 pub mod Events
+pub mod Counting

@@ -24,7 +24,7 @@ pub fn written_events<'a>(sources: &'a Sources, place: DefinitionPlace) -> Optio
 }
 
 /// The names of the events of a line that reads as a production.
-fn line_events(line: &[u8]) -> Option<Events<'_>>
+pub(crate) fn line_events(line: &[u8]) -> Option<Events<'_>>
     ensures { option_map (λ events. map (λ e. e.now) events.items) result ≡ line_events line.now }
 {
     let Ok(text) = str::from_utf8(line) else {

@@ -44,7 +44,7 @@ fn no_definitions(alloc: Global, leaves: u32) -> Result<Vec<Option<u32>>, AllocE
 }
 
 /// The leaf with this sequence, if the table has it. O(keysyms × log edges of a node).
-fn leaf_of<T: ComposeTable>(table: &T, sequence: &[Keysym]) -> Option<LeafId>
+pub(crate) fn leaf_of<T: ComposeTable>(table: &T, sequence: &[Keysym]) -> Option<LeafId>
     requires { IsSettled (T.definitions table.now) }
     ensures { MatchOption result (is_sequence (T.definitions table.now) sequence.now ≡ false)
         (λ leaf. (is_sequence (T.definitions table.now) sequence.now ≡ true)

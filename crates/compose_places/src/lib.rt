@@ -13,16 +13,23 @@
 
 ghost use Rattle.std.specs.Prelude.{◌≡◌, ℕ, List, length, map, Ok, Some};
 ghost use Rattle.std.specs.Option.{option_map};
-ghost use Rattle.keysym_core.specs.Names.{KeysymNames};
+ghost use Rattle.keysym_core.specs.Names.{KeysymNames, value};
 ghost use Rattle.compose_model.specs.Table.{Definition};
+ghost use Rattle.compose_model.specs.Nodes.{leaves};
+ghost use Rattle.compose_model.specs.declared.Rule.{Rule};
 ghost use Rattle.compose_read.specs.Lines.{Source};
 ghost use Rattle.compose_read.specs.Read.{line_gives, definitions_of};
+ghost use Rattle.compose_tree.specs.TableGives.{table_of};
+ghost use Rattle.compose_places.specs.Counting.{counting_line, read_lines, AreLines};
 ghost use Rattle.compose_places.specs.Places.{definition_lines, definition_places};
+ghost use Rattle.compose_places.specs.Events.{written_events};
 
+mod counting;
 mod events;
 mod last;
 mod places;
 
+pub use counting::{CountingLine, counting_lines, leaf_named};
 pub use events::written_events;
 pub use last::last_definitions;
 pub use places::{DefinitionPlace, definition_places};
@@ -37,4 +44,22 @@ pub fn law_places()
     ensures as_many { (names : KeysymNames) (sources : List Source) (root : List ℕ)
         (table : List Definition) → definitions_of names sources root ≡ Ok table
         → length (definition_places sources root) ≡ length table }
+{}
+
+/// Where a table is read without a fault, events are written at the place of each definition, and what their names mean is the sequence of the
+/// definition of the same index.
+pub fn law_events()
+    ensures { (names : KeysymNames) (sources : List Source) (root : List ℕ)
+        (table : List Definition) → definitions_of names sources root ≡ Ok table
+        → map (λ place. option_map (map (value names)) (written_events sources place))
+        (definition_places sources root)
+        ≡ map (λ d. Some (map Some d.sequence)) table }
+{}
+
+/// In a table that is read from sources each sequence has a line that counts, and the keys that this line writes are the sequence.
+pub fn law_lines()
+    ensures { (names : KeysymNames) (sources : List Source) (root : List ℕ) (rule : Rule)
+        (table : List Definition) → table_of names sources root rule ≡ Ok table
+        → AreLines names table
+        (map (counting_line names (read_lines sources root)) (leaves table)) }
 {}

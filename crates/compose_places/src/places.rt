@@ -9,7 +9,7 @@ use compose_read::{Sources, Visits};
 use std::alloc::{AllocError, Global};
 
 /// The most lines that are read, included ones each time.
-const MAX_LINES: usize = 1_000_000;
+pub(crate) const MAX_LINES: usize = 1_000_000;
 
 /// Where a definition stands.
 #[derive(Clone, Copy, Debug, PartialEq, Eq)]

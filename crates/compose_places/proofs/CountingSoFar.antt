@@ -1,0 +1,95 @@
+-- The counting line of each sequence, as one line more is read.
+use Rattle.std.proofs.Common.{◌≡◌, ℕ, zero, suc, List, [], ◌∷◌, ◌++◌, Bool, true, false, cond, map, set, take, refl, sym, ◌∙◌, ap, ap₂, append_assoc}
+use Rattle.std.specs.Prelude.{Option, Some, None}
+use Rattle.std.specs.Option.{option_or, option_map_or, option_and_then}
+use Rattle.std.proofs.lemmas.List.{append-nil}
+use Rattle.std.proofs.lemmas.Option.{same_Some}
+use Rattle.std.proofs.lemmas.Cmp.{nat_list_cmp_total}
+use Rattle.keysym_core.specs.Names.{KeysymNames}
+use Rattle.compose_model.specs.Table.{Definition, same, is_sequence}
+use Rattle.compose_model.specs.Nodes.{leaves}
+use Rattle.compose_model.proofs.NodeLemmas.{same_from}
+use Rattle.compose_model.proofs.Sorted.{rising_sorted}
+use Rattle.compose_read.specs.Lines.{Visit}
+use Rattle.compose_read.specs.Read.{max_lines}
+use Rattle.compose_tree.specs.Targets.{leaf_number}
+use Rattle.compose_tree.proofs.Steps.{leaf_means}
+use Rattle.compose_places.specs.Events.{line_events}
+use Rattle.compose_places.specs.Counting.{WrittenLine, sequence_named, defines, written_line, counting_line}
+use Rattle.compose_places.proofs.LastOnes.{nothing_changed, changed_at}
+
+module _ (names : KeysymNames) where
+  counting_line-append : (vs : List Visit) (v : Visit) (s : List ℕ) → counting_line names (vs ++ v ∷ []) s ≡ cond (defines names s v.bytes) (Some (written_line v)) (counting_line names vs s)
+  counting_line-append [] v s = refl
+  counting_line-append (c ∷ vs) v s = ap (λ o. option_or o (cond (defines names s c.bytes) (Some (written_line c)) None)) (counting_line-append vs v s) ∙ outside (defines names s v.bytes)
+    where
+      outside : (b : Bool)
+          → option_or (cond b (Some (written_line v)) (counting_line names vs s)) (cond (defines names s c.bytes) (Some (written_line c)) None) ≡ cond b (Some (written_line v)) (counting_line names (c ∷ vs) s)
+      outside true = refl
+      outside false = refl
+
+  module _ (table : List Definition) (seen : List Visit) (v : Visit) where
+    abbrev before : List ℕ → Option WrittenLine
+    before = counting_line names seen
+
+    abbrev after : List ℕ → Option WrittenLine
+    after = counting_line names (seen ++ v ∷ [])
+
+    abbrev sequence : Option (List ℕ)
+    sequence = option_and_then (sequence_named names) (line_events v.bytes)
+
+    one_more : (o : Option (List ℕ)) → sequence ≡ o → (s : List ℕ) → after s ≡ cond (option_map_or (same s) o false) (Some (written_line v)) (before s)
+    one_more o e s = counting_line-append seen v s ∙ ap (λ x. cond (option_map_or (same s) x false) (Some (written_line v)) (before s)) e
+
+    -- a line that defines nothing
+    pub defines_none : sequence ≡ None → map after (leaves table) ≡ map before (leaves table)
+    defines_none e = go (leaves table)
+      where
+        go : (xs : List (List ℕ)) → map after xs ≡ map before xs
+        go [] = refl
+        go (x ∷ xs) = ap₂ (λ y ys. y ∷ ys) (one_more None e x) (go xs)
+
+    module _ (s : List ℕ) (e : sequence ≡ Some s) where
+      others : (x : List ℕ) → same x s ≡ false → after x ≡ before x
+      others x h = one_more (Some s) e x ∙ ap (λ b. cond b (Some (written_line v)) (before x)) h
+
+      -- one that defines a sequence which the table has not
+      pub defines_other : is_sequence table s ≡ false → map after (leaves table) ≡ map before (leaves table)
+      defines_other h = nothing_changed before after s others (leaves table) (leaf_means table s ∙ h)
+
+      -- one that defines a sequence of the table
+      pub defines_one : is_sequence table s ≡ true → map after (leaves table) ≡ set (map before (leaves table)) (leaf_number table s) (Some (written_line v))
+      defines_one h =
+          changed_at before after s others (leaves table) (rising_sorted nat_list_cmp_total (map (λ (d : Definition). d.sequence) table)) (leaf_means table s ∙ h)
+          ∙ ap (set (map before (leaves table)) (leaf_number table s)) (one_more (Some s) e s ∙ ap (λ b. cond b (Some (written_line v)) (before s)) (same_from s s refl))
+
+    -- one whose keys are no sequence of the table
+    pub defines_unknown : (o : Option (List ℕ)) → sequence ≡ o → ((s : List ℕ) → o ≡ Some s → is_sequence table s ≡ false) → map after (leaves table) ≡ map before (leaves table)
+    defines_unknown None e f = defines_none e
+    defines_unknown (Some s) e f = defines_other s e (f s refl)
+
+-- ---- along the lines
+
+take_nothing : {X : Type 0} (n : ℕ) (xs : List X) → xs ≡ [] → take n xs ≡ []
+take_nothing zero xs e = refl
+take_nothing (suc n) xs e = ap (take (suc n)) e
+
+-- where no line is left, or none is to be read, all were seen
+pub all_seen : {X : Type 0} (seen all left : List X) (n : ℕ) → seen ++ take n left ≡ all → left ≡ [] → seen ≡ all
+all_seen seen all left n told e = sym (append-nil seen) ∙ ap (λ xs. seen ++ xs) (sym (take_nothing n left e)) ∙ told
+
+pub enough_seen : {X : Type 0} (seen all left : List X) (n : ℕ) → seen ++ take n left ≡ all → n ≡ 0 → seen ≡ all
+enough_seen seen all left n told e = sym (append-nil seen) ∙ ap (λ k. seen ++ take k left) (sym e) ∙ told
+
+pub one_seen : {X : Type 0} (seen all left : List X) (n : ℕ) → seen ++ take n left ≡ all → (v : X) (rest : List X) (m : ℕ) → left ≡ v ∷ rest → n ≡ suc m
+    → (seen ++ v ∷ []) ++ take m rest ≡ all
+one_seen seen all left n told v rest m is one = append_assoc seen (v ∷ []) (take m rest) ∙ sym (ap₂ (λ k xs. seen ++ take k xs) one is) ∙ told
+
+-- all lines that are read, or none where no source has the root's name
+pub read_some : (there : Bool) (all given : List Visit) → Some given ≡ cond there (Some all) None → take max_lines given ≡ cond there (take max_lines all) []
+read_some true all given h = ap (take max_lines) (same_Some given all h)
+read_some false all given h = cc
+
+pub read_none : (there : Bool) (all : List Visit) → None ≡ cond there (Some all) None → [] ≡ cond there (take max_lines all) []
+read_none true all h = cc
+read_none false all h = refl

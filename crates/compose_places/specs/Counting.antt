@@ -1,0 +1,41 @@
+-- The line that counts for a sequence: the last one that defines it (Compose(5): a later definition overrides an earlier one).
+use Rattle.std.specs.Prelude.{◌≡◌, ℕ, nat_lt, if◌then◌else◌, List, [], ◌∷◌, length, map, take, Option, Some, None, unwrap_or, false, Bool}
+use Rattle.std.specs.Option.{option_map, option_map_or, option_and_then, option_or}
+use Rattle.keysym_core.specs.Names.{KeysymNames, value}
+use Rattle.compose_model.specs.Table.{Definition, same}
+use Rattle.compose_model.specs.Nodes.{leaves}
+use Rattle.compose_read.specs.Lines.{Source, Visit, source_named, visits}
+use Rattle.compose_read.specs.Read.{max_lines}
+use Rattle.compose_places.specs.Events.{line_events}
+use Rattle.compose_places.specs.Places.{place_of}
+use Rattle.compose_places.specs.declared.places.DefinitionPlace.{DefinitionPlace}
+
+-- the keysyms of these keys, if each has one
+abbrev pub sequence_named : KeysymNames → List (List ℕ) → Option (List ℕ)
+sequence_named names [] = Some []
+sequence_named names (key ∷ keys) = option_and_then (λ k. option_map (λ s. k ∷ s) (sequence_named names keys)) (value names key)
+
+-- the line reads as a definition of the sequence
+abbrev pub defines : KeysymNames → List ℕ → List ℕ → Bool
+defines names s line = option_map_or (same s) (option_and_then (sequence_named names) (line_events line)) false
+
+-- a line that gives a definition: where it stands, and the names of its keys as it writes them
+pub record WrittenLine : Type 0 where
+  pub place : DefinitionPlace
+  pub keys : List (List ℕ)
+
+abbrev pub written_line : Visit → WrittenLine
+written_line v = record { place = place_of v; keys = unwrap_or (line_events v.bytes) [] }
+
+-- the lines that are read from the root
+abbrev pub read_lines : List Source → List ℕ → List Visit
+read_lines sources root = if nat_lt (source_named sources root) (length sources) then take max_lines (visits sources (source_named sources root)) else []
+
+-- of these lines the last one that defines the sequence
+abbrev pub counting_line : KeysymNames → List Visit → List ℕ → Option WrittenLine
+counting_line names [] s = None
+counting_line names (v ∷ vs) s = option_or (counting_line names vs s) (if defines names s v.bytes then Some (written_line v) else None)
+
+-- each sequence of the table has a line that counts, whose keys it is
+abbrev pub AreLines : KeysymNames → List Definition → List (Option WrittenLine) → Type 0
+AreLines names table lines = map (option_and_then (λ line. sequence_named names line.keys)) lines ≡ map (λ s. Some s) (leaves table)
