@@ -21,7 +21,8 @@ shown_key : keys_part ((97 ∷ 27 ∷ []) ∷ []) ≡ codes " <a\\u{1b}>"
 unfolding chars encode_utf8 digits
 shown_key = refl
 
-all_counts : counts_line (record { kept = 5205; changed = 3; waiting = 0; removed = 298; new_starts = 0; added = 12; accepted = 2 }) ≡ codes "diff: 5205 kept, 3 changed, 0 waiting, 298 removed, 0 new starts, 12 added, 2 accepted\n"
+all_counts : counts_line (record { kept = 5205; changed = 3; waiting = 0; removed = 298; new_starts = 0; added = 12; accepted = 2 })
+    ≡ codes "diff: 5205 kept, 3 changed, 0 waiting, 298 removed, 0 new starts, 12 added, 2 accepted\n"
 unfolding digits
 all_counts = refl
 

@@ -1,4 +1,9 @@
 mod Examples
+pub mod AcceptAgain
+pub mod Colored
 pub mod Concat
 pub mod Found
-pub mod Runs
+pub mod Gone
+pub mod Plain
+pub mod PlainLines
+pub mod FirstRun

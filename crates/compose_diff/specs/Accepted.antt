@@ -1,5 +1,5 @@
 -- The changes that are meant: lines in the form in which rows are told, with places or without (this project's profile).
-use Rattle.std.specs.Prelude.{◌≡◌, ℕ, Bool, true, not, ◌+◌, ◌&&◌, ◌==◌, if◌then◌else◌, List, [], ◌∷◌, ◌++◌, length, take, drop, map, filter, flat_map, Result, Ok, Err, bytes_eq, codes}
+use Rattle.std.specs.Prelude.{◌≡◌, ℕ, Bool, true, not, ◌+◌, ◌&&◌, ◌==◌, nat_lt, if◌then◌else◌, List, [], ◌∷◌, ◌++◌, length, take, drop, map, filter, flat_map, Result, Ok, Err, bytes_eq, codes}
 use Rattle.std.specs.List.{find, list_any}
 use Rattle.std.specs.Option.{option_map_or}
 use Rattle.std.specs.declared.vec.Vec.{Vec}
@@ -11,7 +11,7 @@ use Rattle.compose_compare.specs.Change.{is_harmless}
 use Rattle.compose_diff.specs.declared.row.DiffRow.{DiffRow}
 use Rattle.compose_diff.specs.declared.accepted.AcceptFault.{AcceptFault}
 use Rattle.compose_diff.specs.declared.accepted.AcceptFault.TheVariants.{Stale, BadLine, NoMemory}
-use Rattle.compose_diff.specs.Line.{change_word, row_text}
+use Rattle.compose_diff.specs.Line.{change_word, key_names, row_text}
 
 -- ---- the lines
 
@@ -92,3 +92,15 @@ Leaves (Err fault) said = said ≡ Err fault
 -- the rows that somebody meets, a line each, without places
 abbrev pub accept_lines : List DiffRow → List ℕ
 accept_lines rows = flat_map (λ row. row_text row ++ 10 ∷ []) (filter (λ row. not (is_harmless row.change)) rows)
+
+-- ---- the written list, read again
+
+-- the sequence has a key
+abbrev pub has_key : DiffRow → Bool
+has_key row = nat_lt 0 (length (key_names row))
+
+-- the bytes are a file of accepted lines, none of which is stale, and what is left of the rows is what nobody meets
+pub record AcceptsAll (bytes : List ℕ) (rows : List DiffRow) : Type 0 where
+  pub lines : List Line
+  pub read : accepted_of bytes ≡ Ok lines
+  pub left : left_of lines rows ≡ Ok (filter (λ row. is_harmless row.change) rows)

@@ -1,7 +1,10 @@
 pub mod Line
 pub mod Json
 pub mod Accepted
+pub mod Colors
 pub mod Counts
+pub mod Runs
+pub mod Causes
 pub mod Folds
 pub mod Order
 pub mod Told

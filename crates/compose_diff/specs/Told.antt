@@ -9,23 +9,24 @@ use Rattle.compose_diff.specs.Accepted.{Line, left_of}
 use Rattle.compose_diff.specs.Counts.{counts_of, counts_line, loses_nothing}
 use Rattle.compose_diff.specs.Folds.{diff_lines, folded_lines}
 
-abbrev pub lines_text : Bool → List DiffRow → List ℕ
-lines_text folds left = if folds then folded_lines left else diff_lines left
+-- the lines of the rows that are left of all rows
+abbrev pub lines_text : Bool → List DiffRow → List DiffRow → List ℕ
+lines_text folds rows left = if folds then folded_lines rows left else diff_lines left
 
 -- the lines of the rows that are not accepted, and the line of the counts
-abbrev pub answer_text : Bool → List DiffRow → ℕ → List ℕ
-answer_text folds left accepted = lines_text folds left ++ counts_line (counts_of left accepted)
+abbrev pub answer_text : Bool → List DiffRow → List DiffRow → List ℕ
+answer_text folds rows left = lines_text folds rows left ++ counts_line (counts_of left (length rows - length left))
 
 -- yes where nobody meets any of these rows, else no, with that text
-abbrev pub IsAnswer : Bool → List DiffRow → ℕ → Answer → Type 0
-IsAnswer folds left accepted (Yes text) = IsTrue (loses_nothing left) × (string_bytes text ≡ answer_text folds left accepted)
-IsAnswer folds left accepted (No text) = IsTrue (not (loses_nothing left)) × (string_bytes text ≡ answer_text folds left accepted)
-IsAnswer folds left accepted (Invalid fault) = ⊥
-IsAnswer folds left accepted (FreshNotAllowed keysym) = ⊥
+abbrev pub IsAnswer : Bool → List DiffRow → List DiffRow → Answer → Type 0
+IsAnswer folds rows left (Yes text) = IsTrue (loses_nothing left) × (string_bytes text ≡ answer_text folds rows left)
+IsAnswer folds rows left (No text) = IsTrue (not (loses_nothing left)) × (string_bytes text ≡ answer_text folds rows left)
+IsAnswer folds rows left (Invalid fault) = ⊥
+IsAnswer folds rows left (FreshNotAllowed keysym) = ⊥
 
 -- the answer on the rows that are left, or the fault that is said
 abbrev pub Tells : Bool → List Line → List DiffRow → Result Answer AcceptFault → Type 0
-Tells folds lines rows (Ok answer) = (left : List DiffRow) × (left_of lines rows ≡ Ok left) × IsAnswer folds left (length rows - length left) answer
+Tells folds lines rows (Ok answer) = (left : List DiffRow) × (left_of lines rows ≡ Ok left) × IsAnswer folds rows left answer
 Tells folds lines rows (Err NoMemory) = Unit {0}
 Tells folds lines rows (Err (Stale n)) = left_of lines rows ≡ Err (Stale n)
 Tells folds lines rows (Err (BadLine n)) = left_of lines rows ≡ Err (BadLine n)

@@ -7,11 +7,11 @@ ghost use Rattle.compose_diff.specs.Line.{row_text};
 ghost use Rattle.compose_diff.specs.Accepted as words;
 ghost use Rattle.compose_diff.specs.Accepted.{Gives, accepted_of, left_of};
 
-use crate::line::{change_word, is_harmless, push_row_text};
+use crate::line::{change_word, push_row_text};
 use crate::row::DiffRow;
 use compose_compare::Change;
 use compose_text::first_line;
-use std::alloc::{AllocError, AllocFailed, Global};
+use std::alloc::{AllocError, Global};
 use std::marker::Model;
 use thiserror::Error;
 
@@ -35,16 +35,6 @@ impl From<AllocError> for AcceptFault {
     ghost from_gives = { λ _ e. e ≡ NoMemory };
 
     fn from(_error: AllocError) -> AcceptFault {
-        AcceptFault::NoMemory
-    }
-}
-
-impl<T: Drop> From<AllocFailed<T>> for AcceptFault {
-    ghost use Rattle.compose_diff.specs.declared.accepted.AcceptFault.TheVariants.{NoMemory};
-
-    ghost from_gives = { λ _ e. e ≡ NoMemory };
-
-    fn from(_error: AllocFailed<T>) -> AcceptFault {
         AcceptFault::NoMemory
     }
 }
@@ -275,7 +265,7 @@ fn accepting(
     ensures accepted { IfOk result (λ at. is_some at ≡ words.is_accepted lines.now row.now) }
     ensures within { IfOk result (λ at. IfSome at (λ i. i < length lines.now)) }
 {
-    if is_harmless(row.change) {
+    if row.change.is_harmless() {
         return Ok(None);
     }
     let text = row_text(alloc, row)?;
@@ -304,7 +294,7 @@ pub fn accept_text(alloc: Global, rows: &[DiffRow]) -> Result<String, AllocError
 {
     let mut text = String::new(alloc);
     for row in rows {
-        if !is_harmless(row.change) {
+        if !row.change.is_harmless() {
             push_row_text(alloc, &mut text, row)?;
             text.push_str("\n")?;
         }

@@ -11,8 +11,8 @@ use compose_tool::Answer;
 use std::alloc::{AllocError, Global};
 use std::fmt::Write;
 
-/// What `diff` answers on rows in order: the lines of those that are neither kept nor accepted, long runs folded if that is asked for,
-/// and the line that counts all of them; yes where nobody meets any row that is not accepted. Or the first accepted line that tells no
+/// What `diff` answers on rows in order: the lines of those that are neither kept nor accepted, those that belong together in
+/// one line if that is asked for, and the line that counts all of them; yes where nobody meets any row that is not accepted. Or the first accepted line that tells no
 /// row. O(bytes) where the accepted lines are in the order of the rows.
 pub fn answer_diff(
     alloc: Global,
@@ -23,20 +23,19 @@ pub fn answer_diff(
     ensures { Tells folds accepted.now rows.now result }
 {
     let left = accepted.leave_out(alloc, rows)?;
-    let count = rows.len().saturating_sub(left.len());
-    Ok(answer_on(alloc, &left, count, folds)?)
+    Ok(answer_on(alloc, rows, &left, folds)?)
 }
 
-/// What is answered on the rows that are not accepted, and how many others are.
+/// What is answered on the rows that are not accepted, which are left of all rows.
 fn answer_on(
     alloc: Global,
+    rows: &[DiffRow],
     left: &[DiffRow],
-    accepted: usize,
     folds: bool,
 ) -> Result<Answer, AllocError>
-    ensures { IfOk result (λ answer. words.IsAnswer folds left.now accepted answer) }
+    ensures { IfOk result (λ answer. words.IsAnswer folds rows.now left.now answer) }
 {
-    let text = answer_text(alloc, left, accepted, folds)?;
+    let text = answer_text(alloc, rows, left, folds)?;
     if loses_nothing(left) {
         return Ok(Answer::Yes(text));
     }
@@ -46,24 +45,29 @@ fn answer_on(
 /// The lines of the rows, and the line of the counts.
 fn answer_text(
     alloc: Global,
+    rows: &[DiffRow],
     left: &[DiffRow],
-    accepted: usize,
     folds: bool,
 ) -> Result<String, AllocError>
-    ensures { IfOk result (λ text. string_bytes text ≡ words.answer_text folds left.now accepted) }
+    ensures { IfOk result (λ text. string_bytes text ≡ words.answer_text folds rows.now left.now) }
 {
-    let mut text = lines_text(alloc, left, folds)?;
-    let counts = Counts::of(left, accepted);
+    let mut text = lines_text(alloc, rows, left, folds)?;
+    let counts = Counts::of(left, rows.len().saturating_sub(left.len()));
     write!(text, "{counts}")?;
     Ok(text)
 }
 
 /// The lines of the rows.
-fn lines_text(alloc: Global, left: &[DiffRow], folds: bool) -> Result<String, AllocError>
-    ensures { IfOk result (λ text. string_bytes text ≡ words.lines_text folds left.now) }
+fn lines_text(
+    alloc: Global,
+    rows: &[DiffRow],
+    left: &[DiffRow],
+    folds: bool,
+) -> Result<String, AllocError>
+    ensures { IfOk result (λ text. string_bytes text ≡ words.lines_text folds rows.now left.now) }
 {
     if folds {
-        return folded_text(alloc, left);
+        return folded_text(alloc, rows, left);
     }
     diff_text(alloc, left)
 }

@@ -3,7 +3,6 @@ ghost use Rattle.std.specs.Prelude.{◌≡◌, Some};
 ghost use Rattle.compose_diff.specs.Counts as words;
 ghost use Rattle.compose_diff.specs.Counts.{counts_line};
 
-use crate::line::is_harmless;
 use crate::row::DiffRow;
 use compose_compare::Change;
 use std::fmt;
@@ -74,5 +73,5 @@ fn count_of(rows: &[DiffRow], change: Change) -> usize
 pub fn loses_nothing(rows: &[DiffRow]) -> bool
     ensures { result ≡ words.loses_nothing rows.now }
 {
-    rows.iter().all(|row| is_harmless(row.change))
+    rows.iter().all(|row| row.change.is_harmless())
 }

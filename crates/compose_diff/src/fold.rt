@@ -1,10 +1,11 @@
-//! Told rows as lines, and long runs of alike ones as one line each.
-ghost use Rattle.std.specs.Prelude.{◌≡◌, ◌<◌, ◌≤◌, ◌++◌, ◌∷◌, length, take, drop, map, bytes_eq, IfOk, OnOk, string_bytes};
-ghost use Rattle.std.specs.Cmp.Lexicographic.{pointwise};
+//! Told rows as lines, long runs of alike ones as one line each, and a source that is gone as one line.
+ghost use Rattle.std.specs.Prelude.{◌≡◌, ◌<◌, ◌≤◌, ◌++◌, length, drop, IfOk, OnOk, string_bytes};
 ghost use Rattle.compose_diff.specs.Folds as words;
 
+use crate::cause::{gone_from, push_cause};
 use crate::line::{push_keys, push_places, push_quoted, push_row_line};
 use crate::row::DiffRow;
+use crate::runs::{Division, fold_keys, run_length};
 use compose_compare::Change;
 use std::alloc::{AllocError, Global};
 use std::fmt::Write;
@@ -19,14 +20,19 @@ pub fn diff_text(alloc: Global, rows: &[DiffRow]) -> Result<String, AllocError>
     Ok(text)
 }
 
-/// The same, but four rows or more that stand together, all removed or all added, and that begin with the same two keys (or the same
-/// one, where they have two), are one line: their count, the texts of the first three and the place of the first. O(bytes).
-pub fn folded_text(alloc: Global, rows: &[DiffRow]) -> Result<String, AllocError>
-    ensures { IfOk result (λ text. string_bytes text ≡ words.folded_lines rows.now) }
+/// The same of the rows that are left of all rows, but rows that stand together are told together:
+///
+/// - Two removed rows or more are one line, which names the source, where they are all rows that the old table has in it.
+/// - Else four rows or more, all removed or all added, that begin with the same two keys (or the same one, where they have two), are one
+///   line: their count, the texts of the first three and the place of the first. Removed ones are all of one source.
+///
+/// O(bytes + rows × sources of the removed rows) where those are in the order of their sources.
+pub fn folded_text(alloc: Global, rows: &[DiffRow], left: &[DiffRow]) -> Result<String, AllocError>
+    ensures { IfOk result (λ text. string_bytes text ≡ words.folded_lines rows.now left.now) }
 {
-    let told = told(alloc, rows)?;
+    let told = told(alloc, left)?;
     let mut text = String::new(alloc);
-    push_runs(alloc, &mut text, &told)?;
+    push_parts(alloc, &mut text, rows, &told)?;
     Ok(text)
 }
 
@@ -54,6 +60,58 @@ fn push_rows(alloc: Global, text: &mut String, rows: &[DiffRow]) -> Result<(), A
     Ok(())
 }
 
+/// Appends the lines of each part of the rows that are left to the text.
+fn push_parts(
+    alloc: Global,
+    text: &mut String,
+    rows: &[DiffRow],
+    left: &[DiffRow],
+) -> Result<(), AllocError>
+    ensures { OnOk result
+        (string_bytes text.new ≡ string_bytes text.old ++ words.parts_lines rows.now left.now) }
+{
+    let mut from = 0;
+    while from < left.len() {
+        from += push_first_part(alloc, text, rows, &left[from..])?;
+    }
+    Ok(())
+}
+
+/// Appends the lines of the first part of the rows that are left to the text; how many rows it has.
+fn push_first_part(
+    alloc: Global,
+    text: &mut String,
+    rows: &[DiffRow],
+    left: &[DiffRow],
+) -> Result<usize, AllocError>
+    requires { 0 < length left.now }
+    ensures some { IfOk result (λ count. 0 < count) }
+    ensures within { IfOk result (λ count. count ≤ length left.now) }
+    ensures lines { IfOk result
+        (λ count. string_bytes text.new ++ words.parts_lines rows.now (drop count left.now)
+        ≡ string_bytes text.old ++ words.parts_lines rows.now left.now) }
+{
+    let count = run_length(Division::Sources, left);
+    push_part(alloc, text, rows, &left[..count])?;
+    Ok(count)
+}
+
+/// Appends the lines of neighbours of one source to the text.
+fn push_part(
+    alloc: Global,
+    text: &mut String,
+    rows: &[DiffRow],
+    part: &[DiffRow],
+) -> Result<(), AllocError>
+    ensures { OnOk result
+        (string_bytes text.new ≡ string_bytes text.old ++ words.part_lines rows.now part.now) }
+{
+    match gone_from(rows, part) {
+        Some(entry) => push_cause(text, &entry, part.len()),
+        None => push_runs(alloc, text, part),
+    }
+}
+
 /// Appends the lines of each run of rows to the text.
 fn push_runs(alloc: Global, text: &mut String, rows: &[DiffRow]) -> Result<(), AllocError>
     ensures { OnOk result
@@ -75,57 +133,9 @@ fn push_first_run(alloc: Global, text: &mut String, rows: &[DiffRow]) -> Result<
         (λ count. string_bytes text.new ++ words.runs_lines (drop count rows.now)
         ≡ string_bytes text.old ++ words.runs_lines rows.now) }
 {
-    let count = run_length(rows);
+    let count = run_length(Division::Keys, rows);
     push_run(alloc, text, &rows[..count])?;
     Ok(count)
-}
-
-/// How many rows the first run has.
-fn run_length(rows: &[DiffRow]) -> usize
-    requires { 0 < length rows.now }
-    ensures some { 0 < result }
-    ensures within { result ≤ length rows.now }
-    ensures run { words.runs_of rows.now
-        ≡ take result rows.now ∷ words.runs_of (drop result rows.now) }
-{
-    let mut at = 1;
-    while at < rows.len() {
-        if !go_together(&rows[at - 1], &rows[at]) {
-            return at;
-        }
-        at += 1;
-    }
-    at
-}
-
-/// Whether both rows are removed or both added, and they begin with the same keys.
-fn go_together(a: &DiffRow, b: &DiffRow) -> bool
-    ensures { result ≡ words.go_together a.now b.now }
-{
-    can_fold(a.change) && a.change == b.change && a.keys.len() > 1 && are_same(stem(a), stem(b))
-}
-
-/// Whether rows to which this happens are folded.
-fn can_fold(change: Change) -> bool
-    ensures { result ≡ words.can_fold change }
-{
-    matches!(change, Change::Removed | Change::Added)
-}
-
-/// The keys by which rows are folded.
-fn stem<'a>(row: &DiffRow<'a>) -> &'a [&'a str]
-    ensures { map (λ key. key.now) result.now ≡ words.stem row.now }
-{
-    let count = row.keys.len().saturating_sub(1).min(2);
-    &row.keys[..count]
-}
-
-/// Whether the keys are the same, in order.
-fn are_same(a: &[&str], b: &[&str]) -> bool
-    ensures { result
-        ≡ pointwise bytes_eq (map (λ key. key.now) a.now) (map (λ key. key.now) b.now) }
-{
-    a == b
 }
 
 /// Appends the lines of a run to the text: one of four rows or more.
@@ -147,7 +157,7 @@ fn push_fold(alloc: Global, text: &mut String, run: &[DiffRow]) -> Result<(), Al
 {
     let first = &run[0];
     let count = run.len();
-    push_keys(text, first.change, stem(first))?;
+    push_keys(text, first.change, fold_keys(first))?;
     write!(text, " .. {count} sequences")?;
     push_texts(alloc, text, &run[..3])?;
     text.push_str(" ..")?;

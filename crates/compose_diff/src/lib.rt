@@ -1,36 +1,78 @@
 //! The texts of `diff`: what a new compose table does to each sequence of an old one, as lines, and the changes that are meant.
 //!
 //! A [`DiffRow`] is a sequence and what happens to it. [`sort_rows`] puts rows in the order in which they are told, and
-//! [`answer_diff`] gives the whole answer: a line for each ([`diff_text`], or [`folded_text`]) and the [`Counts`]. [`json_text`] tells
-//! the same to programs. A line:
+//! [`answer_diff`] gives the whole answer: a line for each ([`diff_text`], or [`folded_text`]) and the [`Counts`]. [`colored_text`] puts
+//! it in colours, and [`json_text`] tells the rows to programs. A line:
 //!
 //!     changed: <dead_hook> <o> "ở" "ờ" en_US.UTF-8/Compose:1234 fi_FI.UTF-8/Compose:361
 //!
 //! [`Accepted`] are the changes that are meant, as such lines, and [`accept_text`] writes those that accept all rows.
 #![tactic(auto)]
 
-ghost use Rattle.std.specs.Prelude.{◌≡◌, List};
+ghost use Rattle.std.specs.Prelude.{◌≡◌, Bool, List, ◌∷◌, ◌++◌, filter, Some, IsTrue};
+ghost use Rattle.std.specs.List.{list_all};
+ghost use Rattle.std.specs.Str.Lines.{lines};
 ghost use Rattle.compose_diff.specs.declared.row.DiffRow.{DiffRow};
-ghost use Rattle.compose_diff.specs.Folds.{runs_of, all_of};
+ghost use Rattle.compose_diff.specs.declared.row.Entry.{Entry};
+ghost use Rattle.compose_diff.specs.declared.runs.Division.{Division};
+ghost use Rattle.compose_diff.specs.Runs.{runs_by, all_of};
+ghost use Rattle.compose_diff.specs.declared.runs.Division.TheVariants.{Sources};
+ghost use Rattle.compose_diff.specs.Causes.{gone_from, are_removed};
+ghost use Rattle.compose_diff.specs.Folds.{told, parts_rows};
+ghost use Rattle.compose_diff.specs.Accepted.{has_key, accept_lines, AcceptsAll};
+ghost use Rattle.compose_diff.specs.Told.{answer_text};
+ghost use Rattle.compose_diff.specs.Colors.{colored_lines, uncolored};
 
 mod accepted;
 mod answer;
+mod cause;
+mod color;
 mod counts;
 mod fold;
 mod json;
 mod line;
 mod order;
 mod row;
+mod runs;
 
 pub use accepted::{AcceptFault, Accepted, accept_text};
 pub use answer::answer_diff;
+pub use color::colored_text;
 pub use counts::{Counts, loses_nothing};
 pub use fold::{diff_text, folded_text};
 pub use json::json_text;
 pub use order::sort_rows;
 pub use row::{DiffRow, Entry};
 
-/// Each row is in one run, and in the order in which it was: a fold leaves nothing out and tells nothing twice.
+/// Each row is in one run, and in the order in which it was: a division leaves nothing out and doubles nothing.
 pub fn law_runs()
-    ensures { (rows : List DiffRow) → all_of (runs_of rows) ≡ rows }
+    ensures { (division : Division) (rows : List DiffRow) → all_of (runs_by division rows) ≡ rows }
+{}
+
+/// Each row that is left is told by its own line, by that of its run or by that of its source, once and in the order in which it was.
+pub fn law_told()
+    ensures { (rows left : List DiffRow) → parts_rows rows left ≡ left }
+{}
+
+/// Where, of all rows, some are left, and neighbours among these are told by the line of their source ([`folded_text`]), every one of all
+/// rows that stands in that source is removed.
+pub fn law_gone()
+    ensures { (keep : DiffRow → Bool) (rows part : List DiffRow)
+        (before after : List (List DiffRow)) (entry : Entry)
+        → runs_by Sources (told (filter keep rows)) ≡ before ++ part ∷ after
+        → gone_from rows part ≡ Some entry → IsTrue (are_removed entry.source rows) }
+{}
+
+/// The list that [`accept_text`] writes for rows whose sequences have keys is read by [`Accepted::read`], and accepts these rows: no line
+/// is stale, and the rows that are left are those that nobody meets.
+pub fn law_accept_text()
+    ensures { (rows : List DiffRow) → IsTrue (list_all has_key rows)
+        → AcceptsAll (accept_lines rows) rows }
+{}
+
+/// An answer in colours ([`colored_text`]) is the same answer without its escape sequences.
+pub fn law_colors()
+    ensures { (folds : Bool) (rows left : List DiffRow)
+        → uncolored (colored_lines (lines (answer_text folds rows left)))
+        ≡ answer_text folds rows left }
 {}

@@ -1,6 +1,5 @@
 //! The line of a told sequence.
 ghost use Rattle.std.specs.Prelude.{◌≡◌, ◌++◌, map, OnOk, string_bytes};
-ghost use Rattle.compose_compare.specs.Change.{is_harmless};
 ghost use Rattle.compose_diff.specs.Line as words;
 
 use crate::row::{DiffRow, Entry};
@@ -21,16 +20,6 @@ pub(crate) fn change_word(change: Change) -> &'static str
         Change::Removed => "removed",
         Change::Added => "added",
         Change::NewStart => "new start",
-    }
-}
-
-/// Whether nobody who types with the old table meets the change.
-pub(crate) fn is_harmless(change: Change) -> bool
-    ensures { result ≡ is_harmless change }
-{
-    match change {
-        Change::Kept | Change::Added => true,
-        Change::Changed | Change::Waiting | Change::Removed | Change::NewStart => false,
     }
 }
 
