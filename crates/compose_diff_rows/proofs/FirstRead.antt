@@ -1,0 +1,63 @@
+-- What a migration that was read says of its tables.
+use Rattle.std.proofs.Common.{◌≡◌, ℕ, List, [], ◌∷◌, length, map, refl, sym, ◌∙◌, ap}
+use Rattle.std.specs.Prelude.{Option, Some, None, option_map, slice_get, Result, Ok, Err}
+use Rattle.std.proofs.lemmas.Option.{same_Some}
+use Rattle.compose_text.specs.Results.{◌>>=◌}
+use Rattle.keysym_core.specs.Names.{KeysymNames}
+use Rattle.compose_model.specs.Table.{Definition}
+use Rattle.compose_model.specs.Nodes.{leaves}
+use Rattle.compose_model.specs.declared.Rule.{Rule}
+use Rattle.compose_read.specs.Lines.{Source}
+use Rattle.compose_tree.specs.TableGives.{NoTable, first_table, table_of}
+use Rattle.compose_migration.specs.Migration.{GivenMigration, NamedParts, Parts, NoMigration, no_table, or_because, named, migration_of}
+use Rattle.compose_migration.specs.declared.fault.Side.TheVariants.{Old, New}
+use Rattle.compose_places.specs.Counting.{WrittenLine, counting_line, read_lines, AreLines}
+use Rattle.compose_places.proofs.CountingLaw.{are_lines}
+
+-- ---- both tables
+
+module _ (given : GivenMigration) (p q : Parts) (e : p ≡ q) where
+  abbrev IsRead : Type 0
+  IsRead = (first_table q.names given.old.sources given.old.rule ≡ Ok q.old) × (first_table q.names given.new.sources given.new.rule ≡ Ok q.new)
+
+  abbrev together : NamedParts → List Definition → List Definition → Parts
+  together n old new = record { names = n.names; keys = n.keys; old = old; new = new }
+
+  same_Ok : {A E : Type 0} (x y : A) → (let r : Result A E = Ok x in r) ≡ Ok y → x ≡ y
+  same_Ok x y h = cc
+
+  by_new : (n : NamedParts) (old : List Definition) → first_table n.names given.old.sources given.old.rule ≡ Ok old → (r : Result (List Definition) NoTable)
+      → first_table n.names given.new.sources given.new.rule ≡ r → (or_because (no_table New) r >>= (λ new. let x : Result Parts NoMigration = Ok (together n old new) in x)) ≡ Ok p → IsRead
+  by_new n old f (Err why) g h = cc
+  by_new n old f (Ok new) g h =
+      let is : together n old new ≡ q = same_Ok (together n old new) p h ∙ e in
+      let names = sym (ap (λ (x : Parts). x.names) is) in (
+        ap (λ m. first_table m given.old.sources given.old.rule) names ∙ f ∙ ap Ok (ap (λ (x : Parts). x.old) is),
+        ap (λ m. first_table m given.new.sources given.new.rule) names ∙ g ∙ ap Ok (ap (λ (x : Parts). x.new) is),
+      )
+
+  by_old : (n : NamedParts) → (r : Result (List Definition) NoTable) → first_table n.names given.old.sources given.old.rule ≡ r
+      → (or_because (no_table Old) r >>= (λ old. or_because (no_table New) (first_table n.names given.new.sources given.new.rule) >>= (λ new. let x : Result Parts NoMigration = Ok (together n old new) in x))) ≡ Ok p → IsRead
+  by_old n (Err why) f h = cc
+  by_old n (Ok old) f h = by_new n old f (first_table n.names given.new.sources given.new.rule) refl h
+
+  by_names : (r : Result NamedParts NoMigration)
+      → (r >>= (λ n. or_because (no_table Old) (first_table n.names given.old.sources given.old.rule) >>= (λ old. or_because (no_table New) (first_table n.names given.new.sources given.new.rule) >>= (λ new. let x : Result Parts NoMigration = Ok (together n old new) in x)))) ≡ Ok p → IsRead
+  by_names (Err why) h = cc
+  by_names (Ok n) h = by_old n (first_table n.names given.old.sources given.old.rule) refl h
+
+  -- a migration that is read has both tables by its own names
+  pub both_read : migration_of given ≡ Ok p → IsRead
+  both_read h = by_names (named given.header given.key_names) h
+
+-- ---- the lines of a table whose root is the first source
+
+module _ (names : KeysymNames) (rule : Rule) (table : List Definition) where
+  pub first_lines_are : (sources : List Source) (root : List ℕ) → Some root ≡ option_map (λ (s : Source). s.name) (slice_get sources 0) → first_table names sources rule ≡ Ok table
+      → AreLines names table (map (counting_line names (read_lines sources root)) (leaves table))
+  first_lines_are [] root h e = cc
+  first_lines_are (s ∷ sources) root h e = are_lines names (s ∷ sources) root rule table (ap (λ r. table_of names (s ∷ sources) r rule) (same_Some root s.name h) ∙ e)
+
+  pub no_first : (sources : List Source) → None ≡ option_map (λ (s : Source). s.name) (slice_get sources 0) → first_table names sources rule ≡ Ok table → ⊥
+  no_first [] h e = cc
+  no_first (s ∷ sources) h e = cc

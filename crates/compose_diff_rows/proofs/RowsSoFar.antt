@@ -1,0 +1,113 @@
+-- A row of each kind, and the rows so far.
+use Rattle.std.proofs.Common.{◌≡◌, ℕ, ◌+◌, ◌<◌, List, [], ◌∷◌, ◌++◌, Bool, true, false, cond, not, length, map, take, get_or, refl, sym, ◌∙◌, ap, ap₂, append_assoc, arith}
+use Rattle.std.specs.Prelude.{Option, Some, None, unwrap_or, filter}
+use Rattle.std.specs.Option.{option_map, option_map_or}
+use Rattle.std.proofs.lemmas.List.{take_more, get_or-map, map-append, append-nil}
+use Rattle.std.proofs.lemmas.List.Elements.{filter-append}
+use Rattle.std.proofs.lemmas.Option.{same_Some}
+use Rattle.keysym_core.specs.Names.{KeysymNames}
+use Rattle.compose_model.specs.Table.{Definition, is_sequence, text_at}
+use Rattle.compose_model.specs.Nodes.{leaves}
+use Rattle.compose_tree.specs.Targets.{leaf_number}
+use Rattle.compose_places.specs.Counting.{WrittenLine}
+use Rattle.compose_compare.specs.declared.Change.{Change}
+use Rattle.compose_compare.specs.Change.{change, old_changes, new_changes}
+use Rattle.compose_diff_rows.specs.Rows.{ToldEntry, ToldRow, Written, line_of, keys_of, entry_at, entry_of, row_of}
+use Rattle.compose_diff_rows.proofs.Leaves.{number_of_leaf, leaf_there, leaf_at_number}
+
+-- ---- what a table has for a leaf
+
+module _ (w : Written) (i : ℕ) (below : i < length (leaves w.table)) where
+  abbrev leaf : List ℕ
+  leaf = get_or (leaves w.table) i []
+
+  pub keys_of_leaf : keys_of w leaf ≡ option_map_or (λ line. line.keys) (get_or w.lines i None) []
+  keys_of_leaf = ap (λ n. option_map_or (λ line. line.keys) (get_or w.lines n None) []) (number_of_leaf w.table i below)
+
+  pub entry_of_leaf : entry_of w leaf ≡ option_map (entry_at w leaf) (get_or w.lines i None)
+  entry_of_leaf =
+      ap (λ b. cond b (option_map (entry_at w leaf) (line_of w leaf)) None) (leaf_there w.table i below)
+      ∙ ap (λ n. option_map (entry_at w leaf) (get_or w.lines n None)) (number_of_leaf w.table i below)
+
+-- nothing where it has no such sequence
+pub no_entry : (w : Written) (s : List ℕ) → is_sequence w.table s ≡ false → None ≡ entry_of w s
+no_entry w s h = sym (ap (λ b. cond b (option_map (entry_at w s) (line_of w s)) None) h)
+
+-- ---- a row of each kind
+
+module _ (names : KeysymNames) (fresh : List ℕ) (old new : Written) (s : List ℕ) (told : ToldRow) (what : told.change ≡ change names fresh old.table new.table s) (second : told.new ≡ entry_of new s) where
+  pub old_row_is : is_sequence old.table s ≡ true → told.keys ≡ keys_of old s → told.old ≡ entry_of old s → told ≡ row_of names fresh old new s
+  old_row_is h keys first = λ i. record { change = what i; keys = (keys ∙ ap (λ b. keys_of (cond b old new) s) (sym h)) i; old = first i; new = second i }
+
+  pub new_row_is : is_sequence old.table s ≡ false → told.keys ≡ keys_of new s → told.old ≡ None → told ≡ row_of names fresh old new s
+  new_row_is h keys first = λ i. record { change = what i; keys = (keys ∙ ap (λ b. keys_of (cond b old new) s) (sym h)) i; old = (first ∙ no_entry old s h) i; new = second i }
+
+-- what a table has for a leaf without a line, and with one
+module _ (w : Written) (i : ℕ) (below : i < length (leaves w.table)) where
+  pub entry_without : None ≡ get_or w.lines i None → None ≡ entry_of w (get_or (leaves w.table) i [])
+  entry_without h = ap (option_map (entry_at w (get_or (leaves w.table) i []))) h ∙ sym (entry_of_leaf w i below)
+
+  pub entry_with : (line : WrittenLine) (told : ToldEntry) → Some line ≡ get_or w.lines i None → told ≡ entry_at w (get_or (leaves w.table) i []) line
+      → Some told ≡ entry_of w (get_or (leaves w.table) i [])
+  entry_with line told h e = ap Some e ∙ ap (option_map (entry_at w (get_or (leaves w.table) i []))) h ∙ sym (entry_of_leaf w i below)
+
+-- what a table has for a sequence whose number is known
+pub entry_numbered : (w : Written) (s : List ℕ) (n : ℕ) (o : Option ToldEntry) → is_sequence w.table s ≡ true → leaf_number w.table s ≡ n
+    → o ≡ entry_of w (get_or (leaves w.table) n []) → o ≡ entry_of w s
+entry_numbered w s n o h e told = told ∙ ap (λ m. entry_of w (get_or (leaves w.table) m [])) (sym e) ∙ ap (entry_of w) (leaf_at_number w.table s h)
+
+-- ---- the rows so far
+
+one_more : {X Y : Type 0} (f : X → Y) (xs : List X) (i : ℕ) (d : X) → i < length xs → map f (take (i + 1) xs) ≡ map f (take i xs) ++ f (get_or xs i d) ∷ []
+one_more f xs i d h = ap (map f) (take_more xs i d h) ∙ map-append f (take i xs) (get_or xs i d ∷ [])
+
+-- each leaf has its row
+pub row_added : {R : Type 0} (told : R → ToldRow) (row_for : List ℕ → ToldRow) (xs : List (List ℕ)) (i : ℕ) → i < length xs → (rows : List R) (row : R)
+    → map told rows ≡ map row_for (take i xs) → told row ≡ row_for (get_or xs i []) → map told (rows ++ row ∷ []) ≡ map row_for (take (i + 1) xs)
+row_added told row_for xs i h rows row so_far is =
+    map-append told rows (row ∷ []) ∙ ap₂ (λ ts t. ts ++ t ∷ []) so_far is ∙ sym (one_more row_for xs i [] h)
+
+module _ (test : List ℕ → Bool) (row_for : List ℕ → ToldRow) (xs : List (List ℕ)) (i : ℕ) (h : i < length xs) where
+  with_next : filter test (take (i + 1) xs) ≡ filter test (take i xs) ++ cond (test (get_or xs i [])) (get_or xs i [] ∷ []) []
+  with_next = ap (filter test) (take_more xs i [] h) ∙ filter-append test (take i xs) (get_or xs i [] ∷ [])
+
+  module _ {R : Type 0} (told : R → ToldRow) (before : List ToldRow) (rows : List R) (so_far : map told rows ≡ before ++ map row_for (filter test (take i xs))) where
+    -- a leaf that is told
+    pub told_added : (row : R) → test (get_or xs i []) ≡ true → told row ≡ row_for (get_or xs i [])
+        → map told (rows ++ row ∷ []) ≡ before ++ map row_for (filter test (take (i + 1) xs))
+    told_added row told_here is =
+        map-append told rows (row ∷ []) ∙ ap₂ (λ ts t. ts ++ t ∷ []) so_far is ∙ append_assoc before (map row_for (filter test (take i xs))) (row_for (get_or xs i []) ∷ [])
+        ∙ ap (λ ts. before ++ ts) (sym (map-append row_for (filter test (take i xs)) (get_or xs i [] ∷ [])))
+        ∙ ap (λ b. before ++ map row_for (filter test (take i xs) ++ cond b (get_or xs i [] ∷ []) [])) (sym told_here)
+        ∙ ap (λ ys. before ++ map row_for ys) (sym with_next)
+
+    -- one that is not
+    pub not_told : test (get_or xs i []) ≡ false → map told rows ≡ before ++ map row_for (filter test (take (i + 1) xs))
+    not_told absent =
+        so_far ∙ ap (λ ys. before ++ map row_for ys) (sym (append-nil (filter test (take i xs))))
+        ∙ ap (λ b. before ++ map row_for (filter test (take i xs) ++ cond b (get_or xs i [] ∷ []) [])) (sym absent)
+        ∙ ap (λ ys. before ++ map row_for ys) (sym with_next)
+
+-- what happens to a leaf of the new table, by the list of what happens to all
+module _ (names : KeysymNames) (fresh : List ℕ) (old new : List Definition) (changes : List (Option Change)) (all : changes ≡ new_changes names fresh old new) (i : ℕ) (h : i < length (leaves new)) (d : Option Change) where
+  slot_is : get_or changes i d ≡ cond (is_sequence old (get_or (leaves new) i [])) None (Some (change names fresh old new (get_or (leaves new) i [])))
+  slot_is = ap (λ cs. get_or cs i d) all ∙ get_or-map (λ s. cond (is_sequence old s) None (Some (change names fresh old new s))) (leaves new) i [] d h
+
+  pub told_change : (c : Change) → get_or changes i d ≡ Some c → (is_sequence old (get_or (leaves new) i []) ≡ false) × (c ≡ change names fresh old new (get_or (leaves new) i []))
+  told_change c e = go (is_sequence old (get_or (leaves new) i [])) (sym e ∙ slot_is)
+    where
+      go : (b : Bool) → Some c ≡ cond b None (Some (change names fresh old new (get_or (leaves new) i []))) → (b ≡ false) × (c ≡ change names fresh old new (get_or (leaves new) i []))
+      go true f = cc
+      go false f = (refl, same_Some c (change names fresh old new (get_or (leaves new) i [])) f)
+
+  pub no_change : get_or changes i d ≡ None → is_sequence old (get_or (leaves new) i []) ≡ true
+  no_change e = go (is_sequence old (get_or (leaves new) i [])) (sym e ∙ slot_is)
+    where
+      go : (b : Bool) → None ≡ cond b None (Some (change names fresh old new (get_or (leaves new) i []))) → b ≡ true
+      go true f = refl
+      go false f = cc
+
+-- and to one of the old table
+pub old_change_at : (names : KeysymNames) (fresh : List ℕ) (old new : List Definition) (changes : List Change) → changes ≡ old_changes names fresh old new → (i : ℕ) (d : Change) → i < length (leaves old)
+    → get_or changes i d ≡ change names fresh old new (get_or (leaves old) i [])
+old_change_at names fresh old new changes all i d h = ap (λ cs. get_or cs i d) all ∙ get_or-map (λ s. change names fresh old new s) (leaves old) i [] d h

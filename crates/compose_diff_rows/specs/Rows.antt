@@ -1,0 +1,80 @@
+-- What is told of two tables: a row for each sequence of either.
+use Rattle.std.specs.Prelude.{ℕ, Bool, not, ◌&&◌, if◌then◌else◌, List, [], ◌++◌, map, filter, get_or, Option, Some, None, unwrap_or}
+use Rattle.std.specs.Option.{option_map, option_map_or}
+use Rattle.keysym_core.specs.Names.{KeysymNames}
+use Rattle.compose_model.specs.Table.{Definition, is_sequence, text_at}
+use Rattle.compose_model.specs.Nodes.{leaves}
+use Rattle.compose_tree.specs.Targets.{leaf_number}
+use Rattle.compose_places.specs.Counting.{WrittenLine}
+use Rattle.compose_compare.specs.declared.Change.{Change}
+use Rattle.compose_compare.specs.Change.{change}
+use Rattle.compose_diff.specs.declared.row.Entry.{Entry}
+use Rattle.compose_diff.specs.declared.row.DiffRow.{DiffRow}
+use Rattle.compose_diff_rows.specs.declared.written.WrittenTable.{WrittenTable}
+
+-- ---- rows as values
+
+-- what a table has for a sequence: its text, and where the definition is that counts
+pub record ToldEntry : Type 0 where
+  pub text : List ℕ
+  pub source : ℕ
+  pub path : List ℕ
+  pub line : ℕ
+
+-- what happens to a sequence, the names of its keys, and what each table has for it
+pub record ToldRow : Type 0 where
+  pub change : Change
+  pub keys : List (List ℕ)
+  pub old : Option ToldEntry
+  pub new : Option ToldEntry
+
+abbrev pub told_entry : Entry → ToldEntry
+told_entry entry = record { text = entry.text.now; source = entry.source; path = entry.path.now; line = entry.line }
+
+abbrev pub told_row : DiffRow → ToldRow
+told_row row = record { change = row.change; keys = map (λ key. key.now) row.keys.now; old = option_map told_entry row.old; new = option_map told_entry row.new }
+
+-- ---- a table as it is written
+
+-- its definitions, for each of its sequences in order the line that counts, and the paths of its sources
+pub record Written : Type 0 where
+  pub table : List Definition
+  pub lines : List (Option WrittenLine)
+  pub paths : List (List ℕ)
+
+abbrev pub written : {T : Type 0} → (T → List Definition) → WrittenTable T → Written
+written view w = record { table = view w.table.now; lines = w.lines.now; paths = map (λ path. path.now) w.paths.now }
+
+-- the line that counts for a sequence
+abbrev pub line_of : Written → List ℕ → Option WrittenLine
+line_of w s = get_or w.lines (leaf_number w.table s) None
+
+-- the names of the keys of a sequence, as that line writes them
+abbrev pub keys_of : Written → List ℕ → List (List ℕ)
+keys_of w s = option_map_or (λ line. line.keys) (line_of w s) []
+
+abbrev pub entry_at : Written → List ℕ → WrittenLine → ToldEntry
+entry_at w s line = record { text = unwrap_or (text_at w.table s) []; source = line.place.source; path = get_or w.paths line.place.source []; line = line.place.line }
+
+-- what the table has for a sequence, if it has it
+abbrev pub entry_of : Written → List ℕ → Option ToldEntry
+entry_of w s = if is_sequence w.table s then option_map (entry_at w s) (line_of w s) else None
+
+-- ---- the rows
+
+-- the keys are written as in the old table, or in the new one where that alone has the sequence
+abbrev pub row_of : KeysymNames → List ℕ → Written → Written → List ℕ → ToldRow
+row_of names fresh old new s = record {
+  change = change names fresh old.table new.table s;
+  keys = keys_of (if is_sequence old.table s then old else new) s;
+  old = entry_of old s;
+  new = entry_of new s;
+}
+
+-- each sequence of the old table in its order, and then each that the new one alone has
+abbrev pub all_sequences : List Definition → List Definition → List (List ℕ)
+all_sequences old new = leaves old ++ filter (λ s. not (is_sequence old s)) (leaves new)
+
+-- a row for each
+abbrev pub rows_of : KeysymNames → List ℕ → Written → Written → List ToldRow
+rows_of names fresh old new = map (row_of names fresh old new) (all_sequences old.table new.table)
