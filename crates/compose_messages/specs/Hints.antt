@@ -17,7 +17,7 @@ use Rattle.compose_messages.specs.declared.hints.Hint.TheVariants.{BuiltinNames,
 
 abbrev pub hint_text : Hint → List ℕ
 hint_text BuiltinNames = codes "composecheck: hint: `--names builtin` has the names of keysymdef.h"
-hint_text OverlapLongest = codes "composecheck: hint: with the line `overlap longest` before the entries of the manifest the longer sequence counts"
+hint_text OverlapLongest = codes "composecheck: hint: with the line `overlap longest` before the entries of the manifest, or `diff --overlap longest`, the longer sequence counts"
 hint_text Fresh = codes "composecheck: hint: `--fresh` takes the keysyms for which nothing has to be promised"
 hint_text Table = codes "composecheck: hint: this is a Compose table; `composecheck manifest TABLE` prints its manifest"
 

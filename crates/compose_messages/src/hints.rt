@@ -35,7 +35,7 @@ impl fmt::Display for Hint {
                 "composecheck: hint: `--names builtin` has the names of keysymdef.h",
             ),
             Hint::OverlapLongest => f.write_str(
-                "composecheck: hint: with the line `overlap longest` before the entries of the manifest the longer sequence counts",
+                "composecheck: hint: with the line `overlap longest` before the entries of the manifest, or `diff --overlap longest`, the longer sequence counts",
             ),
             Hint::Fresh => f.write_str(
                 "composecheck: hint: `--fresh` takes the keysyms for which nothing has to be promised",

@@ -28,6 +28,6 @@ pub use faults::{
 };
 pub use hints::{Hint, manifest_hint, table_hint};
 pub use message::{FileMessage, Message};
-pub use overlap::overlap_words;
-pub use position::{Position, fault_position};
+pub use overlap::{overlap_words, push_events};
+pub use position::{Position, fault_position, line_of};
 pub use reading::read_message;

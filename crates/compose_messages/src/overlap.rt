@@ -23,8 +23,8 @@ pub fn overlap_words(
     Ok(text)
 }
 
-/// Adds the keysyms as events of a table, each after a blank.
-fn push_events(
+/// Adds the keysyms as events of a table, each after a blank. O(keysyms).
+pub fn push_events(
     alloc: Global,
     text: &mut String,
     names: &Names,

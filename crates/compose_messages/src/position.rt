@@ -36,8 +36,8 @@ pub fn fault_position(sources: &Sources, fault: &ReadFault) -> Option<(usize, Po
     Some((source, Position { line, column }))
 }
 
-/// The source and the line of a fault, if it stands in one.
-pub(crate) fn line_of(fault: &ReadFault) -> Option<(usize, usize)>
+/// The index of the source and the number of the line of a fault, if it stands in one. O(1).
+pub fn line_of(fault: &ReadFault) -> Option<(usize, usize)>
     ensures { result ≡ line_of fault.now }
 {
     match fault {

@@ -1,0 +1,46 @@
+-- What is told of manifests, includes and files of names (this project's profile).
+use Rattle.std.specs.Prelude.{ℕ, List, ◌++◌, length, max, Option, Some, None, string_bytes, codes}
+use Rattle.compose_text.specs.Lines.{lines_of}
+use Rattle.compose_find.specs.declared.fault.IncludeFault.{IncludeFault}
+use Rattle.compose_find.specs.declared.fault.IncludeFault.TheVariants.{Text, UnknownPercent, NoLocale, NoHome, TwoFiles, TooManySources, IncludeDepth}
+use Rattle.compose_find.specs.declared.found_source.FindFault.{FindFault}
+use Rattle.compose_find.specs.declared.found_source.FindFault.TheVariants.{MissingFile, Include}
+use Rattle.compose_tool.specs.Shown.{shown_text}
+use Rattle.compose_tool.specs.declared.manifest.ManifestFault.{ManifestFault}
+use Rattle.compose_messages.specs.Faults.{manifest_line, manifest_said}
+use Rattle.compose_messages.specs.Hints.{manifest_hint}
+use Rattle.compose_messages.specs.Messages.{position_text, quoting}
+use Rattle.compose_details.specs.Lines.{whole_line}
+use Rattle.compose_details.specs.Refusals.{words_line, hint_line}
+
+-- the faulty line of the manifest, and the hint where a table was given in its place
+abbrev pub manifest_lines : List ℕ → List ℕ → ManifestFault → List ℕ
+manifest_lines path bytes fault = words_line path (manifest_line fault) (manifest_said fault) ++ hint_line (manifest_hint path bytes fault)
+
+-- ---- includes
+
+abbrev pub include_said : IncludeFault → List ℕ
+include_said (Text fault) = codes "the string of the include is no text"
+include_said UnknownPercent = codes "none of %, S, L and H follows the percent sign"
+include_said NoLocale = codes "%L stands for the table of a locale, and none is known"
+include_said NoHome = codes "%H stands for the home folder, and none is known"
+include_said TwoFiles = codes "the same string led to another file before"
+include_said TooManySources = codes "there are more than 64 files"
+include_said IncludeDepth = codes "more than eight includes lead to this file"
+include_said fault = codes "out of memory"
+
+-- what is said of a line, at its file
+abbrev pub said_at : List ℕ → ℕ → List ℕ → List ℕ
+said_at path n said = codes "composecheck: " ++ shown_text path ++ position_text (whole_line n) ++ codes ": " ++ said
+
+-- the include that leads to no file, and why, if it is one
+abbrev pub find_said : FindFault → Option (List ℕ)
+find_said (MissingFile from n path) = Some (said_at (string_bytes from) n (quoting (codes "can't open the included file ") (string_bytes path)))
+find_said (Include from n fault) = Some (said_at (string_bytes from) n (include_said fault))
+find_said fault = None
+
+-- ---- names
+
+-- how many lines a file of names adds: one of an empty file too
+abbrev pub line_count : List ℕ → ℕ
+line_count bytes = max 1 (length (lines_of bytes))

@@ -1,0 +1,106 @@
+-- What is told of a refusal (this project's profile).
+use Rattle.std.specs.Prelude.{ℕ, Bool, true, false, not, if◌then◌else◌, List, [], ◌∷◌, ◌++◌, map, slice_get, Option, Some, None, Result, Ok, Err, codes}
+use Rattle.std.specs.Option.{option_map, option_map_or, option_and_then}
+use Rattle.keysym_core.specs.Names.{KeysymNames}
+use Rattle.keysym_core.specs.Header.{names_of}
+use Rattle.keysym_core.specs.declared.fault.NameFault.{NameFault}
+use Rattle.compose_read.specs.declared.settling.SettleFault.TheVariants as settle_faults
+use Rattle.compose_tree.specs.declared.reading.TableFault.{TableFault}
+use Rattle.compose_tree.specs.declared.reading.TableFault.TheVariants.{Read, Settle, Build}
+use Rattle.compose_migration.specs.declared.fault.Side.TheVariants.{Old, New}
+use Rattle.compose_fresh.specs.declared.fault.CheckFault.{CheckFault}
+use Rattle.compose_fresh.specs.declared.fault.CheckFault.TheVariants.{FreshIgnored, FreshUsed}
+use Rattle.compose_tool.specs.declared.refusal.Refusal.{Refusal}
+use Rattle.compose_tool.specs.declared.refusal.Refusal.TheVariants.{Names, Key, Table, Side, Repertoire, Certificate, Fresh, TooManyFresh}
+use Rattle.compose_messages.specs.Faults.{name_line, name_said, certificate_line, certificate_said, repertoire_line, repertoire_said}
+use Rattle.compose_messages.specs.Hints.{hint_text, table_hint}
+use Rattle.compose_messages.specs.Messages.{quoting}
+use Rattle.compose_messages.specs.Overlaps.{events}
+use Rattle.compose_messages.specs.declared.hints.Hint.{Hint}
+use Rattle.compose_messages.specs.declared.hints.Hint.TheVariants.{BuiltinNames}
+use Rattle.compose_details.specs.Lines.{line, remark, whole_line, header_line, is_empty}
+use Rattle.compose_details.specs.Faulty.{lines_of_table}
+use Rattle.compose_details.specs.Definitions.{overlap_lines}
+use Rattle.compose_details.specs.declared.given.Header.{Header}
+use Rattle.compose_details.specs.declared.given.GivenTable.{GivenTable}
+use Rattle.compose_details.specs.declared.given.Given.{Given}
+
+-- a hint, where there is one
+abbrev pub hint_line : Option Hint → List ℕ
+hint_line hint = option_map_or (λ h. hint_text h ++ 10 ∷ []) hint []
+
+-- what is said of a line of a file, or of all of it
+abbrev pub words_line : List ℕ → Option ℕ → List ℕ → List ℕ
+words_line path number said = line path (option_and_then whole_line number) said
+
+-- ---- names and arguments
+
+-- what is said of a line of the names, at its file
+abbrev pub name_lines : List Header → NameFault → List ℕ
+name_lines headers fault =
+    option_map_or (λ (at : Header × ℕ). line at.0.path.now (whole_line at.1) (name_said fault)) (option_and_then (header_line headers) (name_line fault)) (remark (name_said fault))
+
+-- no names were given
+abbrev pub is_unnamed : Given → Bool
+is_unnamed given = is_empty given.headers.now
+
+-- the argument that is no name
+abbrev pub argument_line : List (List ℕ) → ℕ → List ℕ
+argument_line arguments index = option_map_or (λ argument. remark (quoting (codes "no keysym has the name ") argument)) (slice_get arguments index) []
+
+-- the hint helps where no names are given
+abbrev pub key_hint : Given → Option Hint
+key_hint given = if is_unnamed given then Some BuiltinNames else None
+
+abbrev pub key_lines : Given → ℕ → List ℕ
+key_lines given index = argument_line (map (λ a. a.now) given.arguments.now) index ++ hint_line (key_hint given)
+
+-- ---- tables
+
+abbrev pub fault_lines : KeysymNames → GivenTable → TableFault → List ℕ
+fault_lines names table (Read fault) = lines_of_table names table fault
+fault_lines names table (Settle (settle_faults.Overlap short long)) = overlap_lines names table short.0.items long.0.items
+fault_lines names table (Build fault) = line table.manifest.now None (codes "the sequences have more than 1,048,576 nodes")
+fault_lines names table fault = []
+
+-- the lines of a fault of a table that is read with the names of a header, if these can be read, and then the hint
+abbrev pub lines_by : GivenTable → TableFault → Result KeysymNames NameFault → List ℕ
+lines_by table fault (Ok names) = fault_lines names table fault
+lines_by table fault (Err why) = []
+
+abbrev pub table_lines : Given → GivenTable → TableFault → List ℕ
+table_lines given table fault = lines_by table fault (names_of given.header.now) ++ hint_line (table_hint (not (is_unnamed given)) fault)
+
+-- of the table with this index
+abbrev pub numbered_lines : Given → ℕ → TableFault → List ℕ
+numbered_lines given index fault = option_map_or (λ table. table_lines given table fault) (slice_get given.tables.now index) []
+
+-- ---- fresh keysyms
+
+-- these words, and keysyms as a table writes events; nothing where there is none
+abbrev pub named_line : KeysymNames → List ℕ → List ℕ → List ℕ
+named_line names said [] = []
+named_line names said (k ∷ ks) = codes "composecheck: " ++ (said ++ (events names (k ∷ ks) ++ codes "\n"))
+
+abbrev pub keysyms_line : List ℕ → List ℕ → Result KeysymNames NameFault → List ℕ
+keysyms_line said ks (Ok names) = named_line names said ks
+keysyms_line said ks (Err why) = []
+
+abbrev pub fresh_lines : Given → CheckFault → List ℕ
+fresh_lines given (FreshIgnored k) = keysyms_line (codes "a compose state ignores the keysym") (k ∷ []) (names_of given.header.now)
+fresh_lines given (FreshUsed k) = keysyms_line (codes "a sequence of the old table has the keysym") (k ∷ []) (names_of given.header.now)
+fresh_lines given fault = []
+
+-- ---- all
+
+abbrev pub refusal_lines : Given → Refusal → List ℕ
+refusal_lines given (Names fault) = name_lines given.headers.now fault
+refusal_lines given (Key index) = key_lines given index
+refusal_lines given (Table fault) = numbered_lines given 0 fault
+refusal_lines given (Side Old fault) = numbered_lines given 0 fault
+refusal_lines given (Side New fault) = numbered_lines given 1 fault
+refusal_lines given (Repertoire fault) = words_line given.repertoire.now (repertoire_line fault) (repertoire_said fault)
+refusal_lines given (Certificate fault) = words_line given.certificate.now (certificate_line fault) (certificate_said fault)
+refusal_lines given (Fresh fault) = fresh_lines given fault
+refusal_lines given TooManyFresh = remark (codes "there are more than 1,048,576 fresh keysyms")
+refusal_lines given refusal = []

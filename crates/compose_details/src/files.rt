@@ -1,0 +1,85 @@
+//! Manifests, includes and files of names.
+ghost use Rattle.std.specs.Prelude.{◌≡◌, ◌++◌, ◌≤◌, IfOk, length, string_bytes};
+ghost use Rattle.std.specs.Option.{option_map};
+ghost use Rattle.compose_text.specs.Lines.{lines_of};
+ghost use Rattle.compose_messages.specs.Messages.{file_text};
+ghost use Rattle.compose_details.specs.Files as words;
+
+use crate::lines::whole_line;
+use crate::refusal::{push_hint, push_words};
+use compose_find::{FindFault, IncludeFault};
+use compose_messages::{FileMessage, Message, manifest_hint, manifest_words};
+use compose_text::first_line;
+use compose_tool::ManifestFault;
+use std::alloc::{AllocError, Global};
+
+/// What `-v` tells of a fault of the manifest at this path, whose bytes these are: its line, and a hint where it is a table. O(bytes).
+pub fn manifest_details(
+    alloc: Global,
+    path: &str,
+    bytes: &[u8],
+    fault: &ManifestFault,
+) -> Result<String, AllocError>
+    ensures { IfOk result
+        (λ text. string_bytes text ≡ words.manifest_lines path.now bytes.now fault.now) }
+{
+    let mut text = String::new(alloc);
+    push_words(&mut text, path, &manifest_words(fault))?;
+    push_hint(&mut text, manifest_hint(path, bytes, fault))?;
+    Ok(text)
+}
+
+/// What `-v` tells of an include that leads to no file: where it stands, and why. Of another fault it tells nothing. O(1).
+pub fn find_message(fault: &FindFault) -> Option<FileMessage<'_>>
+    ensures { option_map (λ told. file_text told) result ≡ words.find_said fault.now }
+{
+    match fault {
+        FindFault::MissingFile { from, line, path } => Some(FileMessage {
+            path: from,
+            position: whole_line(*line),
+            message: Message::Quoting("can't open the included file ", path),
+        }),
+        FindFault::Include { from, line, fault } => Some(FileMessage {
+            path: from,
+            position: whole_line(*line),
+            message: Message::Plain(include_words(fault)),
+        }),
+        _ => None,
+    }
+}
+
+/// The words for why an include leads to no file.
+fn include_words(fault: &IncludeFault) -> &'static str
+    ensures { result.now ≡ words.include_said fault.now }
+{
+    match fault {
+        IncludeFault::Text { .. } => "the string of the include is no text",
+        IncludeFault::UnknownPercent => "none of %, S, L and H follows the percent sign",
+        IncludeFault::NoLocale => "%L stands for the table of a locale, and none is known",
+        IncludeFault::NoHome => "%H stands for the home folder, and none is known",
+        IncludeFault::TwoFiles => "the same string led to another file before",
+        IncludeFault::TooManySources => "there are more than 64 files",
+        IncludeFault::IncludeDepth => "more than eight includes lead to this file",
+        IncludeFault::NoMemory => "out of memory",
+    }
+}
+
+/// How many lines a file of names adds to those before it: at least one. O(bytes).
+pub fn line_count(bytes: &[u8]) -> usize
+    ensures { result ≡ words.line_count bytes.now }
+{
+    lines_in(bytes).max(1)
+}
+
+/// How many lines there are.
+fn lines_in(bytes: &[u8]) -> usize
+    ensures { result ≡ length (lines_of bytes.now) }
+{
+    let mut count = 0;
+    let mut rest = bytes;
+    while let Some((_, behind)) = first_line(rest) {
+        count += 1;
+        rest = behind;
+    }
+    count
+}

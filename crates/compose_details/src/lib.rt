@@ -1,0 +1,26 @@
+//! What `-v` adds to a refusal or to the answer `no`: lines with the path of a file, a place in it, and what is wrong there, and hints.
+//!
+//! [`refusal_details`] tells every faulty line of a table, up to twenty, both places of an overlap, and of the other files the line;
+//! [`manifest_details`] what is wrong with a manifest; [`find_message`] which include leads to no file.
+//!
+//! ```text
+//! refused: new: 1 Read: 4 UnknownKeysym source=0 line=1 index=0      # what the command prints without -v
+//! composecheck: new.compose:1:1: no keysym has the name "nosuch"     # what -v adds
+//! composecheck: hint: `--names builtin` has the names of keysymdef.h
+//! ```
+#![tactic(auto)]
+
+mod answer;
+mod definitions;
+mod faulty;
+mod files;
+mod given;
+mod lines;
+mod pairs;
+mod refusal;
+mod sides;
+
+pub use answer::answer_details;
+pub use files::{find_message, line_count, manifest_details};
+pub use given::{Given, GivenTable, Header};
+pub use refusal::refusal_details;

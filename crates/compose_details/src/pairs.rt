@@ -1,0 +1,136 @@
+//! The conditions that a certificate does not meet: the pair of nodes, and the keys that lead to it.
+ghost use Rattle.std.specs.Prelude.{◌≡◌, ◌++◌, ◌∷◌, [], ◌≤◌, OnOk, IfOk, IfSome, length, take, string_bytes};
+ghost use Rattle.compose_model.specs.Nodes.{node as node_at};
+ghost use Rattle.compose_read.specs.Settle.{IsSettled};
+ghost use Rattle.compose_details.specs.Pairs as words;
+
+use compose_cert::{CertFault, Certificate};
+use compose_check::CheckFault;
+use compose_messages::push_events;
+use compose_read::Definitions;
+use compose_tree::{ComposeTable, NodeId, Target};
+use keysym_core::{Keysym, Names};
+use std::alloc::{AllocError, Global};
+
+/// The pair of an old and a new node at which a condition is not met, and the key.
+#[derive(Clone, Copy, Debug)]
+pub(crate) struct FaultyPair {
+    pub old: u32,
+    pub new: u32,
+    pub keysym: Keysym,
+}
+
+/// The pair at which a condition on the certificate of this text is not met: the roots for a new start, none where it is about no pair.
+pub(crate) fn faulty_pair(
+    alloc: Global,
+    text: &[u8],
+    fault: &CheckFault,
+) -> Result<Option<FaultyPair>, AllocError> {
+    let (index, keysym) = match fault {
+        CheckFault::NewStart { keysym } => {
+            return Ok(Some(FaultyPair {
+                old: 0,
+                new: 0,
+                keysym: *keysym,
+            }));
+        }
+        CheckFault::Cancels { pair, keysym }
+        | CheckFault::TextDiffers { pair, keysym }
+        | CheckFault::PairMissing { pair, keysym } => (*pair, *keysym),
+        _ => return Ok(None),
+    };
+    let certificate = match Certificate::read(alloc, text) {
+        Ok(certificate) => certificate,
+        Err(CertFault::NoMemory) => return Err(AllocError),
+        Err(_) => return Ok(None),
+    };
+    match certificate.pairs().get(index) {
+        Some((old, new)) => Ok(Some(FaultyPair {
+            old: *old,
+            new: *new,
+            keysym,
+        })),
+        None => Ok(None),
+    }
+}
+
+/// Adds after which keys of each table a pair of nodes stands.
+pub(crate) fn push_pair(
+    alloc: Global,
+    text: &mut String,
+    names: &Names,
+    old: &[Keysym],
+    new: &[Keysym],
+) -> Result<(), AllocError>
+    ensures { OnOk result
+        (string_bytes text.new
+        ≡ string_bytes text.old ++ words.pair_line names.now old.now new.now) }
+{
+    text.push_str("composecheck: the pair stands")?;
+    push_after(alloc, text, names, old)?;
+    text.push_str(" in the old table and")?;
+    push_after(alloc, text, names, new)?;
+    text.push_str(" in the new one\n")
+}
+
+/// Adds after which keys, or that it is at rest.
+fn push_after(
+    alloc: Global,
+    text: &mut String,
+    names: &Names,
+    keys: &[Keysym],
+) -> Result<(), AllocError>
+    ensures { OnOk result
+        (string_bytes text.new ≡ string_bytes text.old ++ words.after names.now keys.now) }
+{
+    if keys.is_empty() {
+        return text.push_str(" at rest");
+    }
+    text.push_str(" after")?;
+    push_events(alloc, text, names, keys)
+}
+
+/// The keys that lead to the node with this number and then this key, if a definition begins with them. O(keysyms of all definitions × log
+/// edges of a node).
+pub(crate) fn keys_to<T: ComposeTable>(
+    alloc: Global,
+    table: &T,
+    definitions: &Definitions,
+    number: u32,
+) -> Result<Option<Vec<Keysym>>, AllocError>
+    ensures { IfOk result
+        (λ found. IfSome found (λ keys. keys.items ≡ node_at (T.definitions table.now) number)) }
+{
+    // The contract of this call says that the table is settled.
+    let _ = table.node_count();
+    if number == 0 {
+        return Ok(Some(Vec::new(alloc)));
+    }
+    for index in 0..definitions.len() {
+        let sequence = definitions.sequence(index);
+        if let Some(count) = prefix_to(table, sequence, number) {
+            return Ok(Some(Vec::from_slice(alloc, &sequence[..count])?));
+        }
+    }
+    Ok(None)
+}
+
+/// How many keysyms of the sequence lead to the node with this number, if they do.
+fn prefix_to<T: ComposeTable>(table: &T, sequence: &[Keysym], number: u32) -> Option<usize>
+    requires { IsSettled (T.definitions table.now) }
+    ensures { IfSome result
+        (λ count. (count ≤ length sequence.now)
+        × (take count sequence.now ≡ node_at (T.definitions table.now) number)) }
+{
+    let mut node = NodeId::ROOT;
+    for (index, keysym) in sequence.iter().enumerate() {
+        if node.0 == number {
+            return Some(index);
+        }
+        match table.step(node, *keysym)? {
+            Target::Node(next) => node = next,
+            Target::Leaf(_) => return None,
+        }
+    }
+    None
+}
