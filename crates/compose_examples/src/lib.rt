@@ -18,8 +18,12 @@ mod losing;
 #[cfg(test)]
 mod making;
 #[cfg(test)]
+mod messages;
+#[cfg(test)]
 mod rows;
 #[cfg(test)]
 mod tables;
+#[cfg(test)]
+mod telling;
 #[cfg(test)]
 mod typings;

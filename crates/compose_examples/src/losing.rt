@@ -1,8 +1,8 @@
 //! What `diff` prints of worked rows, and which of them are accepted.
 use compose_compare::Change;
 use compose_diff::{
-    AcceptFault, Accepted, Counts, DiffRow, Entry, accept_text, answer_diff, diff_text,
-    folded_text, json_text, loses_nothing, sort_rows,
+    AcceptFault, Accepted, Counts, DiffRow, Entry, accept_text, answer_diff, colored_text,
+    diff_text, folded_text, json_text, loses_nothing, sort_rows,
 };
 use compose_tool::Answer;
 use std::alloc::Global;
@@ -70,8 +70,8 @@ fn each() -> [DiffRow<'static>; 6] {
     ]
 }
 
-/// Five rows that go together, between two that do not.
-fn run() -> [DiffRow<'static>; 7] {
+/// Five rows that are folded together, between two that are not, and a kept one of the same source.
+fn run() -> [DiffRow<'static>; 8] {
     [
         old_row(Change::Removed, &["Multi_key", "parenleft"], "(", 1),
         old_row(Change::Removed, &["Multi_key", "parenleft", "1"], "①", 2),
@@ -80,6 +80,7 @@ fn run() -> [DiffRow<'static>; 7] {
         old_row(Change::Removed, &["Multi_key", "parenleft", "4"], "④", 5),
         old_row(Change::Removed, &["Multi_key", "parenleft", "5"], "⑤", 6),
         old_row(Change::Removed, &["Multi_key", "bar", "5"], "5", 7),
+        old_row(Change::Kept, &["Multi_key", "bar", "6"], "6", 8),
     ]
 }
 
@@ -96,7 +97,7 @@ fn rows_are_told_in_groups(rt: HostRuntime) -> Result<(), Fail> {
     let mut rows = Vec::from_array(rt.alloc(), each())?;
     sort_rows(&mut rows)?;
     assert_eq!(rt; diff_text(rt.alloc(), &rows)?.as_str(), EACH);
-    assert_eq!(rt; folded_text(rt.alloc(), &rows)?.as_str(), EACH);
+    assert_eq!(rt; folded_text(rt.alloc(), &rows, &rows)?.as_str(), EACH);
     assert_eq!(rt; accept_text(rt.alloc(), &rows)?.as_str(), TO_ACCEPT);
     Ok(())
 }
@@ -116,7 +117,7 @@ fn rows_are_counted(rt: HostRuntime) -> Result<(), Fail> {
 #[test]
 fn five_rows_are_folded(rt: HostRuntime) -> Result<(), Fail> {
     assert_eq!(rt;
-        folded_text(rt.alloc(), &run())?.as_str(),
+        folded_text(rt.alloc(), &run(), &run())?.as_str(),
         "removed: <Multi_key> <parenleft> \"(\" OLD:1\nremoved: <Multi_key> <parenleft> .. 5 sequences \"①\" \"②\" \"③\" .. OLD:2\nremoved: <Multi_key> <bar> <5> \"5\" OLD:7\n"
     );
     Ok(())
@@ -126,8 +127,61 @@ fn five_rows_are_folded(rt: HostRuntime) -> Result<(), Fail> {
 fn three_rows_are_not_folded(rt: HostRuntime) -> Result<(), Fail> {
     let rows = &run()[1..4];
     assert_eq!(rt;
-        folded_text(rt.alloc(), rows)?.as_str(),
+        folded_text(rt.alloc(), &run(), rows)?.as_str(),
         diff_text(rt.alloc(), rows)?.as_str()
+    );
+    Ok(())
+}
+
+/// A removed row of an include of the old table.
+fn included_row(keys: &'static [&'static str], line: usize) -> DiffRow<'static> {
+    let entry = Entry {
+        text: "α",
+        source: 1,
+        path: "el\u{1b}GR",
+        line,
+    };
+    DiffRow {
+        change: Change::Removed,
+        keys,
+        old: Some(entry),
+        new: None,
+    }
+}
+
+/// All rows of an include, which are removed, behind one of three rows of the file that includes it.
+fn missing() -> [DiffRow<'static>; 5] {
+    [
+        old_row(Change::Removed, &["Greek_a"], "α", 2),
+        included_row(&["Greek_b"], 1),
+        included_row(&["Greek_c"], 7),
+        old_row(Change::Kept, &["Greek_d"], "δ", 3),
+        old_row(Change::Kept, &["Greek_e"], "ε", 4),
+    ]
+}
+
+#[test]
+fn missing_include_is_told_once(rt: HostRuntime) -> Result<(), Fail> {
+    assert_eq!(rt;
+        folded_text(rt.alloc(), &missing(), &missing())?.as_str(),
+        "removed: <Greek_a> \"α\" OLD:2\nremoved: all 2 sequences of el\\u{1b}GR, from which the new table has none\n"
+    );
+    assert_eq!(rt;
+        folded_text(rt.alloc(), &missing(), &missing()[..2])?.as_str(),
+        "removed: <Greek_a> \"α\" OLD:2\nremoved: <Greek_b> \"α\" el\\u{1b}GR:1\n"
+    );
+    Ok(())
+}
+
+#[test]
+fn lines_are_colored(rt: HostRuntime) -> Result<(), Fail> {
+    assert_eq!(rt;
+        colored_text(
+            rt.alloc(),
+            "changed: <a> \"x\" \"y\" A:1 B:2\nnew start: <F13> \"x\" B:3\ndiff: 1 kept\n"
+        )?
+        .as_str(),
+        "\u{1b}[31mchanged: <a> \"x\" \"y\" A:1 B:2\u{1b}[m\n\u{1b}[32mnew start: <F13> \"x\" B:3\u{1b}[m\n\u{1b}[1mdiff: 1 kept\u{1b}[m\n"
     );
     Ok(())
 }
@@ -147,6 +201,15 @@ fn what_steers_a_terminal_is_shown(rt: HostRuntime) -> Result<(), Fail> {
     assert_eq!(rt;
         json_text(rt.alloc(), &rows)?.as_str(),
         "{\"change\":\"removed\",\"keys\":[\"a\\u202e\"],\"old\":\"\\u001b\",\"new\":null,\"old_file\":\"\\u001b[2J\",\"old_line\":1,\"new_file\":null,\"new_line\":null}\n"
+    );
+    Ok(())
+}
+
+#[test]
+fn quotes_are_escaped_in_objects(rt: HostRuntime) -> Result<(), Fail> {
+    assert_eq!(rt;
+        json_text(rt.alloc(), &each()[4..5])?.as_str(),
+        "{\"change\":\"waiting\",\"keys\":[\"a\",\"b\"],\"old\":\"\\\"\",\"new\":null,\"old_file\":\"OLD\",\"old_line\":3,\"new_file\":null,\"new_line\":null}\n"
     );
     Ok(())
 }

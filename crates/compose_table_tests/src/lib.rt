@@ -6,4 +6,6 @@
 #[cfg(test)]
 mod frames;
 #[cfg(test)]
+mod places;
+#[cfg(test)]
 mod tables;

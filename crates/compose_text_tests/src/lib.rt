@@ -11,3 +11,5 @@ mod keysyms;
 mod lines;
 #[cfg(test)]
 mod sources;
+#[cfg(test)]
+mod visited;

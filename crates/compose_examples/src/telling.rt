@@ -1,0 +1,91 @@
+//! The whole answer of `diff` on two tables of one source each.
+use crate::tables::one_source;
+use compose_diff_rows::{DiffFault, DiffInput, Form, diff_migration};
+use compose_migration::{MigrationInput, TableInput};
+use compose_model::Rule;
+use compose_read::Sources;
+use compose_tool::Answer;
+use compose_tree::PackedTable;
+use std::alloc::Global;
+use std::test::Fail;
+
+/// The old table: two definitions of one sequence, of which the last counts, in other words than the first.
+const OLD: &str =
+    "<Multi_key> <a> : \"x\"\n# again\n<Multi_key> <U0061> : \"y\"\n<Multi_key> <b> : \"b\"\n";
+
+/// The new table: that sequence with another text, one alone, and a new start.
+const NEW: &str = "<Multi_key> <0x61> : \"z\"\n<Multi_key> <c> : \"c\"\n<dead_acute> <a> : \"á\"\n";
+
+/// The answer on these sources in this form, where these lines are accepted.
+fn answer<'a>(
+    alloc: Global,
+    old: &'a Sources,
+    new: &'a Sources,
+    accepted: &'a str,
+    form: Form,
+) -> Result<Answer, DiffFault> {
+    let input = DiffInput {
+        tables: MigrationInput {
+            header: &[],
+            key_names: &[],
+            old: TableInput {
+                sources: old,
+                rule: Rule::Refuse,
+            },
+            new: TableInput {
+                sources: new,
+                rule: Rule::Refuse,
+            },
+        },
+        old_paths: &["OLD"],
+        new_paths: &["NEW"],
+        accepted: accepted.as_bytes(),
+        form,
+    };
+    diff_migration::<PackedTable>(alloc, &input)
+}
+
+/// Whether the worked tables are told so, where these lines are accepted: with losses, or without any.
+fn is_told(
+    alloc: Global,
+    accepted: &str,
+    form: Form,
+    loses: bool,
+    text: &str,
+) -> Result<bool, Fail> {
+    let (old, new) = (one_source(alloc, OLD)?, one_source(alloc, NEW)?);
+    match answer(alloc, &old, &new, accepted, form) {
+        Ok(Answer::No(said)) => Ok(loses && said.as_str() == text),
+        Ok(Answer::Yes(said)) => Ok(!loses && said.as_str() == text),
+        _ => Ok(false),
+    }
+}
+
+#[test]
+fn each_sequence_is_told_as_the_last_definition_writes_it(rt: HostRuntime) -> Result<(), Fail> {
+    let text =
+        "changed: <Multi_key> <U0061> \"y\" \"z\" OLD:3 NEW:1\nremoved: <Multi_key> <b> \"b\" OLD:4\nnew start: <dead_acute> <a> \"á\" NEW:3\nadded: <Multi_key> <c> \"c\" NEW:2\ndiff: 0 kept, 1 changed, 0 waiting, 1 removed, 1 new starts, 1 added, 0 accepted\n";
+    assert!(rt; is_told(rt.alloc(), "", Form::Folded, true, text)?);
+    assert!(rt; is_told(rt.alloc(), "", Form::Lines, true, text)?);
+    Ok(())
+}
+
+#[test]
+fn what_the_written_list_accepts_is_counted(rt: HostRuntime) -> Result<(), Fail> {
+    let list =
+        "changed: <Multi_key> <U0061> \"y\" \"z\"\nremoved: <Multi_key> <b> \"b\"\nnew start: <dead_acute> <a> \"á\"\n";
+    assert!(rt; is_told(rt.alloc(), "", Form::AcceptList, true, list)?);
+    let text =
+        "added: <Multi_key> <c> \"c\" NEW:2\ndiff: 0 kept, 0 changed, 0 waiting, 0 removed, 0 new starts, 1 added, 3 accepted\n";
+    assert!(rt; is_told(rt.alloc(), list, Form::Folded, false, text)?);
+    Ok(())
+}
+
+#[test]
+fn each_sequence_is_an_object(rt: HostRuntime) -> Result<(), Fail> {
+    let text =
+        "{\"change\":\"removed\",\"keys\":[\"Multi_key\",\"b\"],\"old\":\"b\",\"new\":null,\"old_file\":\"OLD\",\"old_line\":4,\"new_file\":null,\"new_line\":null}\n{\"change\":\"added\",\"keys\":[\"Multi_key\",\"c\"],\"old\":null,\"new\":\"c\",\"old_file\":null,\"old_line\":null,\"new_file\":\"NEW\",\"new_line\":2}\n";
+    let accepted = "changed: <Multi_key> <U0061> \"y\" \"z\"\nnew start: <dead_acute> <a> \"á\"\n";
+    assert!(rt; is_told(rt.alloc(), accepted, Form::Json, true, text)?);
+    Ok(())
+}
