@@ -27,6 +27,7 @@ install: composecheck
 	install -D -m 644 docs/composecheck.1 $(DESTDIR)$(PREFIX)/share/man/man1/composecheck.1
 	install -D -m 644 docs/composecheck.5 $(DESTDIR)$(PREFIX)/share/man/man5/composecheck.5
 	install -D -m 644 -t $(DESTDIR)$(PREFIX)/share/composecheck $(wildcard share/composecheck/*.*)
+	chmod 755 $(DESTDIR)$(PREFIX)/share/composecheck/ci.sh
 	install -D -m 644 -t $(DESTDIR)$(PREFIX)/share/composecheck/repertoires $(wildcard share/composecheck/repertoires/*)
 	install -D -m 644 share/composecheck/composecheck.socket $(DESTDIR)$(PREFIX)/lib/systemd/user/composecheck.socket
 	install -D -m 644 share/composecheck/composecheck.service $(DESTDIR)$(PREFIX)/lib/systemd/user/composecheck.service

@@ -63,7 +63,7 @@ def files_of(program, prefix):
 
 def put(packed, name, content, time):
     item = tarfile.TarInfo(name)
-    item.size, item.mtime, item.mode = len(content), time, 0o755 if name.endswith("bin/composecheck") else 0o644
+    item.size, item.mtime, item.mode = len(content), time, 0o755 if name.endswith(("bin/composecheck", "/ci.sh")) else 0o644
     packed.addfile(item, io.BytesIO(content))
 
 
@@ -92,9 +92,9 @@ Depends: libc6
 Installed-Size: {size}
 Maintainer: Mewarogun maintainers <maintainers@users.noreply.mewarogun.example>
 Description: checks migrations between X11 Compose tables, and serves typing
- composecheck says whether everyone types with a new Compose table as with the
- old one, shows the shortest keys on which two tables differ, and serves typing
- sessions over a Unix socket. Its promises are proved.
+ composecheck lists what a new Compose table changes for people who type with
+ the old one, shows the shortest keys on which two tables differ, and serves
+ typing sessions over a Unix socket. Its promises are proved.
 """
 
 
@@ -107,7 +107,7 @@ def make_deb(files, version, time, folder):
             os.makedirs(os.path.dirname(place), mode=0o755, exist_ok=True)
             with open(place, "wb") as file:
                 file.write(content)
-            os.chmod(place, 0o755 if path == "bin/composecheck" else 0o644)
+            os.chmod(place, 0o755 if path.endswith(("bin/composecheck", "/ci.sh")) else 0o644)
         os.mkdir(f"{room}/DEBIAN", 0o755)
         with open(f"{room}/DEBIAN/control", "w", encoding="utf-8") as file:
             file.write(control_of(files, version))

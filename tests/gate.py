@@ -106,7 +106,7 @@ def main():
     if failed == 0:
         shutil.copy(built("composecheck"), PROGRAM)
         plain = built("composecheck_list")
-        runs = [("run.py", PROGRAM), ("run.py", plain), ("refusals.py", PROGRAM), ("refusals.py", plain), ("lex_reference.py", PROGRAM), ("limits.py", PROGRAM), ("outputs.py", PROGRAM)]
+        runs = [("run.py", PROGRAM), ("run.py", plain), ("refusals.py", PROGRAM), ("refusals.py", plain), ("lex_reference.py", PROGRAM), ("limits.py", PROGRAM), ("outputs.py", PROGRAM), ("diff.py", PROGRAM), ("ci.py", PROGRAM), ("diff.py", plain)]
         runs += [("service.py", PROGRAM), ("service.py", plain), ("at_once.py", PROGRAM), ("streams.py", PROGRAM), ("readme.py", PROGRAM), ("packages.py", PROGRAM)]
         runs += [("calls.py", built("compose_trials")), ("devices.py", built("compose_trials"))]
         for script, program in runs:

@@ -5,6 +5,7 @@ The names file is keysymdef.h with our header of short names; the tables are the
 that includes the table of the locale, each by the manifest that `composecheck manifest` prints for it. Typing is compared with
 libxkbcommon at each of 300,000 random keys a table. The last line is `N passed, M failed`."""
 import itertools
+import json
 import os
 import re
 import subprocess
@@ -168,6 +169,42 @@ def check_migrations(program, folder, results):
     results.expect("en_US to cs_CZ", ran.stdout == 'keys dead_caron U\nkind text\nold "Ǔ"\nnew "Ů"\n', ran.stdout)
 
 
+def keysyms_of(names, values):
+    """The keysyms of the names of keys, in any form."""
+    return tuple(int(name, 16) if name.startswith("0x") else key_streams.keysym(name, values) for name in names)
+
+
+def check_differences(program, folder, results):
+    """What `diff` and `explain --all` tell of each pair agrees: each list of keys of the one begins a sequence that the other tells as lost,
+    and each such sequence begins with such a list."""
+    values = key_streams.header_values() | key_streams.header_values(SHORT_NAMES)
+    for old, new in itertools.permutations(locales(), 2):
+        ran = run(program, folder, "diff", "--overlap", "longest", "--format", "json", tables(folder)[old], tables(folder)[new])
+        told = [json.loads(line) for line in ran.stdout.splitlines()]
+        lost = {keysyms_of(row["keys"], values) for row in told if row["change"] not in ("kept", "added")}
+        every = run(program, folder, "explain", "--all", "--names", "names", f"{old}.longest", f"{new}.longest").stdout
+        lists = {keysyms_of(names.split(), values) for names in re.findall(r"^keys (.*)$", every, re.M)}
+        begins = {keys[:count] for keys in lost for count in range(1, len(keys) + 1)}
+        explained = all(any(keys[:count] in lists for count in range(1, len(keys) + 1)) for keys in lost)
+        results.expect(f"diff of {old} to {new} ends by what it tells", ran.returncode == (1 if lost else 0) and told, ran.stderr)
+        results.expect(f"diff and explain of {old} to {new}", lists <= begins and explained, (len(lists - begins), len(lost)))
+    check_known_differences(program, folder, results)
+
+
+def check_known_differences(program, folder, results):
+    """Four sequences of the English table are changed or removed in the Finnish one, each told with both places; and all those that begin
+    with Multi_key and parenleft are counted where they are taken away."""
+    ran = run(program, folder, "diff", "--no-fold", ENGLISH, os.path.join(LOCALES, "fi_FI.UTF-8", "Compose"))
+    lines = [line for line in ran.stdout.splitlines() if line.startswith(("changed: ", "removed: "))]
+    results.expect("en_US to fi_FI", len(lines) == 4 and all(re.search(r"en_US\.UTF-8/Compose:\d+ \S*fi_FI\.UTF-8/Compose:\d+$", line) for line in lines), lines)
+    with open(ENGLISH, encoding="utf-8") as table:
+        kept = [line for line in table if not re.match(r"\s*<Multi_key>\s*<parenleft>", line)]
+    with open(os.path.join(folder, "without"), "w", encoding="utf-8") as table:
+        table.writelines(kept)
+    ran = run(program, folder, "diff", ENGLISH, "without")
+    results.expect("en_US without parenleft", " 298 removed," in ran.stdout.splitlines()[-1], ran.stdout[-200:])
+
+
 def ours(program, folder, table, keys):
     """The status of each key and the text that a sequence commits there."""
     ran = run(program, folder, "type", "--names", "names", table, *[f"0x{key:x}" for key in keys])
@@ -224,6 +261,7 @@ def main():
         check_counts(bench, folder, results)
         check_repertoires(program, folder, results)
         check_migrations(program, folder, results)
+        check_differences(program, folder, results)
         check_typing(program, folder, results)
     print(f"{results.passed} passed, {results.failed} failed")
     return 1 if results.failed else 0

@@ -3,14 +3,17 @@ _composecheck() {
     local word=${COMP_WORDS[COMP_CWORD]} before=${COMP_WORDS[COMP_CWORD-1]} options=
     COMPREPLY=()
     if [ "$COMP_CWORD" -eq 1 ]; then
-        COMPREPLY=($(compgen -W "type check explain make manifest serve load session --help --version" -- "$word"))
+        COMPREPLY=($(compgen -W "type check explain make diff manifest serve load session --help --version" -- "$word"))
         return
     fi
     case $before in
         --names) COMPREPLY=($(compgen -f -- "$word") $(compgen -W builtin -- "$word")); return ;;
-        -o | --output) COMPREPLY=($(compgen -f -- "$word")); return ;;
+        -o | --output | --accept) COMPREPLY=($(compgen -f -- "$word")); return ;;
         --fresh | --at-once | --unsent | --locale) return ;;
         --system) COMPREPLY=($(compgen -d -- "$word")); return ;;
+        --overlap) COMPREPLY=($(compgen -W "refuse longest" -- "$word")); return ;;
+        --format) COMPREPLY=($(compgen -W "text json" -- "$word")); return ;;
+        --color) COMPREPLY=($(compgen -W "auto always never" -- "$word")); return ;;
         --mode) COMPREPLY=($(compgen -W "600 660 666" -- "$word")); return ;;
     esac
     case ${COMP_WORDS[1]} in
@@ -18,6 +21,7 @@ _composecheck() {
         check) options="--names --fresh --help" ;;
         explain) options="--names --fresh --all --help" ;;
         make) options="--names --fresh --all --output --help" ;;
+        diff) options="--names --fresh --overlap --accept --write-accept --no-fold --format --color --system --locale --help" ;;
         manifest) options="--system --locale --help" ;;
         serve) options="--names --at-once --unsent --mode --replace --unlink --help" ;;
         load) options="--help" ;;

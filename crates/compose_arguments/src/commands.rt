@@ -1,5 +1,6 @@
 //! The commands as clap reads them.
 use crate::client_commands::add_client_commands;
+use crate::diff_command::diff_command;
 use crate::manifest_arguments::manifest_command;
 use crate::serve_command::serve_command;
 use clap::{Arg, ArgAction, Command};
@@ -17,7 +18,7 @@ pub fn names_option<'a>(alloc: Global) -> Arg<'a> {
 }
 
 /// The option for fresh keysyms.
-fn fresh_option<'a>(alloc: Global) -> Arg<'a> {
+pub fn fresh_option<'a>(alloc: Global) -> Arg<'a> {
     Arg::new(alloc, "fresh")
         .long("fresh")
         .value_name("KEYS")
@@ -128,6 +129,7 @@ fn explain_command<'a>(alloc: Global) -> Result<Command<'a>, AllocError> {
 fn add_move_commands<'a>(alloc: Global, command: Command<'a>) -> Result<Command<'a>, AllocError> {
     command
         .subcommand(check_command(alloc)?)?
+        .subcommand(diff_command(alloc)?)?
         .subcommand(explain_command(alloc)?)?
         .subcommand(make_command(alloc)?)
 }

@@ -11,12 +11,15 @@
 mod client_arguments;
 mod client_commands;
 mod commands;
+mod diff_arguments;
+mod diff_command;
 mod manifest_arguments;
 mod request;
 mod serve_arguments;
 mod serve_command;
 
 pub use client_arguments::{LoadArguments, SessionArguments};
+pub use diff_arguments::{DiffArguments, DiffColor, DiffForm};
 pub use manifest_arguments::ManifestArguments;
 pub use request::{CommandLine, Request, TablePaths, read_command_line};
 pub use serve_arguments::ServeArguments;

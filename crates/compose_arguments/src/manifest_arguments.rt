@@ -15,7 +15,7 @@ pub struct ManifestArguments<'a> {
 }
 
 /// The option for the folder of the system's tables.
-fn system_option<'a>(alloc: Global) -> Arg<'a> {
+pub fn system_option<'a>(alloc: Global) -> Arg<'a> {
     Arg::new(alloc, "system")
         .long("system")
         .value_name("DIR")
@@ -24,7 +24,7 @@ fn system_option<'a>(alloc: Global) -> Arg<'a> {
 }
 
 /// The option for the name of a locale.
-fn locale_option<'a>(alloc: Global) -> Arg<'a> {
+pub fn locale_option<'a>(alloc: Global) -> Arg<'a> {
     Arg::new(alloc, "locale")
         .long("locale")
         .value_name("NAME")

@@ -5,6 +5,7 @@ ghost use Rattle.compose_arguments.specs.Commas.{names_between};
 
 use crate::client_arguments::{LoadArguments, SessionArguments, load_arguments, session_arguments};
 use crate::commands::command_line;
+use crate::diff_arguments::{DiffArguments, diff_arguments};
 use crate::manifest_arguments::{ManifestArguments, manifest_arguments};
 use crate::serve_arguments::{ServeArguments, serve_arguments};
 use clap::error::ErrorKind;
@@ -36,6 +37,12 @@ pub enum Request<'a> {
         fresh: Vec<&'a str>,
         /// Whether all differences are asked for.
         all: bool,
+    },
+    /// Tell what a new Compose file changes.
+    Diff {
+        arguments: DiffArguments<'a>,
+        /// The names of `--fresh` between commas.
+        fresh: Vec<&'a str>,
     },
     /// Make a certificate.
     Make {
@@ -115,6 +122,7 @@ fn request_of<'a>(
         Some(("type", given)) => type_request(alloc, given),
         Some(("check", given)) => check_request(alloc, given),
         Some(("explain", given)) => explain_request(alloc, given),
+        Some(("diff", given)) => diff_request(alloc, given),
         Some(("make", given)) => make_request(alloc, given),
         Some(("manifest", given)) => Ok(manifest_arguments(given).map(Request::Manifest)),
         Some(("serve", given)) => Ok(serve_arguments(given).map(Request::Serve)),
@@ -179,6 +187,20 @@ fn explain_request<'a>(
         tables,
         fresh: fresh_names(alloc, given)?,
         all: given.get_flag("all"),
+    }))
+}
+
+/// The arguments of `diff`.
+fn diff_request<'a>(
+    alloc: Global,
+    given: &ArgMatches<'a>,
+) -> Result<Option<Request<'a>>, AllocError> {
+    let Some(arguments) = diff_arguments(given) else {
+        return Ok(None);
+    };
+    Ok(Some(Request::Diff {
+        arguments,
+        fresh: fresh_names(alloc, given)?,
     }))
 }
 

@@ -1,6 +1,7 @@
 //! The commands. Each reads its files in their order, and prints what is answered on their bytes. An error is the end of a run whose
 //! refusal was told.
 use crate::client::{load_files, session_files};
+use crate::differing::diff_files;
 use crate::files::{MoveFiles, TableFiles, read_file, read_header};
 use crate::manifest::manifest_files;
 use crate::report::{report, report_into};
@@ -19,6 +20,7 @@ use std::rt::{Env, Files};
 pub fn answer<T: ComposeTable>(
     rt: &(impl Env + Files + Net + Print + Eprint + AllocGlobal),
     process_id: u32,
+    is_terminal: bool,
     arguments: &CommandLine<'_>,
 ) -> Result<Ended, Ended> {
     let names = arguments.names.as_slice();
@@ -38,6 +40,9 @@ pub fn answer<T: ComposeTable>(
         }
         Request::Explain { tables, fresh, all } => {
             explain_files::<T>(rt, names, tables, fresh, *all)
+        }
+        Request::Diff { arguments, fresh } => {
+            diff_files::<T>(rt, names, arguments, fresh, is_terminal)
         }
         Request::Make {
             tables,

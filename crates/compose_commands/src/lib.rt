@@ -11,6 +11,7 @@
 mod at_once;
 mod client;
 mod commands;
+mod differing;
 mod files;
 mod manifest;
 mod program;

@@ -16,16 +16,7 @@ pub fn manifest_files(
     rt: &(impl Env + Files + Print + Eprint + AllocGlobal),
     arguments: &ManifestArguments<'_>,
 ) -> Result<Ended, Ended> {
-    let folder = system_folder(rt)?;
-    let system = arguments.system.unwrap_or(&folder);
-    let locale = locale_table(rt, system, arguments.locale)?;
-    let home = variable(rt, "HOME")?;
-    let meanings = Meanings {
-        system,
-        locale: locale.as_deref(),
-        home: home.as_deref(),
-    };
-    let sources = find_files(rt, meanings, arguments.file)?;
+    let sources = found_files(rt, arguments.system, arguments.locale, arguments.file)?;
     match manifest_text(rt.alloc(), &sources) {
         Ok(text) => Ok(written(rt, print!(rt; "{text}"), Ended::Yes)),
         Err(WriteFault::NoMemory) => Err(no_memory(rt)),
@@ -33,8 +24,30 @@ pub fn manifest_files(
     }
 }
 
+/// The sources of a Compose file as it lies on the system, by the arguments and the environment.
+pub fn found_files(
+    rt: &(impl Env + Files + Eprint + AllocGlobal),
+    system: Option<&str>,
+    locale: Option<&str>,
+    file: &str,
+) -> Result<Vec<FoundSource>, Ended> {
+    let folder = system_folder(rt)?;
+    let system = system.unwrap_or(&folder);
+    let locale = locale_table(rt, system, locale)?;
+    let home = variable(rt, "HOME")?;
+    let meanings = Meanings {
+        system,
+        locale: locale.as_deref(),
+        home: home.as_deref(),
+    };
+    find_files(rt, meanings, file)
+}
+
 /// A variable of the environment, if it is set to something.
-fn variable(rt: &(impl Env + Eprint + AllocGlobal), name: &str) -> Result<Option<String>, Ended> {
+pub fn variable(
+    rt: &(impl Env + Eprint + AllocGlobal),
+    name: &str,
+) -> Result<Option<String>, Ended> {
     match env::var(rt, name) {
         Ok(value) if value.is_empty() => Ok(None),
         Ok(value) => Ok(Some(value)),

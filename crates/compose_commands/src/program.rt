@@ -15,15 +15,16 @@ use std::{env, io};
 /// Does what the arguments of the command line say, with tables in the form `T`, and gives the exit status: 0 where the answer is yes,
 /// made, follows, typed or served, 1 where it is no, differs or unreachable, 2 where the arguments or the input are refused or the output can't
 /// be written, 3 where memory was refused. The answer goes to standard output, why there is none to standard error. At the cost of the
-/// command over its files.
+/// command over its files. `is_terminal` says whether standard output is a terminal.
 pub fn run<T: ComposeTable>(
     rt: &(impl Env + Files + Net + Print + Eprint + AllocGlobal),
     process_id: u32,
+    is_terminal: bool,
 ) -> ExitCode
     ensures { exit_status result ≤ 3 }
 {
     let ended = match read_arguments(rt) {
-        Ok(arguments) => answer_arguments::<T>(rt, process_id, &arguments),
+        Ok(arguments) => answer_arguments::<T>(rt, process_id, is_terminal, &arguments),
         Err(ended) => ended,
     };
     ExitCode::from(ended.status())
@@ -44,10 +45,11 @@ fn read_arguments(rt: &(impl Env + Eprint + AllocGlobal)) -> Result<Vec<String>,
 fn answer_arguments<T: ComposeTable>(
     rt: &(impl Env + Files + Net + Print + Eprint + AllocGlobal),
     process_id: u32,
+    is_terminal: bool,
     arguments: &[String],
 ) -> Ended {
     match read_command_line(rt.alloc(), arguments) {
-        Ok(said) => answer::<T>(rt, process_id, &said).unwrap_or_else(|ended| ended),
+        Ok(said) => answer::<T>(rt, process_id, is_terminal, &said).unwrap_or_else(|ended| ended),
         Err(error) => report_error(rt, &error),
     }
 }

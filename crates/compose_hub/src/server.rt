@@ -136,7 +136,8 @@ impl Server {
     /// Accepts the connections that wait in the listener's queue, while there is a slot for them.
     fn accept_all(&mut self, alloc: Global, registry: &Registry, listener: &UnixListener)
         ensures { (unsent : ℕ) (reading : Reading) (state : ServiceState)
-            → GoesOnServing unsent reading state state self.old.accepted self.new.accepted self.old.slots.items self.new.slots.items }
+            → GoesOnServing unsent reading state state self.old.accepted
+            self.new.accepted self.old.slots.items self.new.slots.items }
     {
         if self.queue == Queue::Failed {
             self.queue = Queue::Waits;
@@ -177,7 +178,8 @@ impl Server {
         report: &mut E,
     ) -> io::Result<()>
         ensures { GoesOnServing unsent S.reading (S.state service.old)
-            (S.state service.new) self.old.accepted self.new.accepted self.old.slots.items self.new.slots.items }
+            (S.state service.new) self.old.accepted
+            self.new.accepted self.old.slots.items self.new.slots.items }
     {
         'slots: for slot in self.slots.iter_mut() {
             if let Some((number, how)) = serve_slot(slot, service, alloc, unsent) {

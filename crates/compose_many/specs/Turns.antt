@@ -38,7 +38,8 @@ FollowsSo most NeedsRoom before events after now left' read_mark write_mark = (n
 FollowsSo most (Ends end) before events after now left' read_mark write_mark = EndsSo end left' (is_failed read_mark) (is_failed write_mark) after
 
 -- a turn is events of its own connection; the limit 0 is as 1, and little is held where little was
-abbrev pub TurnSo : Limits → Reading → Turn → ServiceState → ServiceState → ConnectionState → ConnectionState → Option (List ℕ) → Option (List ℕ) → Option (List ℕ) → Option (List ℕ) → Option TryError → Option TryError → Type 0
+abbrev pub TurnSo : Limits → Reading → Turn → ServiceState → ServiceState → ConnectionState → ConnectionState
+    → Option (List ℕ) → Option (List ℕ) → Option (List ℕ) → Option (List ℕ) → Option TryError → Option TryError → Type 0
 TurnSo limits reading turn old new before now left left' written written' read_mark write_mark =
     (events : List Event) × (after : ConnectionState) × IsTurn (max limits.unsent 1) reading old new before after left left' written written' events
     × (length before.held < limits.held + max_piece → length after.held < limits.held + max_piece) × FollowsSo limits.held turn before events after now left' read_mark write_mark

@@ -7,9 +7,10 @@
 
 use compose_commands::run;
 use compose_tree::PackedTable;
+use std::io::IsTerminal;
 use std::process;
 use std::process::ExitCode;
 
 fn main(rt: HostRuntime) -> ExitCode {
-    run::<PackedTable>(&rt, process::id(rt.process()))
+    run::<PackedTable>(&rt, process::id(rt.process()), rt.stdout().is_terminal())
 }

@@ -8,9 +8,10 @@
 
 use compose_commands::run;
 use compose_tree::ListTable;
+use std::io::IsTerminal;
 use std::process;
 use std::process::ExitCode;
 
 fn main(rt: HostRuntime) -> ExitCode {
-    run::<ListTable>(&rt, process::id(rt.process()))
+    run::<ListTable>(&rt, process::id(rt.process()), rt.stdout().is_terminal())
 }

@@ -1,0 +1,210 @@
+#!/usr/bin/env python3
+"""diff.py PROGRAM [COUNT]: what `diff` tells of random tables, against a second reading of what happens to a sequence.
+
+Both tables of a pair are files of some lines with few keysyms, some of them written in several ways, with repeated sequences, comments
+and an include; the new one is mostly the old one with some lines changed. What is told of each sequence is worked out here by going
+through its keys with a list of definitions. COUNT pairs are tried, 300 if none is given. The last line is `N passed, M failed`."""
+import json
+import os
+import random
+import subprocess
+import sys
+import tempfile
+
+SEED = 27
+# The keysyms of these tables: how they are written, and the text of each.
+WRITTEN = {"a": ["a", "U0061", "0x61"], "b": ["b", "U0062"], "D": ["dead_acute", "0xfe51"], "E": ["dead_grave"]}
+OWN_TEXT = {"a": "a", "b": "b", "D": "", "E": ""}
+TEXTS = ["x", "y", "\u00e9", "a", "b", 'q"q', "\\"]
+GROUPS = ["changed", "waiting", "removed", "new start", "added"]
+
+
+def step(table, pending, key):
+    """What a key does: its effect, what is pending after it, and the text that it commits."""
+    typed = pending + key
+    if any(len(it) > len(typed) and it.startswith(typed) for it in table):
+        return "extends", typed, ""
+    if typed in table:
+        return "completes", "", table[typed]
+    return ("cancels", "", "") if pending else ("passes", "", OWN_TEXT[key])
+
+
+def is_kept(old, new, sequence):
+    """Whether the new table does at each key what the old one does."""
+    before = after = ""
+    for key in sequence:
+        mine, other = step(old, before, key), step(new, after, key)
+        if other[0] == "cancels" or mine[2] != other[2] or (mine[1] == "" and other[1] != ""):
+            return False
+        before, after = mine[1], other[1]
+    return True
+
+
+def change(old, new, fresh, sequence):
+    """What happens to a sequence of either table."""
+    if sequence in old:
+        if is_kept(old, new, sequence):
+            return "kept"
+        if sequence in new:
+            return "changed"
+        return "waiting" if any(it != sequence and it.startswith(sequence) for it in new) else "removed"
+    first = sequence[0]
+    is_known = first in fresh or any(it.startswith(first) for it in old)
+    types_itself = sequence == first and new[sequence] == OWN_TEXT[first]
+    return "added" if is_known or types_itself else "new start"
+
+
+def is_prefix_free(sequences):
+    return not any(a != b and b.startswith(a) for a in sequences for b in sequences)
+
+
+class Table:
+    """A random Compose file: the definition of each sequence that counts, and where it stands."""
+
+    def __init__(self, name):
+        self.name, self.lines = name, []
+        self.texts, self.places, self.keys = {}, {}, {}
+
+    def define(self, chance, sequence, text):
+        """Adds a line, unless two sequences would then overlap."""
+        if not is_prefix_free({*self.texts, sequence}):
+            return
+        if chance.random() < 0.2:
+            self.lines.append(chance.choice(["", "# a comment"]))
+        written = [chance.choice(WRITTEN[key]) for key in sequence]
+        quoted = text.replace("\\", "\\\\").replace('"', '\\"')
+        self.lines.append(" ".join(f"<{it}>" for it in written) + f' : "{quoted}"')
+        self.texts[sequence], self.places[sequence], self.keys[sequence] = text, len(self.lines), written
+
+    def write(self, folder):
+        with open(os.path.join(folder, self.name), "w", encoding="utf-8") as file:
+            file.write("".join(line + "\n" for line in self.lines))
+
+
+def random_sequence(chance, keys):
+    return "".join(chance.choice(keys) for _ in range(chance.choice([1, 1, 2, 2, 3])))
+
+
+def random_pair(chance):
+    """An old and a new table, and the keysyms that are fresh."""
+    fresh = chance.sample("abDE", chance.choice([0, 0, 0, 1]))
+    known = [it for it in "abDE" if it not in fresh]
+    old, new = Table("old"), Table("new")
+    for _ in range(chance.randint(0, 7)):
+        old.define(chance, random_sequence(chance, known), chance.choice(TEXTS))
+    for sequence, text in old.texts.items():
+        if chance.random() < 0.8:
+            new.define(chance, sequence, text if chance.random() < 0.8 else chance.choice(TEXTS))
+    for _ in range(chance.randint(0, 4)):
+        new.define(chance, random_sequence(chance, "abDE"), chance.choice(TEXTS))
+    return old, new, fresh
+
+
+def told(old, new, fresh):
+    """What `--format json` says of each sequence of either table."""
+    found = []
+    for sequence in {**old.texts, **new.texts}:
+        what = change(old.texts, new.texts, fresh, sequence)
+        written = old.keys.get(sequence) or new.keys[sequence]
+        is_in = [sequence in it.texts for it in (old, new)]
+        found.append({
+            "change": what,
+            "keys": written,
+            "old": old.texts.get(sequence),
+            "new": new.texts.get(sequence),
+            "old_file": "old" if is_in[0] else None,
+            "old_line": old.places.get(sequence),
+            "new_file": "new" if is_in[1] else None,
+            "new_line": new.places.get(sequence),
+        })
+    return found
+
+
+def quoted(text):
+    return '"' + text.replace("\\", "\\\\").replace('"', '\\"') + '"'
+
+
+def line_of(row, with_places=True):
+    """The line that is printed of a sequence."""
+    parts = [f"{row['change']}:", *(f"<{it}>" for it in row["keys"])]
+    if row["change"] in ("changed", "waiting", "removed"):
+        parts.append(quoted(row["old"]))
+    if row["change"] in ("changed", "new start", "added"):
+        parts.append(quoted(row["new"]))
+    if with_places and row["change"] in ("changed", "waiting", "removed"):
+        parts.append(f"old:{row['old_line']}")
+    if with_places and row["change"] in ("changed", "new start", "added"):
+        parts.append(f"new:{row['new_line']}")
+    return " ".join(parts)
+
+
+def rows_in_order(rows):
+    """Those that are printed: group by group, in each by the line."""
+    line = lambda row: row["old_line"] if row["old_line"] is not None else row["new_line"]
+    return [row for group in GROUPS for row in sorted((it for it in rows if it["change"] == group), key=line)]
+
+
+def counts_of(rows, accepted=0):
+    """The last line. Accepted ones are counted apart."""
+    count = lambda what: sum(1 for it in rows if it["change"] == what)
+    starts = count("new start")
+    return f"diff: {count('kept')} kept, {count('changed')} changed, {count('waiting')} waiting, {count('removed')} removed, {starts} new starts, {count('added')} added, {accepted} accepted"
+
+
+class Trial:
+    """Runs of the program on pairs of tables."""
+
+    def __init__(self, program):
+        self.program, self.passed, self.failed = program, 0, 0
+
+    def expect(self, what, expected, got):
+        if expected == got:
+            self.passed += 1
+        else:
+            self.failed += 1
+            print(f"FAILED {what}:\n  expected {expected!r:.700}\n  got      {got!r:.700}")
+
+    def run(self, folder, *arguments):
+        return subprocess.run([self.program, "diff", *arguments, "old", "new"], cwd=folder, capture_output=True, text=True)
+
+    def pair(self, number, chance):
+        """Tries one pair: every sequence as JSON, the lines, the list of accepted ones, and one that is not there."""
+        old, new, fresh = random_pair(chance)
+        rows = told(old, new, fresh)
+        options = ["--fresh", ",".join(WRITTEN[it][0] for it in fresh)] if fresh else []
+        losses = [it for it in rows if it["change"] not in ("kept", "added")]
+        with tempfile.TemporaryDirectory() as folder:
+            for it in (old, new):
+                it.write(folder)
+            ran = self.run(folder, "--format", "json", *options)
+            objects = [json.loads(line) for line in ran.stdout.splitlines()]
+            by_keys = lambda row: (row["keys"], row["change"])
+            self.expect(f"{number}: json", sorted(rows, key=by_keys), sorted(objects, key=by_keys))
+            self.expect(f"{number}: status", 1 if losses else 0, ran.returncode)
+            ran = self.run(folder, "--no-fold", *options)
+            self.expect(f"{number}: lines", [*map(line_of, rows_in_order(rows)), counts_of(rows)], ran.stdout.splitlines())
+            ran = self.run(folder, "--write-accept", *options)
+            self.expect(f"{number}: accepted ones", [line_of(it, False) for it in rows_in_order(losses)], ran.stdout.splitlines())
+            with open(os.path.join(folder, "accepted"), "w", encoding="utf-8") as file:
+                file.write("# meant\n" + ran.stdout)
+            ran = self.run(folder, "--no-fold", "--accept", "accepted", *options)
+            others = [it for it in rows if it not in losses]
+            self.expect(f"{number}: all accepted", ([*map(line_of, rows_in_order(others)), counts_of(others, len(losses))], 0), (ran.stdout.splitlines(), ran.returncode))
+            with open(os.path.join(folder, "accepted"), "a", encoding="utf-8") as file:
+                file.write('removed: <a> <a> <a> <a> "x"\n')
+            ran = self.run(folder, "--accept", "accepted", *options)
+            self.expect(f"{number}: a stale one", (f"refused: accept: 1 Stale line={len(losses) + 2}\n", 2), (ran.stderr, ran.returncode))
+
+
+def main():
+    program = os.path.abspath(sys.argv[1])
+    count = int(sys.argv[2]) if len(sys.argv) > 2 else 300
+    trial, chance = Trial(program), random.Random(SEED)
+    for number in range(count):
+        trial.pair(number, chance)
+    print(f"{trial.passed} passed, {trial.failed} failed")
+    return 1 if trial.failed else 0
+
+
+if __name__ == "__main__":
+    sys.exit(main())
