@@ -36,7 +36,7 @@ class Gate:
     """`rt ci` with some of its calls replaced."""
 
     def __init__(self, rt, file):
-        self.rt, self.trials = rt, {}
+        self.rt, self.trials, self.said = rt, {}, {}
         self.crate_ci, self.in_lanes = rt.Crate.ci, rt.in_lanes
         measured.measure(rt.rtlib, file)
         rt.Crate.ci = lambda crate, flags, tests: self.prove(crate, flags, tests)
@@ -58,6 +58,8 @@ class Gate:
                 os.remove(f"{os.path.dirname(crate.rlib)}/stamp")
             shutil.rmtree(self.kept(crate), ignore_errors=True)
             take_checked(crate.rlib, self.kept(crate))
+            crate.out.seek(0)
+            self.said[crate.name] = crate.out.read()
         return status
 
     def in_lanes_with_edits(self, tasks):
@@ -68,7 +70,8 @@ class Gate:
             if kind != "edits" or not self.rt.edits_of(crates[name])[0]:
                 more[name, kind] = waits, seconds, memory, call
                 continue
-            trial = edits.Trial(self.rt, crates[name], self.kept(crates[name]), f"{crates[name].folder}/out/edits")
+            said = lambda name=name: self.said.get(name)
+            trial = edits.Trial(self.rt, crates[name], self.kept(crates[name]), f"{crates[name].folder}/out/edits", said=said)
             is_well = lambda given, name=name: given[name, "proof"] and given[name, "tests"]
             self.trials[name] = trial
             more.update(trial.tasks(waits, seconds, is_well, self.ended(trial, call)))
