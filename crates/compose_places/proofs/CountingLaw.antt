@@ -67,7 +67,8 @@ module _ (names : KeysymNames) (sources : List Source) where
     with_text s string other = Ok (record { sequence = s; text = option_map_or (λ u. u) string other })
 
     include_alone : (missing room : Bool)
-        → (let r : Result (Option Definition) ReadFault = cond missing (Err (faults.MissingInclude v.source v.line)) (cond room (Ok None) (Err (faults.IncludeDepth v.source v.line))) in r) ≡ Ok (Some d) → ⊥
+        → (let r : Result (Option Definition) ReadFault = cond missing (Err (faults.MissingInclude v.source v.line)) (cond room (Ok None) (Err (faults.IncludeDepth v.source v.line))) in
+          r) ≡ Ok (Some d) → ⊥
     include_alone true room h = cc
     include_alone false true h = cc
     include_alone false false h = cc
@@ -243,11 +244,13 @@ module _ (names : KeysymNames) (sources : List Source) where
         go None e h = cc
         go (Some l) e h = right_keys s (read_lines sources root) l e
 
+  -- each sequence of a table that is read has a line that counts, whose keys it is
   pub are_lines : (root : List ℕ) (rule : Rule) (table : List Definition) → table_of names sources root rule ≡ Ok table
       → AreLines names table (map (counting_line names (read_lines sources root)) (leaves table))
   are_lines root rule table read = go (leaves table) (λ s h. told_line root rule table read s (sym (leaf_means table s) ∙ h))
     where
-      go : (xs : List (List ℕ)) → ((s : List ℕ) → list_any (same s) xs ≡ true → option_and_then (λ (line : WrittenLine). sequence_named names line.keys) (counting_line names (read_lines sources root) s) ≡ Some s)
+      go : (xs : List (List ℕ))
+          → ((s : List ℕ) → list_any (same s) xs ≡ true → option_and_then (λ (line : WrittenLine). sequence_named names line.keys) (counting_line names (read_lines sources root) s) ≡ Some s)
           → map (option_and_then (λ (line : WrittenLine). sequence_named names line.keys)) (map (counting_line names (read_lines sources root)) xs) ≡ map (λ s. Some s) xs
       go [] f = refl
       go (x ∷ xs) f = ap₂ (λ y ys. y ∷ ys) (f x (or_left (same x x) (list_any (same x) xs) (same_from x x refl))) (go xs (λ s h. f s (or_right (same s x) (list_any (same s) xs) h)))

@@ -24,7 +24,8 @@ module _ (names : KeysymNames) where
   counting_line-append (c ∷ vs) v s = ap (λ o. option_or o (cond (defines names s c.bytes) (Some (written_line c)) None)) (counting_line-append vs v s) ∙ outside (defines names s v.bytes)
     where
       outside : (b : Bool)
-          → option_or (cond b (Some (written_line v)) (counting_line names vs s)) (cond (defines names s c.bytes) (Some (written_line c)) None) ≡ cond b (Some (written_line v)) (counting_line names (c ∷ vs) s)
+          → option_or (cond b (Some (written_line v)) (counting_line names vs s)) (cond (defines names s c.bytes) (Some (written_line c)) None)
+          ≡ cond b (Some (written_line v)) (counting_line names (c ∷ vs) s)
       outside true = refl
       outside false = refl
 
@@ -78,9 +79,11 @@ take_nothing (suc n) xs e = ap (take (suc n)) e
 pub all_seen : {X : Type 0} (seen all left : List X) (n : ℕ) → seen ++ take n left ≡ all → left ≡ [] → seen ≡ all
 all_seen seen all left n told e = sym (append-nil seen) ∙ ap (λ xs. seen ++ xs) (sym (take_nothing n left e)) ∙ told
 
+-- where no more is to be read, all were seen
 pub enough_seen : {X : Type 0} (seen all left : List X) (n : ℕ) → seen ++ take n left ≡ all → n ≡ 0 → seen ≡ all
 enough_seen seen all left n told e = sym (append-nil seen) ∙ ap (λ k. seen ++ take k left) (sym e) ∙ told
 
+-- with one more that is seen, one less is left
 pub one_seen : {X : Type 0} (seen all left : List X) (n : ℕ) → seen ++ take n left ≡ all → (v : X) (rest : List X) (m : ℕ) → left ≡ v ∷ rest → n ≡ suc m
     → (seen ++ v ∷ []) ++ take m rest ≡ all
 one_seen seen all left n told v rest m is one = append_assoc seen (v ∷ []) (take m rest) ∙ sym (ap₂ (λ k xs. seen ++ take k xs) one is) ∙ told
@@ -90,6 +93,7 @@ pub read_some : (there : Bool) (all given : List Visit) → Some given ≡ cond 
 read_some true all given h = ap (take max_lines) (same_Some given all h)
 read_some false all given h = cc
 
+-- where no source has the root's name, nothing is read
 pub read_none : (there : Bool) (all : List Visit) → None ≡ cond there (Some all) None → [] ≡ cond there (take max_lines all) []
 read_none true all h = cc
 read_none false all h = refl

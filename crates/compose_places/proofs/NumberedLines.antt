@@ -29,6 +29,7 @@ module _ (sources : List Source) (place : DefinitionPlace) where
         go None e = cc
         go (Some s) e = ap (λ bs. numbered_from_one (source_lines bs) place.line) (same_Some s.bytes bytes e)
 
+    -- the line at a place, whose number is not 0, is that of the source's lines
     pub found_line : 0 < place.line → slice_get (source_lines bytes) (place.line - 1) ≡ line_at sources place
     found_line h = sym (line_is ∙ numbered (source_lines bytes) place.line h)
 

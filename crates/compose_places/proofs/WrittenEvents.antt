@@ -114,7 +114,8 @@ module _ (names : KeysymNames) where
       by_others k others (Ok s) e is h = (let rest = others s e in λ i. is i ∷ rest i) ∙ ap (λ r. all_some (in_ok r)) h
 
       by_ignored : (k : ℕ) → ((s : List ℕ) → sequence_of names v (1 + index) events ≡ Ok s → keysyms_of events ≡ all_some s) → (ignored : Bool) → value names event ≡ Some k
-          → ((let r : Result ℕ ReadFault = cond ignored (Err (faults.IgnoredKeysym v.source v.line index)) (Ok k) in r) >>= (λ k. sequence_of names v (1 + index) events >>= (λ s. Ok (k ∷ s)))) ≡ Ok sequence
+          → ((let r : Result ℕ ReadFault = cond ignored (Err (faults.IgnoredKeysym v.source v.line index)) (Ok k) in r)
+            >>= (λ k. sequence_of names v (1 + index) events >>= (λ s. Ok (k ∷ s)))) ≡ Ok sequence
           → keysyms_of (event ∷ events) ≡ all_some sequence
       by_ignored k others true is h = cc
       by_ignored k others false is h = by_others k others (sequence_of names v (1 + index) events) refl is h
@@ -160,7 +161,8 @@ module _ (names : KeysymNames) where
         by_definition events (Ok e) values h = values (ap given h)
 
         by_include : (missing room : Bool)
-            → (let r : Result (Option Definition) ReadFault = cond missing (Err (faults.MissingInclude v.source v.line)) (cond room (Ok None) (Err (faults.IncludeDepth v.source v.line))) in r) ≡ Ok (Some d) → ⊥
+            → (let r : Result (Option Definition) ReadFault = cond missing (Err (faults.MissingInclude v.source v.line)) (cond room (Ok None) (Err (faults.IncludeDepth v.source v.line))) in
+              r) ≡ Ok (Some d) → ⊥
         by_include true room h = cc
         by_include false true h = cc
         by_include false false h = cc
