@@ -1,10 +1,9 @@
 -- Where a definition stands, and what is told of it (this project's profile).
-use Rattle.std.specs.Prelude.{ℕ, List, [], ◌++◌, map, slice_get, string_bytes, Option, Some, None, Result, Ok, Err, codes}
+use Rattle.std.specs.Prelude.{ℕ, List, [], ◌++◌, map, slice_get, string_bytes, Result, Ok, Err, codes}
 use Rattle.std.specs.Option.{option_map_or}
 use Rattle.keysym_core.specs.Names.{KeysymNames}
 use Rattle.compose_model.specs.Table.{Definition}
 use Rattle.compose_lex.specs.Escape.{quote}
-use Rattle.compose_read.specs.Lines.{Source}
 use Rattle.compose_read.specs.Read.{definitions_of}
 use Rattle.compose_read.specs.declared.ReadFault.{ReadFault}
 use Rattle.compose_places.specs.Last.{last_with}

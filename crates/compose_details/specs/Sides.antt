@@ -1,14 +1,17 @@
 -- What is told of keys in a table, and of the keys on which two tables differ (this project's profile).
-use Rattle.std.specs.Prelude.{ℕ, Bool, false, nat_eq, if◌then◌else◌, List, [], ◌∷◌, ◌++◌, map, flat_map, slice_get, Option, Some, None, codes}
+use Rattle.std.specs.Prelude.{ℕ, Bool, false, not, ◌&&◌, ◌==◌, nat_eq, if◌then◌else◌, List, [], ◌∷◌, ◌++◌, length, flat_map, slice_get, Option, Some, None, is_some, codes}
 use Rattle.std.specs.Option.{option_map_or}
-use Rattle.std.specs.List.{starts_with}
+use Rattle.std.specs.List.{starts_with, list_any}
 use Rattle.compose_model.specs.Table.{Definition}
 use Rattle.keysym_core.specs.Names.{KeysymNames}
 use Rattle.compose_places.specs.declared.places.DefinitionPlace.{DefinitionPlace}
 use Rattle.compose_messages.specs.Overlaps.{events}
+use Rattle.compose_messages.specs.declared.hints.Hint.{Hint}
+use Rattle.compose_messages.specs.declared.hints.Hint.TheVariants.{Fresh}
 use Rattle.compose_walk.specs.Evidence.{Evidence}
 use Rattle.compose_details.specs.Lines.{line}
 use Rattle.compose_details.specs.Definitions.{definition_line, paths_in}
+use Rattle.compose_details.specs.Refusals.{hint_line}
 use Rattle.compose_details.specs.declared.sides.SideTable.{SideTable}
 
 -- the sequence of the definition with this index begins with the keys
@@ -44,3 +47,24 @@ lines_of_difference old new x = difference_lines old new x.keys
 -- of each difference
 abbrev pub lines_of_differences : SideTable → SideTable → List Evidence → List ℕ
 lines_of_differences old new differences = flat_map (lines_of_difference old new) differences
+
+-- ---- a key at rest, where a table begins a sequence
+
+-- of the definitions that count, the sequence of one begins with the keys
+abbrev pub is_beginning : SideTable → List ℕ → Bool
+is_beginning side keys = is_some (first_beginning side.placed.definitions.now keys side.counting.now)
+
+-- one key, with which no sequence of the old table begins, and one of the new table does
+abbrev pub begins_anew : SideTable → SideTable → List ℕ → Bool
+begins_anew old new keys = length keys == 1 && not (is_beginning old keys) && is_beginning new keys
+
+abbrev pub any_begins_anew : SideTable → SideTable → List Evidence → Bool
+any_begins_anew old new differences = list_any (λ (x : Evidence). begins_anew old new x.keys) differences
+
+-- fresh keysyms help where a difference is such a key
+abbrev pub differences_hint : SideTable → SideTable → List Evidence → Option Hint
+differences_hint old new differences = if any_begins_anew old new differences then Some Fresh else None
+
+-- of each difference, and then the hint, once
+abbrev pub hinted_differences : SideTable → SideTable → List Evidence → List ℕ
+hinted_differences old new differences = lines_of_differences old new differences ++ hint_line (differences_hint old new differences)

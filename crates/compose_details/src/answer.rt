@@ -4,7 +4,7 @@ use crate::faulty::root_of;
 use crate::given::{Given, GivenTable};
 use crate::pairs::{FaultyPair, faulty_pair, keys_to, push_pair};
 use crate::refusal::push_keysyms;
-use crate::sides::{SideTable, push_differences, push_side};
+use crate::sides::{SideTable, push_hinted_differences, push_side};
 use compose_cert::{CertFault, Certificate};
 use compose_migration::{Migration, MigrationFault, MigrationInput};
 use compose_places::{DefinitionPlace, definition_places, last_definitions};
@@ -15,8 +15,9 @@ use compose_walk::{MakeFault, differences};
 use keysym_core::{Keysym, Names};
 use std::alloc::{AllocError, Global};
 
-/// What `-v` tells of an answer, in lines: where the tables differ, the definitions that count in both; of a fresh keysym that is not
-/// allowed, its name. At the cost of reading the tables once more and of `differences`.
+/// What `-v` tells of an answer, in lines: where the tables differ, the definitions that count in both, and a hint where a key begins
+/// a sequence that began none; of a fresh keysym that is not allowed, its name. At the cost of reading the tables once more and of
+/// `differences`.
 pub fn answer_details<T: ComposeTable>(
     alloc: Global,
     given: &Given<'_>,
@@ -108,7 +109,7 @@ fn push_migration<'a, T: ComposeTable>(
     }
 }
 
-/// Adds the lines of the differences: of all, or of the first alone.
+/// Adds the lines of the differences, of all or of the first alone, and a hint where one helps.
 fn push_found<T: ComposeTable>(
     alloc: Global,
     text: &mut String,
@@ -128,7 +129,7 @@ fn push_found<T: ComposeTable>(
     };
     let told = found.as_slice();
     let most = if all { told.len() } else { 1 };
-    push_differences(alloc, text, old, new, &told[..most.min(told.len())])
+    push_hinted_differences(alloc, text, old, new, &told[..most.min(told.len())])
 }
 
 /// Adds the lines of a pair of a certificate: the keys that lead to it, and where the sequences stand that go on with the key.

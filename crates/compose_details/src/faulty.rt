@@ -45,7 +45,8 @@ fn push_others(
     ensures { OnOk result
         (string_bytes text.new
         ≡ string_bytes text.old
-        ++ flat_map (faulty.line_of_fault table.now) (take 19 (faulty.each_once (first ∷ []) others.now))) }
+        ++ flat_map (faulty.line_of_fault table.now)
+        (take 19 (faulty.each_once (first ∷ []) others.now))) }
 {
     let mut told = Told::new();
     told.push(first);
@@ -93,7 +94,8 @@ fn push_fault(
     fault: &ReadFault,
 ) -> Result<(), AllocError>
     ensures { OnOk result
-        (string_bytes text.new ≡ string_bytes text.old ++ faulty.line_of_fault table.now fault.now) }
+        (string_bytes text.new
+        ≡ string_bytes text.old ++ faulty.line_of_fault table.now fault.now) }
 {
     let sources = table.input.sources;
     let message = read_message(sources, fault);

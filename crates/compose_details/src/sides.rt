@@ -4,7 +4,8 @@ ghost use Rattle.compose_details.specs.Sides as words;
 
 use crate::definitions::{PlacedTable, push_definition};
 use crate::lines::push_line;
-use compose_messages::{Message, push_events};
+use crate::refusal::push_hint;
+use compose_messages::{Hint, Message, push_events};
 use compose_read::Definitions;
 use compose_walk::Counterexample;
 use keysym_core::Keysym;
@@ -18,8 +19,65 @@ pub(crate) struct SideTable<'a> {
     pub counting: &'a [Option<u32>],
 }
 
+/// Adds the lines of each difference, and below them a hint where one is a key that began nothing. O(differences × definitions).
+pub(crate) fn push_hinted_differences(
+    alloc: Global,
+    text: &mut String,
+    old: &SideTable<'_>,
+    new: &SideTable<'_>,
+    differences: &[Counterexample],
+) -> Result<(), AllocError>
+    ensures { OnOk result
+        (string_bytes text.new
+        ≡ string_bytes text.old
+        ++ words.hinted_differences old.now new.now differences.now) }
+{
+    push_differences(alloc, text, old, new, differences)?;
+    push_hint(text, differences_hint(old, new, differences))
+}
+
+/// The hint below the differences, where one helps. O(differences × definitions).
+fn differences_hint(
+    old: &SideTable<'_>,
+    new: &SideTable<'_>,
+    differences: &[Counterexample],
+) -> Option<Hint>
+    ensures { result ≡ words.differences_hint old.now new.now differences.now }
+{
+    if any_begins_anew(old, new, differences) {
+        Some(Hint::Fresh)
+    } else {
+        None
+    }
+}
+
+/// Whether one of the differences is a key that began nothing. O(differences × definitions).
+fn any_begins_anew(old: &SideTable<'_>, new: &SideTable<'_>, differences: &[Counterexample]) -> bool
+    ensures { result ≡ words.any_begins_anew old.now new.now differences.now }
+{
+    differences
+        .iter()
+        .any(|difference| begins_anew(old, new, &difference.keys))
+}
+
+/// Whether the keys of a difference are a single one, with which no sequence of the old table begins, and one of the new table does.
+///
+/// The old table rests nowhere else on the way to a difference, so behind other keys no key begins a sequence. O(definitions).
+fn begins_anew(old: &SideTable<'_>, new: &SideTable<'_>, keys: &[Keysym]) -> bool
+    ensures { result ≡ words.begins_anew old.now new.now keys.now }
+{
+    keys.len() == 1 && !is_beginning(old, keys) && is_beginning(new, keys)
+}
+
+/// Whether a sequence of the table begins with the keys. O(definitions).
+fn is_beginning(side: &SideTable<'_>, keys: &[Keysym]) -> bool
+    ensures { result ≡ words.is_beginning side.now keys.now }
+{
+    first_beginning(side.placed.definitions, side.counting, keys).is_some()
+}
+
 /// Adds the lines of each difference: where the definitions stand that count in both tables. O(differences × definitions).
-pub(crate) fn push_differences(
+fn push_differences(
     alloc: Global,
     text: &mut String,
     old: &SideTable<'_>,

@@ -1,4 +1,4 @@
-use Rattle.std.proofs.Common.{◌≡◌, ◌∙◌, ◌++◌, ◌∷◌, [], ◌<◌, ◌≤◌, false, length, take, sym, ap, rules, arith, string_bytes}
+use Rattle.std.proofs.Common.{◌≡◌, ◌∙◌, ◌++◌, ◌∷◌, [], ◌<◌, false, length, take, sym, ap, rules, arith, string_bytes}
 use Rattle.std.specs.Prelude.{flat_map}
 use Rattle.std.proofs.lemmas.List.{length_push}
 use Rattle.compose_details.specs.Faulty.{line_of_fault, is_among, each_once}
@@ -15,7 +15,8 @@ loop-fault-preserved c =
     let longer = length_push told place in
     let is = c.push-in-loop-fault.ensures.items in
     record {
-      lines = told_more (line_of_fault c.args.table.now) told c.push-in-loop-fault.new.self.items c.args.others.now c.loop-fault.fault-index _ place (string_bytes c.loop-fault.text) (string_bytes c.push_fault.new.text)
+      lines = told_more (line_of_fault c.args.table.now) told c.push-in-loop-fault.new.self.items c.args.others.now c.loop-fault.fault-index _ place
+          (string_bytes c.loop-fault.text) (string_bytes c.push_fault.new.text)
           (string_bytes c.args.text.now ++ flat_map (line_of_fault c.args.table.now) (take 19 (each_once (c.args.first ∷ []) c.args.others.now)))
           (omega (arith, c.loop-fault-test.true)) c.place_of-place.ensures fresh few is c.in_ok-push_fault.ensures c.loop-fault.invariant.lines;
       few = let n = ap length is in omega (arith, n, longer, few);

@@ -1,4 +1,4 @@
-use Rattle.std.proofs.Common.{◌≡◌, ◌∙◌, ◌<◌, length, sym, ap, arith, rules}
+use Rattle.std.proofs.Common.{◌∙◌, ◌<◌, length, sym, ap, arith}
 use Rattle.std.specs.Prelude.{Some}
 use Rattle.compose_model.specs.Nodes.{nodes}
 use Rattle.compose_model.proofs.NodeLemmas.{node_zero}
