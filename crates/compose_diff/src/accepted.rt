@@ -83,7 +83,7 @@ impl<'a> Accepted<'a> {
     }
 
     /// The rows that no line accepts, in order; or the first line that tells none of the rows. A line accepts a row whose change, keys
-    /// and texts it tells, with places after them or without; the places may be others. O(bytes) where the lines
+    /// and texts it tells, with places after them or without; the places may be others. O(rows) where there are no lines, O(bytes) where they
     /// are in the order of the rows, else O(bytes of the rows × lines).
     pub fn leave_out<'r>(
         &self,
@@ -92,8 +92,7 @@ impl<'a> Accepted<'a> {
     ) -> Result<Vec<DiffRow<'r>>, AcceptFault>
         ensures { words.Leaves result (left_of self.now rows.now) }
     {
-        let texts = row_texts(alloc, rows)?;
-        if let Some(line) = first_stale(&self.lines, &texts) {
+        if let Some(line) = stale_line(alloc, &self.lines, rows)? {
             return Err(AcceptFault::Stale { line });
         }
         Ok(not_told(alloc, rows, &self.lines)?)
@@ -158,6 +157,20 @@ fn begins_as(text: &[u8], change: Change) -> bool
         Some(rest) => rest.strip_prefix(b": <").is_some(),
         None => false,
     }
+}
+
+/// The number of the first line that tells none of the rows. Where there is no line, the rows are not looked at.
+fn stale_line(alloc: Global, lines: &[Line], rows: &[DiffRow]) -> Result<Option<usize>, AllocError>
+    ensures { IfOk result
+        (λ stale. stale
+        ≡ option_map (λ line. line.number)
+        (find (words.is_stale (map row_text rows.now)) lines.now)) }
+{
+    if lines.is_empty() {
+        return Ok(None);
+    }
+    let texts = row_texts(alloc, rows)?;
+    Ok(first_stale(lines, &texts))
 }
 
 /// The change, keys and texts of each row, as they are printed.

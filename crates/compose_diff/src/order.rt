@@ -23,9 +23,9 @@ pub fn sort_rows(rows: &mut Vec<DiffRow>) -> Result<(), AllocError>
 fn rank(row: &DiffRow) -> (u8, usize, usize)
     ensures { result ≡ words.rank row.now }
 {
-    match row.old.or(row.new) {
-        Some(entry) => (group(row.change), entry.source, entry.line),
-        None => (group(row.change), 0, 0),
+    match (&row.old, &row.new) {
+        (Some(entry), _) | (None, Some(entry)) => (group(row.change), entry.source, entry.line),
+        (None, None) => (group(row.change), 0, 0),
     }
 }
 
