@@ -1,6 +1,6 @@
 -- What a migration that was read says of its tables.
-use Rattle.std.proofs.Common.{◌≡◌, ℕ, List, [], ◌∷◌, length, map, refl, sym, ◌∙◌, ap}
-use Rattle.std.specs.Prelude.{Option, Some, None, option_map, slice_get, Result, Ok, Err}
+use Rattle.std.proofs.Common.{◌≡◌, ℕ, List, [], ◌∷◌, map, refl, sym, ◌∙◌, ap, Bor}
+use Rattle.std.specs.Prelude.{Option, Some, None, option_copied, option_map, slice_get, unwrap_or, Result, Ok, Err}
 use Rattle.std.proofs.lemmas.Option.{same_Some}
 use Rattle.compose_text.specs.Results.{◌>>=◌}
 use Rattle.keysym_core.specs.Names.{KeysymNames}
@@ -8,11 +8,12 @@ use Rattle.compose_model.specs.Table.{Definition}
 use Rattle.compose_model.specs.Nodes.{leaves}
 use Rattle.compose_model.specs.declared.Rule.{Rule}
 use Rattle.compose_read.specs.Lines.{Source}
-use Rattle.compose_tree.specs.TableGives.{NoTable, first_table, table_of}
+use Rattle.compose_tree.specs.TableGives.{NoTable, first_table}
 use Rattle.compose_migration.specs.Migration.{GivenMigration, NamedParts, Parts, NoMigration, no_table, or_because, named, migration_of}
 use Rattle.compose_migration.specs.declared.fault.Side.TheVariants.{Old, New}
-use Rattle.compose_places.specs.Counting.{WrittenLine, counting_line, read_lines, AreLines}
+use Rattle.compose_places.specs.Counting.{counting_line, read_lines, AreLines}
 use Rattle.compose_places.proofs.CountingLaw.{are_lines}
+use Rattle.compose_diff_rows.specs.Answers.{root_of}
 
 -- ---- both tables
 
@@ -36,13 +37,17 @@ module _ (given : GivenMigration) (p q : Parts) (e : p ≡ q) where
         ap (λ m. first_table m given.new.sources given.new.rule) names ∙ g ∙ ap Ok (ap (λ (x : Parts). x.new) is),
       )
 
-  by_old : (n : NamedParts) → (r : Result (List Definition) NoTable) → first_table n.names given.old.sources given.old.rule ≡ r
-      → (or_because (no_table Old) r >>= (λ old. or_because (no_table New) (first_table n.names given.new.sources given.new.rule) >>= (λ new. let x : Result Parts NoMigration = Ok (together n old new) in x))) ≡ Ok p → IsRead
+  abbrev after_old : NamedParts → List Definition → Result Parts NoMigration
+  after_old n old = or_because (no_table New) (first_table n.names given.new.sources given.new.rule) >>= (λ new. Ok (together n old new))
+
+  by_old : (n : NamedParts) → (r : Result (List Definition) NoTable) → first_table n.names given.old.sources given.old.rule ≡ r → (or_because (no_table Old) r >>= after_old n) ≡ Ok p → IsRead
   by_old n (Err why) f h = cc
   by_old n (Ok old) f h = by_new n old f (first_table n.names given.new.sources given.new.rule) refl h
 
-  by_names : (r : Result NamedParts NoMigration)
-      → (r >>= (λ n. or_because (no_table Old) (first_table n.names given.old.sources given.old.rule) >>= (λ old. or_because (no_table New) (first_table n.names given.new.sources given.new.rule) >>= (λ new. let x : Result Parts NoMigration = Ok (together n old new) in x)))) ≡ Ok p → IsRead
+  abbrev after_names : NamedParts → Result Parts NoMigration
+  after_names n = or_because (no_table Old) (first_table n.names given.old.sources given.old.rule) >>= after_old n
+
+  by_names : (r : Result NamedParts NoMigration) → (r >>= after_names) ≡ Ok p → IsRead
   by_names (Err why) h = cc
   by_names (Ok n) h = by_old n (first_table n.names given.old.sources given.old.rule) refl h
 
@@ -52,12 +57,16 @@ module _ (given : GivenMigration) (p q : Parts) (e : p ≡ q) where
 
 -- ---- the lines of a table whose root is the first source
 
-module _ (names : KeysymNames) (rule : Rule) (table : List Definition) where
-  pub first_lines_are : (sources : List Source) (root : List ℕ) → Some root ≡ option_map (λ (s : Source). s.name) (slice_get sources 0) → first_table names sources rule ≡ Ok table
-      → AreLines names table (map (counting_line names (read_lines sources root)) (leaves table))
-  first_lines_are [] root h e = cc
-  first_lines_are (s ∷ sources) root h e = are_lines names (s ∷ sources) root rule table (ap (λ r. table_of names (s ∷ sources) r rule) (same_Some root s.name h) ∙ e)
+-- they are the lines of the table that is read
+pub root_lines_are : (names : KeysymNames) (rule : Rule) (table : List Definition) (sources : List Source) → first_table names sources rule ≡ Ok table
+    → AreLines names table (map (counting_line names (read_lines sources (root_of sources))) (leaves table))
+root_lines_are names rule table [] e = cc
+root_lines_are names rule table (s ∷ sources) e = are_lines names (s ∷ sources) s.name rule table e
 
-  pub no_first : (sources : List Source) → None ≡ option_map (λ (s : Source). s.name) (slice_get sources 0) → first_table names sources rule ≡ Ok table → ⊥
-  no_first [] h e = cc
-  no_first (s ∷ sources) h e = cc
+-- the name of the first source, or an empty one
+pub root_is : (sources : List Source) (name : Option (Bor (List ℕ))) (empty : Bor (List ℕ)) → empty.now ≡ [] → option_copied name ≡ option_map (λ (s : Source). s.name) (slice_get sources 0)
+    → (unwrap_or name empty).now ≡ root_of sources
+root_is [] None empty e h = e
+root_is [] (Some first) empty e h = cc
+root_is (s ∷ sources) None empty e h = cc
+root_is (s ∷ sources) (Some first) empty e h = same_Some first.now s.name h

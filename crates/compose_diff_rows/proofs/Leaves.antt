@@ -2,11 +2,10 @@
 use Rattle.std.proofs.Common.{◌≡◌, ℕ, ◌<◌, List, [], true, length, map, get_or, sym, ◌∙◌, ap, arith}
 use Rattle.std.specs.Prelude.{Option, Some, None}
 use Rattle.std.specs.Option.{option_map_or, option_and_then}
-use Rattle.std.specs.List.{list_any}
 use Rattle.std.proofs.lemmas.Cmp.{nat_list_cmp_total}
 use Rattle.std.proofs.lemmas.List.{length-map, get_or-map}
 use Rattle.keysym_core.specs.Names.{KeysymNames}
-use Rattle.compose_model.specs.Table.{Definition, same, is_sequence}
+use Rattle.compose_model.specs.Table.{Definition, is_sequence}
 use Rattle.compose_model.specs.Nodes.{leaves}
 use Rattle.compose_model.proofs.NodeLemmas.{found_at}
 use Rattle.compose_model.proofs.Sorted.{rising_sorted}

@@ -1,3 +1,4 @@
 pub mod Leaves
 pub mod RowsSoFar
 pub mod FirstRead
+pub mod Joining

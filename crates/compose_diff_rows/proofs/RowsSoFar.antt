@@ -1,12 +1,12 @@
 -- A row of each kind, and the rows so far.
-use Rattle.std.proofs.Common.{◌≡◌, ℕ, ◌+◌, ◌<◌, List, [], ◌∷◌, ◌++◌, Bool, true, false, cond, not, length, map, take, get_or, refl, sym, ◌∙◌, ap, ap₂, append_assoc, arith}
-use Rattle.std.specs.Prelude.{Option, Some, None, unwrap_or, filter}
+use Rattle.std.proofs.Common.{◌≡◌, ℕ, ◌+◌, ◌<◌, List, [], ◌∷◌, ◌++◌, Bool, true, false, cond, length, map, take, get_or, refl, sym, ◌∙◌, ap, ap₂, append_assoc}
+use Rattle.std.specs.Prelude.{Option, Some, None, filter}
 use Rattle.std.specs.Option.{option_map, option_map_or}
 use Rattle.std.proofs.lemmas.List.{take_more, get_or-map, map-append, append-nil}
 use Rattle.std.proofs.lemmas.List.Elements.{filter-append}
 use Rattle.std.proofs.lemmas.Option.{same_Some}
 use Rattle.keysym_core.specs.Names.{KeysymNames}
-use Rattle.compose_model.specs.Table.{Definition, is_sequence, text_at}
+use Rattle.compose_model.specs.Table.{Definition, is_sequence}
 use Rattle.compose_model.specs.Nodes.{leaves}
 use Rattle.compose_tree.specs.Targets.{leaf_number}
 use Rattle.compose_places.specs.Counting.{WrittenLine}
@@ -21,9 +21,11 @@ module _ (w : Written) (i : ℕ) (below : i < length (leaves w.table)) where
   abbrev leaf : List ℕ
   leaf = get_or (leaves w.table) i []
 
+  -- the keys of a leaf's sequence are those of its line
   pub keys_of_leaf : keys_of w leaf ≡ option_map_or (λ line. line.keys) (get_or w.lines i None) []
   keys_of_leaf = ap (λ n. option_map_or (λ line. line.keys) (get_or w.lines n None) []) (number_of_leaf w.table i below)
 
+  -- what the table has for it is at its line
   pub entry_of_leaf : entry_of w leaf ≡ option_map (entry_at w leaf) (get_or w.lines i None)
   entry_of_leaf =
       ap (λ b. cond b (option_map (entry_at w leaf) (line_of w leaf)) None) (leaf_there w.table i below)
@@ -35,18 +37,23 @@ no_entry w s h = sym (ap (λ b. cond b (option_map (entry_at w s) (line_of w s))
 
 -- ---- a row of each kind
 
-module _ (names : KeysymNames) (fresh : List ℕ) (old new : Written) (s : List ℕ) (told : ToldRow) (what : told.change ≡ change names fresh old.table new.table s) (second : told.new ≡ entry_of new s) where
-  pub old_row_is : is_sequence old.table s ≡ true → told.keys ≡ keys_of old s → told.old ≡ entry_of old s → told ≡ row_of names fresh old new s
-  old_row_is h keys first = λ i. record { change = what i; keys = (keys ∙ ap (λ b. keys_of (cond b old new) s) (sym h)) i; old = first i; new = second i }
+module _ (names : KeysymNames) (fresh : List ℕ) (old new : Written) (s : List ℕ) where
+  module _ (told : ToldRow) (what : told.change ≡ change names fresh old.table new.table s) (second : told.new ≡ entry_of new s) where
+    -- the row of a sequence of the old table
+    pub old_row_is : is_sequence old.table s ≡ true → told.keys ≡ keys_of old s → told.old ≡ entry_of old s → told ≡ row_of names fresh old new s
+    old_row_is h keys first = λ i. record { change = what i; keys = (keys ∙ ap (λ b. keys_of (cond b old new) s) (sym h)) i; old = first i; new = second i }
 
-  pub new_row_is : is_sequence old.table s ≡ false → told.keys ≡ keys_of new s → told.old ≡ None → told ≡ row_of names fresh old new s
-  new_row_is h keys first = λ i. record { change = what i; keys = (keys ∙ ap (λ b. keys_of (cond b old new) s) (sym h)) i; old = (first ∙ no_entry old s h) i; new = second i }
+    -- the row of a sequence that the new table alone has
+    pub new_row_is : is_sequence old.table s ≡ false → told.keys ≡ keys_of new s → told.old ≡ None → told ≡ row_of names fresh old new s
+    new_row_is h keys first = λ i. record { change = what i; keys = (keys ∙ ap (λ b. keys_of (cond b old new) s) (sym h)) i; old = (first ∙ no_entry old s h) i; new = second i }
 
 -- what a table has for a leaf without a line, and with one
 module _ (w : Written) (i : ℕ) (below : i < length (leaves w.table)) where
+  -- nothing without a line
   pub entry_without : None ≡ get_or w.lines i None → None ≡ entry_of w (get_or (leaves w.table) i [])
   entry_without h = ap (option_map (entry_at w (get_or (leaves w.table) i []))) h ∙ sym (entry_of_leaf w i below)
 
+  -- with one, what stands there
   pub entry_with : (line : WrittenLine) (told : ToldEntry) → Some line ≡ get_or w.lines i None → told ≡ entry_at w (get_or (leaves w.table) i []) line
       → Some told ≡ entry_of w (get_or (leaves w.table) i [])
   entry_with line told h e = ap Some e ∙ ap (option_map (entry_at w (get_or (leaves w.table) i []))) h ∙ sym (entry_of_leaf w i below)
@@ -89,25 +96,29 @@ module _ (test : List ℕ → Bool) (row_for : List ℕ → ToldRow) (xs : List 
         ∙ ap (λ ys. before ++ map row_for ys) (sym with_next)
 
 -- what happens to a leaf of the new table, by the list of what happens to all
-module _ (names : KeysymNames) (fresh : List ℕ) (old new : List Definition) (changes : List (Option Change)) (all : changes ≡ new_changes names fresh old new) (i : ℕ) (h : i < length (leaves new)) (d : Option Change) where
-  slot_is : get_or changes i d ≡ cond (is_sequence old (get_or (leaves new) i [])) None (Some (change names fresh old new (get_or (leaves new) i [])))
-  slot_is = ap (λ cs. get_or cs i d) all ∙ get_or-map (λ s. cond (is_sequence old s) None (Some (change names fresh old new s))) (leaves new) i [] d h
+module _ (names : KeysymNames) (fresh : List ℕ) (old new : List Definition) (changes : List (Option Change)) (all : changes ≡ new_changes names fresh old new) where
+  module _ (i : ℕ) (h : i < length (leaves new)) (d : Option Change) where
+    slot_is : get_or changes i d ≡ cond (is_sequence old (get_or (leaves new) i [])) None (Some (change names fresh old new (get_or (leaves new) i [])))
+    slot_is = ap (λ cs. get_or cs i d) all ∙ get_or-map (λ s. cond (is_sequence old s) None (Some (change names fresh old new s))) (leaves new) i [] d h
 
-  pub told_change : (c : Change) → get_or changes i d ≡ Some c → (is_sequence old (get_or (leaves new) i []) ≡ false) × (c ≡ change names fresh old new (get_or (leaves new) i []))
-  told_change c e = go (is_sequence old (get_or (leaves new) i [])) (sym e ∙ slot_is)
-    where
-      go : (b : Bool) → Some c ≡ cond b None (Some (change names fresh old new (get_or (leaves new) i []))) → (b ≡ false) × (c ≡ change names fresh old new (get_or (leaves new) i []))
-      go true f = cc
-      go false f = (refl, same_Some c (change names fresh old new (get_or (leaves new) i [])) f)
+    -- where something is told of it, only the new table has it
+    pub told_change : (c : Change) → get_or changes i d ≡ Some c → (is_sequence old (get_or (leaves new) i []) ≡ false) × (c ≡ change names fresh old new (get_or (leaves new) i []))
+    told_change c e = go (is_sequence old (get_or (leaves new) i [])) (sym e ∙ slot_is)
+      where
+        go : (b : Bool) → Some c ≡ cond b None (Some (change names fresh old new (get_or (leaves new) i []))) → (b ≡ false) × (c ≡ change names fresh old new (get_or (leaves new) i []))
+        go true f = cc
+        go false f = (refl, same_Some c (change names fresh old new (get_or (leaves new) i [])) f)
 
-  pub no_change : get_or changes i d ≡ None → is_sequence old (get_or (leaves new) i []) ≡ true
-  no_change e = go (is_sequence old (get_or (leaves new) i [])) (sym e ∙ slot_is)
-    where
-      go : (b : Bool) → None ≡ cond b None (Some (change names fresh old new (get_or (leaves new) i []))) → b ≡ true
-      go true f = refl
-      go false f = cc
+    -- where nothing is, the old table has it too
+    pub no_change : get_or changes i d ≡ None → is_sequence old (get_or (leaves new) i []) ≡ true
+    no_change e = go (is_sequence old (get_or (leaves new) i [])) (sym e ∙ slot_is)
+      where
+        go : (b : Bool) → None ≡ cond b None (Some (change names fresh old new (get_or (leaves new) i []))) → b ≡ true
+        go true f = refl
+        go false f = cc
 
 -- and to one of the old table
-pub old_change_at : (names : KeysymNames) (fresh : List ℕ) (old new : List Definition) (changes : List Change) → changes ≡ old_changes names fresh old new → (i : ℕ) (d : Change) → i < length (leaves old)
+pub old_change_at : (names : KeysymNames) (fresh : List ℕ) (old new : List Definition) (changes : List Change)
+    → changes ≡ old_changes names fresh old new → (i : ℕ) (d : Change) → i < length (leaves old)
     → get_or changes i d ≡ change names fresh old new (get_or (leaves old) i [])
 old_change_at names fresh old new changes all i d h = ap (λ cs. get_or cs i d) all ∙ get_or-map (λ s. change names fresh old new s) (leaves old) i [] d h

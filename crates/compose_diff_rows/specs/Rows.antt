@@ -1,5 +1,5 @@
 -- What is told of two tables: a row for each sequence of either.
-use Rattle.std.specs.Prelude.{ℕ, Bool, not, ◌&&◌, if◌then◌else◌, List, [], ◌++◌, map, filter, get_or, Option, Some, None, unwrap_or}
+use Rattle.std.specs.Prelude.{ℕ, not, if◌then◌else◌, List, [], ◌++◌, map, filter, get_or, Option, None, unwrap_or}
 use Rattle.std.specs.Option.{option_map, option_map_or}
 use Rattle.keysym_core.specs.Names.{KeysymNames}
 use Rattle.compose_model.specs.Table.{Definition, is_sequence, text_at}

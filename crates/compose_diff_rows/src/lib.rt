@@ -8,10 +8,12 @@
 //! ```
 #![tactic(auto)]
 
+mod asking;
 mod rows;
 mod telling;
 mod written;
 
+pub use asking::{DiffFault, DiffInput, Form};
 pub use rows::diff_rows;
-pub use telling::{DiffFault, DiffInput, Form, diff_migration};
+pub use telling::diff_migration;
 pub use written::WrittenTable;

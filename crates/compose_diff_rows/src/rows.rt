@@ -61,7 +61,8 @@ fn old_rows<'a, T: ComposeTable, U: ComposeTable>(
         → IfOk result
         (λ rows. map told_row rows.items
         ≡ map
-        (row_of names.now fresh (words.written T.definitions old.now) (words.written U.definitions new.now))
+        (row_of names.now fresh (words.written T.definitions old.now)
+        (words.written U.definitions new.now))
         (leaves (T.definitions old.now.table.now))) }
 {
     let mut rows = Vec::with_capacity(alloc, changes.len())?;
@@ -88,7 +89,8 @@ fn old_row<'a, T: ComposeTable, U: ComposeTable>(
         (U.definitions new.now.table.now)
         (get_or (leaves (T.definitions old.now.table.now)) leaf.0 [])
         → told_row result
-        ≡ row_of names.now fresh (words.written T.definitions old.now) (words.written U.definitions new.now)
+        ≡ row_of names.now fresh (words.written T.definitions old.now)
+        (words.written U.definitions new.now)
         (get_or (leaves (T.definitions old.now.table.now)) leaf.0 []) }
 {
     let keys = keys_at(old, leaf);
@@ -159,7 +161,8 @@ fn entry_named<'a, T: ComposeTable>(
     requires few { length keys.now ≤ 32 }
     ensures { (s : List ℕ)
         → sequence_named names.now (map (λ key. key.now) keys.now) ≡ Some s
-        → option_map told_entry result ≡ words.entry_of (words.written T.definitions written.now) s }
+        → option_map told_entry result
+        ≡ words.entry_of (words.written T.definitions written.now) s }
 {
     let leaf = leaf_named(names, written.table, keys)?;
     entry_at(written, leaf)

@@ -1,90 +1,30 @@
 //! The answer of `diff`: both tables are read, and what happens to their sequences is told.
-ghost use Rattle.std.specs.Prelude.{◌≡◌, Ok, IfOk, IsTrue};
+ghost use Rattle.std.specs.Prelude.{◌≡◌, List, map, Ok, IfOk, IsTrue, string_bytes};
 ghost use Rattle.compose_model.specs.Certificate.{keys_rise};
+ghost use Rattle.compose_model.specs.Nodes.{leaves};
+ghost use Rattle.compose_migration.specs.MigrationGives.{parts};
+ghost use Rattle.compose_places.specs.Counting.{AreLines, counting_line, read_lines};
 ghost use Rattle.compose_tree.specs.TableGives.{first_table};
-ghost use Rattle.compose_model.specs.declared.Rule.{Rule};
-ghost use Rattle.compose_places.specs.Counting.{AreLines};
+ghost use Rattle.compose_diff_rows.specs.Answers.{AnswersDiff, AreSorted, IsTold, asked, form_text, root_of};
+ghost use Rattle.compose_diff_rows.specs.Rows as words;
+ghost use Rattle.compose_diff_rows.specs.Steps.{GivesFresh, TellsDiff, TellsRows};
+ghost use Rattle.compose_diff_rows.specs.declared.asking.Form.{Form};
+ghost use Rattle.compose_diff.specs.declared.row.DiffRow.{DiffRow};
 
+use crate::asking::{DiffFault, DiffInput, Form};
 use crate::rows::diff_rows;
 use crate::written::WrittenTable;
 use compose_diff::{
-    AcceptFault, Accepted, DiffRow, accept_text, answer_diff, json_text, loses_nothing, sort_rows,
+    Accepted, DiffRow, accept_text, answer_diff, json_text, loses_nothing, sort_rows,
 };
 use compose_fresh::check_fresh;
-use compose_migration::{Migration, MigrationInput};
+use compose_migration::Migration;
 use compose_places::{CountingLine, counting_lines};
 use compose_read::Sources;
 use compose_tool::{Answer, Refusal};
 use compose_tree::ComposeTable;
 use keysym_core::{Keysym, Names};
-use std::alloc::{AllocError, AllocFailed, Global};
-use thiserror::Error;
-
-/// How the rows are told that are not accepted.
-#[derive(Clone, Copy, Debug, PartialEq, Eq)]
-pub enum Form {
-    /// As lines, of which those that belong together are one, and a line of counts.
-    Folded,
-    /// As a line for each, and a line of counts.
-    Lines,
-    /// As a JSON object for each, the kept ones too.
-    Json,
-    /// As the list that accepts them.
-    AcceptList,
-}
-
-/// What `diff` is asked.
-#[derive(Clone, Copy)]
-pub struct DiffInput<'a, 'w> {
-    /// The names, the key names of the fresh keysyms, and the sources of both tables.
-    pub tables: MigrationInput<'a, 'w>,
-    /// The path of each source of the old table.
-    pub old_paths: &'a [&'a str],
-    /// The path of each source of the new table.
-    pub new_paths: &'a [&'a str],
-    /// The list of the changes that are meant.
-    pub accepted: &'a [u8],
-    /// How the others are told.
-    pub form: Form,
-}
-
-/// Why `diff` has no answer.
-#[derive(Debug, PartialEq, Eq, Drop, Error)]
-pub enum DiffFault {
-    /// A part that it is given is refused, or memory was refused.
-    #[error("{0}")]
-    Input(Refusal),
-    /// The list of the changes that are meant is refused.
-    #[error("refused: accept: {0}")]
-    Accept(AcceptFault),
-}
-
-impl From<Refusal> for DiffFault {
-    fn from(refusal: Refusal) -> DiffFault {
-        DiffFault::Input(refusal)
-    }
-}
-
-impl From<AcceptFault> for DiffFault {
-    fn from(fault: AcceptFault) -> DiffFault {
-        match fault {
-            AcceptFault::NoMemory => DiffFault::Input(Refusal::NoMemory),
-            fault => DiffFault::Accept(fault),
-        }
-    }
-}
-
-impl From<AllocError> for DiffFault {
-    fn from(_error: AllocError) -> DiffFault {
-        DiffFault::Input(Refusal::NoMemory)
-    }
-}
-
-impl<T: Drop> From<AllocFailed<T>> for DiffFault {
-    fn from(_error: AllocFailed<T>) -> DiffFault {
-        DiffFault::Input(Refusal::NoMemory)
-    }
-}
+use std::alloc::{AllocError, Global};
 
 /// Tells what the new table does to each sequence of the old one, and what it adds; yes where nobody who types with the old table meets
 /// a change that is not accepted. The parts are read in the order names, key names, old table, new table, fresh keysyms, accepted
@@ -92,7 +32,9 @@ impl<T: Drop> From<AllocFailed<T>> for DiffFault {
 pub fn diff_migration<T: ComposeTable>(
     alloc: Global,
     input: &DiffInput<'_, '_>,
-) -> Result<Answer, DiffFault> {
+) -> Result<Answer, DiffFault>
+    ensures { AnswersDiff (asked input.now) result }
+{
     let migration: Migration<T> = match Migration::read(alloc, &input.tables) {
         Ok(migration) => migration,
         Err(fault) => return Err(DiffFault::Input(Refusal::from(fault))),
@@ -107,7 +49,7 @@ fn fresh_keysyms<T: ComposeTable>(
     alloc: Global,
     migration: &Migration<T>,
 ) -> Result<Vec<Keysym>, DiffFault>
-    ensures { IfOk result (λ fresh. IsTrue (keys_rise fresh.items)) }
+    ensures { GivesFresh (parts T.definitions migration.now) result }
 {
     let mut fresh = Vec::from_slice(alloc, &migration.keys)?;
     fresh.sort()?;
@@ -129,8 +71,9 @@ fn answer_tables<T: ComposeTable>(
     requires rise { IsTrue (keys_rise fresh.now) }
     requires old_read { first_table migration.now.names input.now.tables.old.sources.now
         input.now.tables.old.rule ≡ Ok (T.definitions migration.now.old) }
-    requires new_read { first_table migration.now.names input.now.tables.new.sources.now
-        input.now.tables.new.rule ≡ Ok (T.definitions migration.now.new) }
+    ensures { TellsDiff (asked input.now)
+        (record { move = parts T.definitions migration.now; fresh = fresh.now })
+        accepted.now result }
 {
     let (names, tables) = (&migration.names, &input.tables);
     let old_lines = first_lines(alloc, names, tables.old.sources, &migration.old)?;
@@ -145,8 +88,7 @@ fn answer_tables<T: ComposeTable>(
         lines: &new_lines,
         paths: input.new_paths,
     };
-    let mut rows = diff_rows(alloc, names, fresh, &old, &new)?;
-    sort_rows(&mut rows)?;
+    let rows = sorted_rows(alloc, names, fresh, &old, &new)?;
     answer_rows(alloc, &rows, accepted, input.form)
 }
 
@@ -157,15 +99,32 @@ fn first_lines<'a, T: ComposeTable>(
     sources: &'a Sources,
     table: &T,
 ) -> Result<Vec<Option<CountingLine<'a>>>, AllocError>
-    ensures { (rule : Rule)
-        → first_table names.now sources.now rule ≡ Ok (T.definitions table.now)
-        → IfOk result (λ lines. AreLines names.now (T.definitions table.now) lines.items) }
+    ensures { IfOk result
+        (λ lines. lines.items
+        ≡ map (counting_line names.now (read_lines sources.now (root_of sources.now)))
+        (leaves (T.definitions table.now))) }
 {
-    let Some(root) = sources.name(0) else {
-        return Ok(Vec::new(alloc));
-    };
-    let lines = counting_lines(alloc, names, sources, root, table)?;
-    Ok(lines)
+    let root = sources.name(0).unwrap_or("");
+    counting_lines(alloc, names, sources, root, table)
+}
+
+/// The rows of both tables, in the order in which they are told.
+fn sorted_rows<'a, T: ComposeTable>(
+    alloc: Global,
+    names: &Names,
+    fresh: &[Keysym],
+    old: &WrittenTable<'a, T>,
+    new: &WrittenTable<'a, T>,
+) -> Result<Vec<DiffRow<'a>>, AllocError>
+    requires rise { IsTrue (keys_rise fresh.now) }
+    requires old_lines { AreLines names.now (T.definitions old.now.table.now) old.now.lines.now }
+    ensures { IfOk result
+        (λ rows. AreSorted names.now fresh.now (words.written T.definitions old.now)
+        (words.written T.definitions new.now) rows.items) }
+{
+    let mut rows = diff_rows(alloc, names, fresh, old, new)?;
+    sort_rows(&mut rows)?;
+    Ok(rows)
 }
 
 /// Tells the rows that are not accepted, in this form.
@@ -174,7 +133,9 @@ fn answer_rows(
     rows: &[DiffRow<'_>],
     accepted: &Accepted<'_>,
     form: Form,
-) -> Result<Answer, DiffFault> {
+) -> Result<Answer, DiffFault>
+    ensures { TellsRows form accepted.now rows.now result }
+{
     match form {
         Form::Folded => Ok(answer_diff(alloc, rows, accepted, true)?),
         Form::Lines => Ok(answer_diff(alloc, rows, accepted, false)?),
@@ -190,7 +151,10 @@ fn answer_rows(
 }
 
 /// The answer on rows that are told so: yes where nobody meets any of them.
-fn answer_on(rows: &[DiffRow<'_>], text: String) -> Answer {
+fn answer_on(rows: &[DiffRow<'_>], text: String) -> Answer
+    ensures { (form : Form) (all : List DiffRow) → string_bytes text ≡ form_text form all rows.now
+        → IsTold form all rows.now result }
+{
     if loses_nothing(rows) {
         return Answer::Yes(text);
     }

@@ -1,4 +1,4 @@
-use Rattle.std.proofs.Common.{◌≡◌, ◌∙◌, ◌<◌, length, map, not, ap, arith}
+use Rattle.std.proofs.Common.{◌∙◌, ◌<◌, length, map, not, ap, arith}
 use Rattle.compose_model.specs.Table.{is_sequence}
 use Rattle.compose_model.specs.Nodes.{leaves}
 use Rattle.compose_diff_rows.specs.Rows.{written, told_row, row_of}

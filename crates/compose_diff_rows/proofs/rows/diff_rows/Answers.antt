@@ -1,4 +1,4 @@
-use Rattle.std.proofs.Common.{◌≡◌, ◌∙◌, ◌++◌, not, map, sym, ap}
+use Rattle.std.proofs.Common.{◌∙◌, ◌++◌, not, map, sym, ap}
 use Rattle.std.specs.Prelude.{filter}
 use Rattle.std.proofs.lemmas.List.{map-append}
 use Rattle.compose_model.specs.Table.{is_sequence}

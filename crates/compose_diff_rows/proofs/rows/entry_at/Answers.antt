@@ -1,7 +1,7 @@
-use Rattle.std.proofs.Common.{◌≡◌, ◌∙◌, [], map, get_or, sym, ap, rules}
+use Rattle.std.proofs.Common.{◌≡◌, ◌∙◌, [], get_or, sym, ap, rules}
 use Rattle.std.specs.Prelude.{None, unwrap_or}
 use Rattle.std.specs.Option.{option_map}
-use Rattle.compose_diff_rows.specs.Rows.{ToldEntry, written, told_entry}
+use Rattle.compose_diff_rows.specs.Rows.{written, told_entry}
 use Rattle.compose_diff_rows.proofs.RowsSoFar.{entry_without, entry_with}
 use Rattle.compose_diff_rows.proofs.rows.entry_at.Goals as goal
 

@@ -1,7 +1,6 @@
-use Rattle.std.proofs.Common.{◌≡◌, ◌∙◌, ◌<◌, length, sym, ap, arith}
+use Rattle.std.proofs.Common.{◌∙◌, sym, ap, arith}
 use Rattle.std.proofs.lemmas.Option.{same_Some}
 use Rattle.compose_model.specs.Table.{is_sequence}
-use Rattle.compose_model.specs.Nodes.{leaves}
 use Rattle.compose_tree.specs.Targets.{leaf_number}
 use Rattle.compose_tree.proofs.Steps.{leaf_below}
 use Rattle.compose_diff_rows.specs.Rows.{written}

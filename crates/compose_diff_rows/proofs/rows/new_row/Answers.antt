@@ -1,4 +1,4 @@
-use Rattle.std.proofs.Common.{◌≡◌, ◌∙◌, [], map, get_or, sym, refl}
+use Rattle.std.proofs.Common.{◌∙◌, [], map, get_or, sym, refl}
 use Rattle.std.specs.Prelude.{None}
 use Rattle.std.specs.Option.{option_map}
 use Rattle.compose_model.specs.Nodes.{leaves}

@@ -1,4 +1,4 @@
-use Rattle.std.proofs.Common.{◌≡◌, ◌∙◌, ◌<◌, length, map, ap, arith}
+use Rattle.std.proofs.Common.{◌∙◌, ◌<◌, length, map, ap, arith}
 use Rattle.compose_model.specs.Nodes.{leaves}
 use Rattle.compose_diff_rows.specs.Rows.{written, told_row, row_of}
 use Rattle.compose_diff_rows.proofs.RowsSoFar.{row_added, old_change_at}

@@ -1,0 +1,136 @@
+-- What `diff` answers on two tables in their sources and on the changes that are meant (this project's profile).
+use Rattle.std.specs.Prelude.{◌≡◌, ℕ, true, false, not, List, [], ◌∷◌, map, Result, Ok, Err, string_bytes, IsTrue}
+use Rattle.std.specs.Option.{option_map_or}
+use Rattle.std.specs.Ordering.{nat_cmp}
+use Rattle.std.specs.List.Sorted.{IsPermutation}
+use Rattle.compose_text.specs.Results.{◌>>=◌}
+use Rattle.keysym_core.specs.Names.{KeysymNames}
+use Rattle.compose_model.specs.Table.{Definition}
+use Rattle.compose_model.specs.Nodes.{leaves, rising}
+use Rattle.compose_read.specs.Lines.{Source}
+use Rattle.compose_migration.specs.Migration.{GivenMigration, Parts}
+use Rattle.compose_migration.specs.MigrationGives.{given_of}
+use Rattle.compose_fresh.specs.Fresh.{fresh_conditions}
+use Rattle.compose_fresh.specs.Conditions.{first_unmet}
+use Rattle.compose_walk.specs.declared.fault.MakeFault.TheVariants.{BadFresh}
+use Rattle.compose_places.specs.Counting.{counting_line, read_lines}
+use Rattle.compose_tool.specs.Parts.{Explainable, NoAnswer, no_fresh, migration_parts}
+use Rattle.compose_tool.specs.Refused.{IsRefused}
+use Rattle.compose_tool.specs.declared.answer.Answer.{Answer}
+use Rattle.compose_tool.specs.declared.answer.Answer.TheVariants.{Yes, No, Invalid, FreshNotAllowed}
+use Rattle.compose_diff.specs.Accepted.{Line, accepted_of, left_of, accept_lines}
+use Rattle.compose_diff.specs.Counts.{loses_nothing}
+use Rattle.compose_diff.specs.Json.{json_rows}
+use Rattle.compose_diff.specs.Order.{AreInOrder}
+use Rattle.compose_diff.specs.Told.{answer_text}
+use Rattle.compose_diff.specs.declared.accepted.AcceptFault.TheVariants.{Stale, BadLine, NoMemory}
+use Rattle.compose_diff.specs.declared.row.DiffRow.{DiffRow}
+use Rattle.compose_diff_rows.specs.Rows.{Written, told_row, rows_of}
+use Rattle.compose_diff_rows.specs.declared.asking.Form.{Form}
+use Rattle.compose_diff_rows.specs.declared.asking.Form.TheVariants.{Folded, Lines, Json, AcceptList}
+use Rattle.compose_diff_rows.specs.declared.asking.DiffInput.{DiffInput}
+use Rattle.compose_diff_rows.specs.declared.asking.DiffFault.{DiffFault}
+use Rattle.compose_diff_rows.specs.declared.asking.DiffFault.TheVariants.{Input, Accept}
+
+-- ---- what is compared
+
+-- what `diff` is asked: a migration, the paths of the sources of both tables, the list of the changes that are meant, and how the others are told
+pub record Asked : Type 0 where
+  pub migration : GivenMigration
+  pub old_paths : List (List ℕ)
+  pub new_paths : List (List ℕ)
+  pub accepted : List ℕ
+  pub form : Form
+
+abbrev pub asked : DiffInput → Asked
+asked input = record {
+  migration = given_of input.tables;
+  old_paths = map (λ path. path.now) input.old_paths.now;
+  new_paths = map (λ path. path.now) input.new_paths.now;
+  accepted = input.accepted.now;
+  form = input.form;
+}
+
+-- the tables, and the fresh keysyms in rising order, each once; or the first condition that these do not meet for the old table
+abbrev pub compared : Parts → Result Explainable NoAnswer
+compared move =
+    let fresh = rising nat_cmp move.keys in
+    option_map_or (λ fault. Err (no_fresh (BadFresh fault))) (first_unmet (fresh_conditions move.old fresh)) (Ok (record { move = move; fresh = fresh }))
+
+abbrev pub compared_parts : GivenMigration → Result Explainable NoAnswer
+compared_parts given = do
+  move ← migration_parts given
+  compared move
+
+-- ---- the rows
+
+-- the name of the first source, which is the root; without sources an empty one
+abbrev pub root_of : List Source → List ℕ
+root_of [] = []
+root_of (s ∷ sources) = s.name
+
+-- a table as its sources write it, of which the first is its root
+abbrev pub written_in : KeysymNames → List Source → List (List ℕ) → List Definition → Written
+written_in names sources paths table = record {
+  table = table;
+  lines = map (counting_line names (read_lines sources (root_of sources))) (leaves table);
+  paths = paths;
+}
+
+-- both tables as they are written
+abbrev pub old_written : Asked → Explainable → Written
+old_written asked e = written_in e.move.names asked.migration.old.sources asked.old_paths e.move.old
+
+abbrev pub new_written : Asked → Explainable → Written
+new_written asked e = written_in e.move.names asked.migration.new.sources asked.new_paths e.move.new
+
+-- rows, each once, in the order in which they are told
+pub record AreSorted (names : KeysymNames) (fresh : List ℕ) (old new : Written) (rows : List DiffRow) : Type 0 where
+  pub each : IsPermutation (rows_of names fresh old new) (map told_row rows)
+  pub sorted : AreInOrder rows
+
+-- the rows of both tables
+abbrev pub AreRows : Asked → Explainable → List DiffRow → Type 0
+AreRows asked e rows = AreSorted e.move.names e.fresh (old_written asked e) (new_written asked e) rows
+
+-- ---- the answer
+
+-- what is told of all rows, some of which are left
+abbrev pub form_text : Form → List DiffRow → List DiffRow → List ℕ
+form_text Folded rows left = answer_text true rows left
+form_text Lines rows left = answer_text false rows left
+form_text Json rows left = json_rows left
+form_text AcceptList rows left = accept_lines left
+
+-- yes where nobody meets any of the rows that are left
+abbrev pub IsTold : Form → List DiffRow → List DiffRow → Answer → Type 0
+IsTold form rows left (Yes text) = IsTrue (loses_nothing left) × (string_bytes text ≡ form_text form rows left)
+IsTold form rows left (No text) = IsTrue (not (loses_nothing left)) × (string_bytes text ≡ form_text form rows left)
+IsTold form rows left (Invalid fault) = ⊥
+IsTold form rows left (FreshNotAllowed keysym) = ⊥
+
+-- the answer on what is compared: of its rows those are left that no line accepts
+pub record IsDiff (asked : Asked) (e : Explainable) (answer : Answer) : Type 0 where
+  pub lines : List Line
+  pub rows : List DiffRow
+  pub left : List DiffRow
+  pub read : accepted_of asked.accepted ≡ Ok lines
+  pub are : AreRows asked e rows
+  pub leaves : left_of lines rows ≡ Ok left
+  pub told : IsTold asked.form rows left answer
+
+-- a line of the list of meant changes tells none of the rows
+pub record IsStale (asked : Asked) (e : Explainable) (line : ℕ) : Type 0 where
+  pub lines : List Line
+  pub rows : List DiffRow
+  pub read : accepted_of asked.accepted ≡ Ok lines
+  pub are : AreRows asked e rows
+  pub stale : left_of lines rows ≡ Err (Stale line)
+
+-- the answer, or what is refused first: the migration, its fresh keysyms, a line of the list, a line that tells no row
+abbrev pub AnswersDiff : Asked → Result Answer DiffFault → Type 0
+AnswersDiff asked (Ok answer) = (e : Explainable) × (compared_parts asked.migration ≡ Ok e) × IsDiff asked e answer
+AnswersDiff asked (Err (Input refusal)) = IsRefused refusal (compared_parts asked.migration)
+AnswersDiff asked (Err (Accept (BadLine n))) = (e : Explainable) × (compared_parts asked.migration ≡ Ok e) × (accepted_of asked.accepted ≡ Err (BadLine n))
+AnswersDiff asked (Err (Accept (Stale n))) = (e : Explainable) × (compared_parts asked.migration ≡ Ok e) × IsStale asked e n
+AnswersDiff asked (Err (Accept NoMemory)) = ⊥

@@ -1,0 +1,44 @@
+-- What the steps of `diff` give, beside memory that is refused.
+use Rattle.std.specs.Prelude.{◌≡◌, ℕ, List, Result, Ok, Err, IsTrue}
+use Rattle.std.specs.declared.vec.Vec.{Vec}
+use Rattle.std.specs.declared.alloc.Global.{Global}
+use Rattle.compose_model.specs.Certificate.{keys_rise}
+use Rattle.compose_migration.specs.Migration.{Parts}
+use Rattle.compose_tool.specs.Parts.{Explainable}
+use Rattle.compose_tool.specs.Refused.{IsRefused}
+use Rattle.compose_tool.specs.declared.answer.Answer.{Answer}
+use Rattle.compose_tool.specs.declared.refusal.Refusal.TheVariants as refusals
+use Rattle.compose_diff.specs.Accepted.{Line, left_of}
+use Rattle.compose_diff.specs.declared.accepted.AcceptFault.{AcceptFault}
+use Rattle.compose_diff.specs.declared.accepted.AcceptFault.TheVariants.{Stale, BadLine, NoMemory}
+use Rattle.compose_diff.specs.declared.row.DiffRow.{DiffRow}
+use Rattle.compose_diff_rows.specs.Answers.{Asked, compared, AreRows, IsTold}
+use Rattle.compose_diff_rows.specs.declared.asking.Form.{Form}
+use Rattle.compose_diff_rows.specs.declared.asking.DiffFault.{DiffFault}
+use Rattle.compose_diff_rows.specs.declared.asking.DiffFault.TheVariants.{Input, Accept}
+
+-- a fault of the list of meant changes as one of `diff`; out of memory is the whole's own
+abbrev pub accept_raised : AcceptFault → DiffFault
+accept_raised (Stale n) = Accept (Stale n)
+accept_raised (BadLine n) = Accept (BadLine n)
+accept_raised NoMemory = Input refusals.NoMemory
+
+-- the fresh keysyms of what is compared, which rise; or the condition that they do not meet
+abbrev pub GivesFresh : Parts → Result (Vec ℕ Global) DiffFault → Type 0
+GivesFresh move (Ok fresh) = (compared move ≡ Ok (record { move = move; fresh = fresh.items })) × IsTrue (keys_rise fresh.items)
+GivesFresh move (Err (Input refusal)) = IsRefused refusal (compared move)
+GivesFresh move (Err (Accept fault)) = ⊥
+
+-- what is told of the rows that no line accepts, or the first line that tells none of the rows
+abbrev pub TellsRows : Form → List Line → List DiffRow → Result Answer DiffFault → Type 0
+TellsRows form lines rows (Ok answer) = (left : List DiffRow) × (left_of lines rows ≡ Ok left) × IsTold form rows left answer
+TellsRows form lines rows (Err (Input refusal)) = refusal ≡ refusals.NoMemory
+TellsRows form lines rows (Err (Accept (Stale n))) = left_of lines rows ≡ Err (Stale n)
+TellsRows form lines rows (Err (Accept (BadLine n))) = ⊥
+TellsRows form lines rows (Err (Accept NoMemory)) = ⊥
+
+-- the same of the rows of what is compared
+abbrev pub TellsDiff : Asked → Explainable → List Line → Result Answer DiffFault → Type 0
+TellsDiff asked e lines (Ok answer) = (rows : List DiffRow) × AreRows asked e rows × TellsRows asked.form lines rows (Ok answer)
+TellsDiff asked e lines (Err (Input refusal)) = refusal ≡ refusals.NoMemory
+TellsDiff asked e lines (Err (Accept fault)) = (rows : List DiffRow) × AreRows asked e rows × TellsRows asked.form lines rows (Err (Accept fault))
