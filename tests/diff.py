@@ -193,7 +193,9 @@ class Trial:
             with open(os.path.join(folder, "accepted"), "a", encoding="utf-8") as file:
                 file.write('removed: <a> <a> <a> <a> "x"\n')
             ran = self.run(folder, "--accept", "accepted", *options)
-            self.expect(f"{number}: a stale one", (f"refused: accept: 1 Stale line={len(losses) + 2}\n", 2), (ran.stderr, ran.returncode))
+            stale = len(losses) + 2
+            message = f"refused: accept: 1 Stale line={stale}\ncomposecheck: accepted:{stale}:1: no change of these tables is told by the line\n"
+            self.expect(f"{number}: a stale one", (message, 2), (ran.stderr, ran.returncode))
 
 
 def main():

@@ -30,6 +30,12 @@ NAMES = [
     "overlap-longest-of-three",
     "overlap-refused",
     "repertoire-keys-after-characters",
+    "verbose-explain-all",
+    "verbose-faulty-lines",
+    "verbose-manifest-without-tab",
+    "verbose-no-text-differs",
+    "verbose-overlap",
+    "verbose-yes-with-fresh-keysyms",
     "words-help-for-type",
     "words-missing-files",
 ]

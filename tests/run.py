@@ -6,6 +6,7 @@ import concurrent.futures
 import os
 import re
 import shlex
+import shutil
 import subprocess
 import sys
 import tempfile
@@ -13,6 +14,7 @@ import tempfile
 CASES = os.path.join(os.path.dirname(os.path.abspath(__file__)), "cases")
 SECTION = re.compile(rb"^-- (.+?)( without a last newline)? --\n", re.MULTILINE)
 EXPECTED = ["stdout", "stderr", "status"]
+NOBODY = 65534
 
 
 class Case:
@@ -35,6 +37,7 @@ class Case:
         }
         lines = os.fsdecode(sections.pop("env", b"")).splitlines()
         self.environment = dict(line.split("=", 1) for line in lines)
+        self.is_unprivileged = sections.pop("unprivileged", None) is not None
         self.files = sections
 
     def prepare(self, folder):
@@ -45,6 +48,14 @@ class Case:
                 file.write(text)
         if "files.py" in self.files:
             subprocess.run([sys.executable, "files.py"], cwd=folder, check=True)
+
+
+    def user(self, program, folder):
+        """The program's path, and the user that runs it: for an unprivileged case not root, for whom each file is open."""
+        if not self.is_unprivileged or os.geteuid():
+            return program, {}
+        os.chmod(folder, 0o755)
+        return shutil.copy(program, os.path.join(folder, "composecheck")), {"user": NOBODY, "group": NOBODY, "extra_groups": []}
 
 
 def case_names(word=""):
@@ -58,14 +69,16 @@ def run(program, name):
     case = Case(name)
     with tempfile.TemporaryDirectory() as folder:
         case.prepare(folder)
+        executable, user = case.user(program, folder)
         ran = subprocess.run(
             [b"composecheck"] + case.args,
-            executable=program,
+            executable=executable,
             cwd=folder,
             env=os.environ | case.environment,
             stdin=subprocess.DEVNULL,
             capture_output=True,
             timeout=300,
+            **user,
         )
     got = {"stdout": ran.stdout, "stderr": ran.stderr, "status": ran.returncode}
     wanted = case.expected

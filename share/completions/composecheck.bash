@@ -17,15 +17,15 @@ _composecheck() {
         --mode) COMPREPLY=($(compgen -W "600 660 666" -- "$word")); return ;;
     esac
     case ${COMP_WORDS[1]} in
-        type) options="--names --help" ;;
-        check) options="--names --fresh --help" ;;
-        explain) options="--names --fresh --all --help" ;;
-        make) options="--names --fresh --all --output --help" ;;
+        type) options="--names --verbose --help" ;;
+        check) options="--names --fresh --verbose --help" ;;
+        explain) options="--names --fresh --all --verbose --help" ;;
+        make) options="--names --fresh --all --output --verbose --help" ;;
         diff) options="--names --fresh --overlap --accept --write-accept --no-fold --format --color --system --locale --help" ;;
-        manifest) options="--system --locale --help" ;;
-        serve) options="--names --at-once --unsent --mode --replace --unlink --help" ;;
-        load) options="--help" ;;
-        session) options="--names --open --reset --ask --close --help" ;;
+        manifest) options="--system --locale --verbose --help" ;;
+        serve) options="--names --at-once --unsent --mode --replace --unlink --verbose --help" ;;
+        load) options="--verbose --help" ;;
+        session) options="--names --open --reset --ask --close --verbose --help" ;;
     esac
     case $word in
         -*) COMPREPLY=($(compgen -W "$options" -- "$word")) ;;

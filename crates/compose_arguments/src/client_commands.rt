@@ -1,5 +1,5 @@
 //! The commands `load` and `session` as clap reads them.
-use crate::commands::{file, names_option};
+use crate::commands::{file, names_option, verbose_option};
 use crate::serve_command::flag;
 use clap::{Arg, Command, value_parser};
 use std::alloc::{AllocError, Global};
@@ -18,6 +18,7 @@ fn load_command<'a>(alloc: Global) -> Result<Command<'a>, AllocError> {
         .after_help(
             "Exit status: 0 loaded, 1 refused by the service, 2 input refused, 3 out of memory\nExample: composecheck load compose.socket new.manifest certificate",
         )
+        .arg(verbose_option(alloc))?
         .arg(socket(alloc))?
         .arg(file(alloc, "NEW", "The manifest of the new table"))?
         .arg(file(alloc, "CERTIFICATE", "The certificate"))
@@ -30,6 +31,7 @@ fn session_command<'a>(alloc: Global) -> Result<Command<'a>, AllocError> {
         .after_help(
             "Exit status: 0 answered, 1 refused by the service, 2 input refused, 3 out of memory\nExample: composecheck session --open compose.socket 7 Multi_key apostrophe",
         )
+        .arg(verbose_option(alloc))?
         .arg(names_option(alloc))?
         .arg(flag(alloc, "open", "Open the session first"))?
         .arg(flag(alloc, "reset", "Put the session to rest before the keys"))?

@@ -17,6 +17,15 @@ pub fn names_option<'a>(alloc: Global) -> Arg<'a> {
         .action(ArgAction::Append)
 }
 
+/// The option for more of a refusal, which each command has.
+pub fn verbose_option<'a>(alloc: Global) -> Arg<'a> {
+    Arg::new(alloc, "verbose")
+        .short('v')
+        .long("verbose")
+        .help("Say more of a refusal: file, line and column, and hints")
+        .action(ArgAction::SetTrue)
+}
+
 /// The option for fresh keysyms.
 pub fn fresh_option<'a>(alloc: Global) -> Arg<'a> {
     Arg::new(alloc, "fresh")
@@ -38,6 +47,7 @@ fn type_command<'a>(alloc: Global) -> Result<Command<'a>, AllocError> {
         .after_help(
             "Exit status: 0 typed, 2 input refused, 3 out of memory\nExample: composecheck type table.manifest Multi_key apostrophe e",
         )
+        .arg(verbose_option(alloc))?
         .arg(names_option(alloc))?
         .arg(file(alloc, "TABLE", "The manifest of the table"))?
         .arg(
@@ -68,6 +78,7 @@ fn repertoire_file<'a>(alloc: Global) -> Arg<'a> {
 /// Adds the names, the old table and the new one to a command.
 fn add_tables<'a>(alloc: Global, command: Command<'a>) -> Result<Command<'a>, AllocError> {
     command
+        .arg(verbose_option(alloc))?
         .arg(names_option(alloc))?
         .arg(fresh_option(alloc))?
         .arg(file(alloc, "OLD", "The manifest of the old table"))?

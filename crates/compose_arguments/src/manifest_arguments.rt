@@ -1,5 +1,5 @@
 //! The command `manifest` as clap reads it, and what it asks for.
-use crate::commands::file;
+use crate::commands::{file, verbose_option};
 use clap::{Arg, ArgAction, ArgMatches, Command};
 use std::alloc::{AllocError, Global};
 
@@ -39,6 +39,7 @@ pub fn manifest_command<'a>(alloc: Global) -> Result<Command<'a>, AllocError> {
         .after_help(
             "Exit status: 0 printed, 2 input refused, 3 out of memory\nExample: composecheck manifest --locale en_US.UTF-8 ~/.XCompose > table.manifest",
         )
+        .arg(verbose_option(alloc))?
         .arg(system_option(alloc))?
         .arg(locale_option(alloc))?
         .arg(file(alloc, "FILE", "The Compose file"))

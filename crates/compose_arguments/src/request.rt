@@ -79,6 +79,8 @@ pub struct TablePaths<'a> {
 pub struct CommandLine<'a> {
     /// The arguments of each `--names`: the path of a header of names, or `builtin`.
     pub names: Vec<&'a str>,
+    /// Whether more is to be said of a refusal.
+    pub verbose: bool,
     /// What is asked for.
     pub request: Request<'a>,
 }
@@ -91,8 +93,13 @@ pub fn read_command_line<'a>(
 ) -> Result<CommandLine<'a>, Error> {
     let matches = command_line(alloc)?.try_get_matches_from(arguments)?;
     let names = names_of(alloc, &matches)?;
+    let verbose = is_verbose(&matches);
     match request_of(alloc, &matches)? {
-        Some(request) => Ok(CommandLine { names, request }),
+        Some(request) => Ok(CommandLine {
+            names,
+            verbose,
+            request,
+        }),
         None => Err(no_request(alloc)?),
     }
 }
@@ -105,6 +112,14 @@ fn names_of<'a>(alloc: Global, matches: &ArgMatches<'a>) -> Result<Vec<&'a str>,
     match given.get_strs("names") {
         Some(names) => Ok(Vec::from_slice(alloc, names)?),
         None => Ok(Vec::new(alloc)),
+    }
+}
+
+/// Whether the command that was found is to say more of a refusal.
+fn is_verbose(matches: &ArgMatches<'_>) -> bool {
+    match matches.subcommand() {
+        Some((_, given)) => given.get_flag("verbose"),
+        None => false,
     }
 }
 

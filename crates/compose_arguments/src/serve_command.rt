@@ -1,5 +1,5 @@
 //! The command `serve` as clap reads it.
-use crate::commands::{file, names_option};
+use crate::commands::{file, names_option, verbose_option};
 use clap::{Arg, ArgAction, Command, value_parser};
 use std::alloc::{AllocError, Global};
 
@@ -59,6 +59,7 @@ pub fn serve_command<'a>(alloc: Global) -> Result<Command<'a>, AllocError> {
         .after_help(
             "Exit status: 0 served, 1 the certificate is not valid, 2 input refused, 3 out of memory\nExample: composecheck serve table.manifest repertoire certificate compose.socket 100",
         )
+        .arg(verbose_option(alloc))?
         .arg(names_option(alloc))?
         .arg(at_once_option(alloc))?
         .arg(unsent_option(alloc))?

@@ -2,14 +2,16 @@
 ghost use Rattle.std.specs.Prelude.{◌≡◌};
 ghost use Rattle.compose_commands.specs.Ends.{exchange_end};
 
-use crate::files::{TableFiles, read_file, read_header};
-use crate::report::{no_memory, refused, report, written};
+use crate::files::{NameFiles, TableFiles, read_file};
+use crate::report::{no_memory, refused, report_given, written};
 use compose_arguments::{LoadArguments, SessionArguments};
 use compose_bundle::BundleFault;
 use compose_client::{ReplyFeeder, RequestFault, put_request};
+use compose_details::Given;
 use compose_migration::Named;
 use compose_session::{Asked, End, Report, load_request, report_replies, session_requests};
 use compose_tool::{Ended, Refusal, Shown};
+use compose_tree::ComposeTable;
 use compose_wire::{Answer, Reply, Request};
 use keysym_core::Names;
 use std::io::{Read, Write};
@@ -23,11 +25,14 @@ const PIECE: usize = 4096;
 /// Loads a new table into a running service.
 pub fn load_files(
     rt: &(impl Files + Net + Print + Eprint + AllocGlobal),
+    verbose: bool,
     arguments: &LoadArguments<'_>,
 ) -> Result<Ended, Ended> {
-    let (sources, rule) = TableFiles::read(rt, "new", arguments.new)?.into_parts();
-    let certificate = read_file(rt, arguments.certificate)?;
-    let names = read_names(rt, &[], &[])?.names;
+    let (sources, rule) = TableFiles::read(rt, verbose, "new", arguments.new)?.into_parts();
+    let certificate = read_file(rt, verbose, arguments.certificate)?;
+    let Ok(names) = Names::core(rt.alloc()) else {
+        return Err(no_memory(rt));
+    };
     match load_request(rt.alloc(), &sources, rule, &certificate) {
         Ok(request) => exchange(rt, arguments.socket, &names, &[request]),
         Err(BundleFault::NoMemory) => Err(no_memory(rt)),
@@ -36,13 +41,14 @@ pub fn load_files(
 }
 
 /// Types in a session of a running service.
-pub fn session_files(
+pub fn session_files<T: ComposeTable>(
     rt: &(impl Files + Net + Print + Eprint + AllocGlobal),
+    verbose: bool,
     names: &[&str],
     arguments: &SessionArguments<'_>,
 ) -> Result<Ended, Ended> {
-    let header = read_header(rt, names)?;
-    let named = read_names(rt, &header, &arguments.keys)?;
+    let files = NameFiles::read(rt, verbose, names)?;
+    let named = read_names::<T>(rt, verbose, &files, &arguments.keys)?;
     let asked = Asked {
         session: arguments.session,
         open: arguments.open,
@@ -58,14 +64,28 @@ pub fn session_files(
 }
 
 /// The names of a header, and the keysyms of the arguments.
-fn read_names(
+fn read_names<T: ComposeTable>(
     rt: &(impl Print + Eprint + AllocGlobal),
-    header: &[u8],
+    verbose: bool,
+    files: &NameFiles<'_>,
     arguments: &[&str],
 ) -> Result<Named, Ended> {
-    match Named::read(rt.alloc(), header, arguments) {
+    match Named::read(rt.alloc(), &files.lines, arguments) {
         Ok(named) => Ok(named),
-        Err(fault) => Err(report(rt, &Err(Refusal::from(fault)), arguments)),
+        Err(fault) => {
+            let given = Given {
+                headers: &files.files,
+                header: &files.lines,
+                arguments,
+                tables: &[],
+                repertoire: "",
+                certificate: "",
+                certificate_text: &[],
+                all: false,
+            };
+            let answered = Err(Refusal::from(fault));
+            Err(report_given::<T>(rt, verbose, &given, &answered))
+        }
     }
 }
 

@@ -2,17 +2,19 @@
 //! refusal was told.
 use crate::client::{load_files, session_files};
 use crate::differing::diff_files;
-use crate::files::{MoveFiles, TableFiles, read_file, read_header};
+use crate::files::{MoveFiles, NameFiles, TableFiles, read_file};
 use crate::manifest::manifest_files;
-use crate::report::{report, report_into};
+use crate::report::{report_given, report_into};
 use crate::serving::serve_files;
 use compose_arguments::{CommandLine, Request, TablePaths};
 use compose_check::CheckInput;
+use compose_details::{Given, GivenTable};
 use compose_tool::{
-    Ended, check_allowed, check_migration, explain_all_migration, explain_migration,
-    make_all_migration, make_migration, type_keys,
+    Answer, Ended, Refusal, check_allowed, check_migration, explain_all_migration,
+    explain_migration, make_all_migration, make_migration, type_keys,
 };
 use compose_tree::ComposeTable;
+use std::alloc::Global;
 use std::net::Net;
 use std::rt::{Env, Files};
 
@@ -24,22 +26,24 @@ pub fn answer<T: ComposeTable>(
     arguments: &CommandLine<'_>,
 ) -> Result<Ended, Ended> {
     let names = arguments.names.as_slice();
+    let verbose = arguments.verbose;
     match &arguments.request {
-        Request::Type { table, keys } => type_files::<T>(rt, names, *table, keys),
+        Request::Type { table, keys } => type_files::<T>(rt, verbose, names, *table, keys),
         Request::Check {
             tables,
             fresh,
             repertoire,
             certificate,
         } => {
-            let files = CheckFiles::read(rt, names, tables, *repertoire, *certificate)?;
-            match fresh {
-                Some(allowed) => Ok(report_allowed::<T>(rt, &files, allowed)),
-                None => Ok(report_check::<T>(rt, &files)),
-            }
+            let paths = CheckPaths {
+                tables: *tables,
+                repertoire: *repertoire,
+                certificate: *certificate,
+            };
+            check_files::<T>(rt, verbose, names, &paths, fresh.as_deref())
         }
         Request::Explain { tables, fresh, all } => {
-            explain_files::<T>(rt, names, tables, fresh, *all)
+            explain_files::<T>(rt, verbose, names, tables, fresh, *all)
         }
         Request::Diff { arguments, fresh } => {
             diff_files::<T>(rt, names, arguments, fresh, is_terminal)
@@ -51,50 +55,60 @@ pub fn answer<T: ComposeTable>(
             repertoire,
             output,
         } => {
-            let files = MoveFiles::read(rt, names, tables, fresh)?;
-            make_files::<T>(rt, &files, *all, *repertoire, *output)
+            let files = MoveFiles::read(rt, verbose, names, tables, fresh)?;
+            make_files::<T>(rt, verbose, tables, &files, *all, *repertoire, *output)
         }
-        Request::Manifest(arguments) => manifest_files(rt, arguments),
-        Request::Serve(arguments) => serve_files::<T>(rt, process_id, names, arguments),
-        Request::Load(arguments) => load_files(rt, arguments),
-        Request::Session(arguments) => session_files(rt, names, arguments),
+        Request::Manifest(arguments) => manifest_files(rt, verbose, arguments),
+        Request::Serve(arguments) => serve_files::<T>(rt, verbose, process_id, names, arguments),
+        Request::Load(arguments) => load_files(rt, verbose, arguments),
+        Request::Session(arguments) => session_files::<T>(rt, verbose, names, arguments),
     }
 }
 
 /// Types keys with a table.
 fn type_files<T: ComposeTable>(
     rt: &(impl Files + Print + Eprint + AllocGlobal),
+    verbose: bool,
     names: &[&str],
     table: &str,
     keys: &[&str],
 ) -> Result<Ended, Ended> {
-    let header = read_header(rt, names)?;
-    let files = TableFiles::read(rt, "table", table)?;
-    let answered = type_keys::<T>(rt.alloc(), &header, keys, &files.input());
-    Ok(report(rt, &answered, keys))
+    let header = NameFiles::read(rt, verbose, names)?;
+    let files = TableFiles::read(rt, verbose, "table", table)?;
+    let answered = type_keys::<T>(rt.alloc(), &header.lines, keys, &files.input());
+    let tables = [files.given(table)];
+    let given = header.given(keys, &tables);
+    Ok(report_given::<T>(rt, verbose, &given, &answered))
+}
+
+/// The paths of the files of a check.
+#[derive(Clone, Copy)]
+struct CheckPaths<'a> {
+    tables: TablePaths<'a>,
+    repertoire: &'a str,
+    certificate: &'a str,
 }
 
 /// The files of a check.
 #[derive(Drop)]
-struct CheckFiles {
-    tables: MoveFiles<'static>,
+struct CheckFiles<'w> {
+    tables: MoveFiles<'w>,
     repertoire: Vec<u8>,
     certificate: Vec<u8>,
 }
 
-impl CheckFiles {
+impl<'w> CheckFiles<'w> {
     /// Reads the names, both tables, the repertoire and the certificate.
     fn read(
         rt: &(impl Files + Eprint + AllocGlobal),
-        names: &[&str],
-        tables: &TablePaths<'_>,
-        repertoire: &str,
-        certificate: &str,
-    ) -> Result<CheckFiles, Ended> {
+        verbose: bool,
+        names: &[&'w str],
+        paths: &CheckPaths<'_>,
+    ) -> Result<CheckFiles<'w>, Ended> {
         Ok(CheckFiles {
-            tables: MoveFiles::read(rt, names, tables, &[])?,
-            repertoire: read_file(rt, repertoire)?,
-            certificate: read_file(rt, certificate)?,
+            tables: MoveFiles::read(rt, verbose, names, &paths.tables, &[])?,
+            repertoire: read_file(rt, verbose, paths.repertoire)?,
+            certificate: read_file(rt, verbose, paths.certificate)?,
         })
     }
 
@@ -102,7 +116,7 @@ impl CheckFiles {
     fn input(&self) -> CheckInput<'_> {
         let (old, new) = (self.tables.old.input(), self.tables.new.input());
         CheckInput {
-            header: &self.tables.header,
+            header: &self.tables.names.lines,
             old: old.sources,
             new: new.sources,
             old_rule: old.rule,
@@ -114,57 +128,103 @@ impl CheckFiles {
 }
 
 /// Checks a certificate.
-fn report_check<T: ComposeTable>(
-    rt: &(impl Print + Eprint + AllocGlobal),
-    files: &CheckFiles,
-) -> Ended {
-    report(rt, &check_migration::<T>(rt.alloc(), &files.input()), &[])
+fn check_files<T: ComposeTable>(
+    rt: &(impl Files + Print + Eprint + AllocGlobal),
+    verbose: bool,
+    names: &[&str],
+    paths: &CheckPaths<'_>,
+    allowed: Option<&[&str]>,
+) -> Result<Ended, Ended> {
+    let files = CheckFiles::read(rt, verbose, names, paths)?;
+    let answered = check_answer::<T>(rt.alloc(), &files, allowed);
+    let tables = &files.tables;
+    let given = Given {
+        headers: &tables.names.files,
+        header: &tables.names.lines,
+        arguments: allowed.unwrap_or(&[]),
+        tables: &[
+            tables.old.given(paths.tables.old),
+            tables.new.given(paths.tables.new),
+        ],
+        repertoire: paths.repertoire,
+        certificate: paths.certificate,
+        certificate_text: &files.certificate,
+        all: false,
+    };
+    Ok(report_given::<T>(rt, verbose, &given, &answered))
 }
 
-/// Checks a certificate whose fresh keysyms have to be among the allowed ones.
-fn report_allowed<T: ComposeTable>(
-    rt: &(impl Print + Eprint + AllocGlobal),
-    files: &CheckFiles,
-    allowed: &[&str],
-) -> Ended {
-    let answered = check_allowed::<T>(rt.alloc(), &files.input(), allowed);
-    report(rt, &answered, allowed)
+/// What is answered to a certificate, whose fresh keysyms have to be among the allowed ones where these are given.
+fn check_answer<T: ComposeTable>(
+    alloc: Global,
+    files: &CheckFiles<'_>,
+    allowed: Option<&[&str]>,
+) -> Result<Answer, Refusal> {
+    match allowed {
+        Some(allowed) => check_allowed::<T>(alloc, &files.input(), allowed),
+        None => check_migration::<T>(alloc, &files.input()),
+    }
+}
+
+/// What a command on two tables was given.
+fn given_move<'a>(
+    files: &'a MoveFiles<'_>,
+    tables: &'a [GivenTable<'a>],
+    repertoire: &'a str,
+    all: bool,
+) -> Given<'a> {
+    Given {
+        headers: &files.names.files,
+        header: &files.names.lines,
+        arguments: &files.arguments,
+        tables,
+        repertoire,
+        certificate: "",
+        certificate_text: &[],
+        all,
+    }
 }
 
 /// Explains how two tables differ.
 fn explain_files<T: ComposeTable>(
     rt: &(impl Files + Print + Eprint + AllocGlobal),
+    verbose: bool,
     names: &[&str],
-    tables: &TablePaths<'_>,
+    paths: &TablePaths<'_>,
     fresh: &[&str],
     all: bool,
 ) -> Result<Ended, Ended> {
-    let files = MoveFiles::read(rt, names, tables, fresh)?;
-    let input = files.input();
+    let files = MoveFiles::read(rt, verbose, names, paths, fresh)?;
     let answered = if all {
-        explain_all_migration::<T>(rt.alloc(), &input)
+        explain_all_migration::<T>(rt.alloc(), &files.input())
     } else {
-        explain_migration::<T>(rt.alloc(), &input)
+        explain_migration::<T>(rt.alloc(), &files.input())
     };
-    Ok(report(rt, &answered, fresh))
+    let tables = [files.old.given(paths.old), files.new.given(paths.new)];
+    let given = given_move(&files, &tables, "", all);
+    Ok(report_given::<T>(rt, verbose, &given, &answered))
 }
 
 /// Makes a certificate, and prints it or writes it to a file.
 fn make_files<T: ComposeTable>(
     rt: &(impl Files + Print + Eprint + AllocGlobal),
+    verbose: bool,
+    paths: &TablePaths<'_>,
     files: &MoveFiles<'_>,
     all: bool,
     repertoire: &str,
     output: Option<&str>,
 ) -> Result<Ended, Ended> {
-    let repertoire = read_file(rt, repertoire)?;
+    let characters = read_file(rt, verbose, repertoire)?;
     let answered = if all {
-        make_all_migration::<T>(rt.alloc(), &files.input(), &repertoire)
+        make_all_migration::<T>(rt.alloc(), &files.input(), &characters)
     } else {
-        make_migration::<T>(rt.alloc(), &files.input(), &repertoire)
+        make_migration::<T>(rt.alloc(), &files.input(), &characters)
     };
+    let tables = [files.old.given(paths.old), files.new.given(paths.new)];
+    let given = given_move(files, &tables, repertoire, false);
     match output {
-        Some(path) => Ok(report_into(rt, path, &answered, &files.arguments)),
-        None => Ok(report(rt, &answered, &files.arguments)),
+        Some(path) => Ok(report_into::<T>(rt, verbose, path, &given, &answered)),
+        None => Ok(report_given::<T>(rt, verbose, &given, &answered)),
     }
 }

@@ -1,16 +1,17 @@
 //! `diff`: what a new Compose file changes for those who type with the old one. An error is the end of a run whose refusal was told.
-use crate::files::{read_file, read_header};
-use crate::manifest::{found_files, variable};
-use crate::report::{no_memory, refused, report};
+use crate::files::{NameFiles, read_file};
+use crate::found::FoundTable;
+use crate::manifest::variable;
+use crate::report::{no_memory, refused, report, report_given};
 use compose_arguments::{DiffArguments, DiffColor, DiffForm};
-use compose_diff::colored_text;
+use compose_diff::{AcceptFault, colored_text};
 use compose_diff_rows::{DiffFault, DiffInput, Form, diff_migration};
-use compose_find::FoundSource;
-use compose_migration::{MigrationInput, TableInput};
+use compose_messages::{FileMessage, Message, Position};
+use compose_migration::MigrationInput;
 use compose_model::Rule;
-use compose_read::{SourceFault, Sources};
-use compose_tool::{Answer, Ended};
+use compose_tool::{Answer, Ended, Refusal};
 use compose_tree::ComposeTable;
+use std::alloc::Global;
 use std::rt::{Env, Files};
 
 /// Tells what the new Compose file does to the sequences of the old one, and what it adds. `is_terminal` says whether standard output is
@@ -23,33 +24,88 @@ pub fn diff_files<T: ComposeTable>(
     is_terminal: bool,
 ) -> Result<Ended, Ended> {
     let colored = is_colored(rt, arguments, is_terminal)?;
-    let header = read_names(rt, names)?;
-    let old = FoundTable::read(rt, "old", arguments, arguments.old)?;
-    let new = FoundTable::read(rt, "new", arguments, arguments.new)?;
-    let accepted = read_accepted(rt, arguments.accept)?;
-    let (old_paths, new_paths) = (old.paths(rt)?, new.paths(rt)?);
-    let rule = rule_of(arguments.longest);
-    let input = DiffInput {
-        tables: MigrationInput {
-            header: &header,
-            key_names: fresh,
-            old: old.input(rule),
-            new: new.input(rule),
-        },
-        old_paths: &old_paths,
-        new_paths: &new_paths,
-        accepted: &accepted,
-        form: form_of(arguments.form),
-    };
-    report_diff(rt, diff_migration::<T>(rt.alloc(), &input), fresh, colored)
+    let files = DiffFiles::read(rt, names, arguments, fresh)?;
+    match diff_answer::<T>(rt.alloc(), arguments, &files) {
+        Ok(answer) => report_answer(rt, answer, fresh, colored),
+        Err(DiffFault::Input(refusal)) => {
+            Ok(report_refusal::<T>(rt, arguments, &files, refusal))
+        }
+        Err(DiffFault::Accept(fault)) => Ok(tell_accept_fault(rt, arguments.accept, &fault)),
+    }
 }
 
-/// The lines of the files of names, or else the names that are built in.
-fn read_names(rt: &(impl Files + Eprint + AllocGlobal), names: &[&str]) -> Result<Vec<u8>, Ended> {
-    if names.is_empty() {
-        return read_header(rt, &["builtin"]);
+/// What a comparison of two tables is read from.
+#[derive(Drop)]
+struct DiffFiles<'w> {
+    names: NameFiles<'w>,
+    old: FoundTable,
+    new: FoundTable,
+    accepted: Vec<u8>,
+    fresh: Vec<&'w str>,
+}
+
+impl<'w> DiffFiles<'w> {
+    /// Reads the files of names, both tables as they lie on the system, and the list of the changes that are meant.
+    fn read(
+        rt: &(impl Env + Files + Eprint + AllocGlobal),
+        names: &[&'w str],
+        arguments: &DiffArguments<'_>,
+        fresh: &[&'w str],
+    ) -> Result<DiffFiles<'w>, Ended> {
+        let names = read_names(rt, names)?;
+        let old = FoundTable::read(rt, "old", arguments, arguments.old)?;
+        let new = FoundTable::read(rt, "new", arguments, arguments.new)?;
+        let accepted = read_accepted(rt, arguments.accept)?;
+        let Ok(fresh) = Vec::from_slice(rt.alloc(), fresh) else {
+            return Err(no_memory(rt));
+        };
+        Ok(DiffFiles {
+            names,
+            old,
+            new,
+            accepted,
+            fresh,
+        })
     }
-    read_header(rt, names)
+
+    /// The migration that they are to give.
+    fn input(&self, rule: Rule) -> MigrationInput<'_, 'w> {
+        MigrationInput {
+            header: &self.names.lines,
+            key_names: &self.fresh,
+            old: self.old.input(rule),
+            new: self.new.input(rule),
+        }
+    }
+}
+
+/// What is answered on these files.
+fn diff_answer<T: ComposeTable>(
+    alloc: Global,
+    arguments: &DiffArguments<'_>,
+    files: &DiffFiles<'_>,
+) -> Result<Answer, DiffFault> {
+    let (old_paths, new_paths) = (files.old.paths(alloc)?, files.new.paths(alloc)?);
+    let input = DiffInput {
+        tables: files.input(rule_of(arguments.longest)),
+        old_paths: &old_paths,
+        new_paths: &new_paths,
+        accepted: &files.accepted,
+        form: form_of(arguments.form),
+    };
+    diff_migration::<T>(alloc, &input)
+}
+
+/// The files of names, or else the names that are built in.
+fn read_names<'n>(
+    rt: &(impl Files + Eprint + AllocGlobal),
+    names: &[&'n str],
+) -> Result<NameFiles<'n>, Ended> {
+    if names.is_empty() {
+        let builtin: &'n str = "builtin";
+        return NameFiles::read(rt, true, &[builtin]);
+    }
+    NameFiles::read(rt, true, names)
 }
 
 /// The list of the changes that are meant; an empty one where no path is given.
@@ -58,7 +114,7 @@ fn read_accepted(
     path: Option<&str>,
 ) -> Result<Vec<u8>, Ended> {
     match path {
-        Some(path) => read_file(rt, path),
+        Some(path) => read_file(rt, true, path),
         None => Ok(Vec::new(rt.alloc())),
     }
 }
@@ -94,77 +150,55 @@ fn is_colored(
     }
 }
 
-/// A Compose file as it lies on the system: where its sources lie, and what they hold.
-#[derive(Drop)]
-struct FoundTable {
-    found: Vec<FoundSource>,
-    sources: Sources,
-}
-
-impl FoundTable {
-    /// Looks for the sources of a Compose file, and reads them. A refusal of the sources is told of this part.
-    fn read(
-        rt: &(impl Env + Files + Eprint + AllocGlobal),
-        part: &str,
-        arguments: &DiffArguments<'_>,
-        file: &str,
-    ) -> Result<FoundTable, Ended> {
-        let found = found_files(rt, arguments.system, arguments.locale, file)?;
-        let sources = read_found(rt, part, &found)?;
-        Ok(FoundTable { found, sources })
-    }
-
-    /// The path of each source.
-    fn paths(&self, rt: &(impl Eprint + AllocGlobal)) -> Result<Vec<&str>, Ended> {
-        let mut paths = Vec::new(rt.alloc());
-        for source in &self.found {
-            if paths.push(source.path.as_str()).is_err() {
-                return Err(no_memory(rt));
-            }
-        }
-        Ok(paths)
-    }
-
-    /// The table that the sources are to give.
-    fn input(&self, rule: Rule) -> TableInput<'_> {
-        TableInput {
-            sources: &self.sources,
-            rule,
-        }
-    }
-}
-
-/// Reads the files of sources that were found.
-fn read_found(
-    rt: &(impl Files + Eprint + AllocGlobal),
-    part: &str,
-    found: &[FoundSource],
-) -> Result<Sources, Ended> {
-    let mut sources = Sources::new(rt.alloc());
-    for source in found {
-        let bytes = read_file(rt, &source.path)?;
-        match sources.add(&source.name, bytes) {
-            Ok(()) => {}
-            Err(SourceFault::NoMemory) => return Err(no_memory(rt)),
-            Err(fault) => return Err(refused(eprintln!(rt; "refused: {part}: {fault}"))),
-        }
-    }
-    Ok(sources)
-}
-
-/// Prints the answer, or why there is none.
-fn report_diff(
+/// Prints the answer.
+fn report_answer(
     rt: &(impl Print + Eprint + AllocGlobal),
-    answered: Result<Answer, DiffFault>,
+    answer: Answer,
     fresh: &[&str],
     colored: bool,
 ) -> Result<Ended, Ended> {
-    match answered {
-        Ok(answer) if colored => Ok(report(rt, &Ok(in_colors(rt, answer)?), fresh)),
-        Ok(answer) => Ok(report(rt, &Ok(answer), fresh)),
-        Err(DiffFault::Input(refusal)) => Ok(report(rt, &Err(refusal), fresh)),
-        Err(DiffFault::Accept(fault)) => { Err(refused(eprintln!(rt; "refused: accept: {fault}"))) }
+    if colored {
+        return Ok(report(rt, &Ok(in_colors(rt, answer)?), fresh));
     }
+    Ok(report(rt, &Ok(answer), fresh))
+}
+
+/// Prints why there is no answer, and each faulty line of what was given.
+fn report_refusal<T: ComposeTable>(
+    rt: &(impl Print + Eprint + AllocGlobal),
+    arguments: &DiffArguments<'_>,
+    files: &DiffFiles<'_>,
+    refusal: Refusal,
+) -> Ended {
+    let rule = rule_of(arguments.longest);
+    let tables = [
+        files.old.given(arguments.old, rule),
+        files.new.given(arguments.new, rule),
+    ];
+    let given = files.names.given(&files.fresh, &tables);
+    report_given::<T>(rt, true, &given, &Err(refusal))
+}
+
+/// Tells why the list of the changes that are meant is refused.
+fn tell_accept_fault(rt: &impl Eprint, path: Option<&str>, fault: &AcceptFault) -> Ended {
+    let ended = refused(eprintln!(rt; "refused: accept: {fault}"));
+    let (line, words) = match fault {
+        AcceptFault::Stale { line } => (*line, "no change of these tables is told by the line"),
+        AcceptFault::BadLine { line } => {
+            (
+                *line,
+                "expected \"changed: \", \"waiting: \", \"removed: \" or \"new start: \" and keys",
+            )
+        }
+        AcceptFault::NoMemory => return ended,
+    };
+    let message = FileMessage {
+        path: path.unwrap_or(""),
+        position: Some(Position { line, column: 1 }),
+        message: Message::Plain(words),
+    };
+    let _ = eprintln!(rt; "{message}");
+    ended
 }
 
 /// The answer with its lines in colours.

@@ -2,51 +2,101 @@
 ghost use Rattle.std.specs.Prelude.{◌≡◌, ◌++◌, OnOk};
 ghost use Rattle.compose_commands.specs.Headers.{ended};
 
-use crate::report::{no_memory, refused};
+use crate::report::{no_memory, refused, tell_about};
 use builtin_names::builtin_names;
 use compose_arguments::TablePaths;
+use compose_details::{Given, GivenTable, Header, line_count, manifest_details};
 use compose_manifest::file_path;
+use compose_messages::{open_words, source_words};
 use compose_migration::{MigrationInput, TableInput};
 use compose_model::Rule;
 use compose_read::{SourceFault, Sources};
-use compose_tool::{Ended, Entry, Manifest, ManifestFault, Shown, read_manifest};
+use compose_tool::{Ended, Manifest, ManifestFault, Shown, read_manifest};
 use std::alloc::AllocError;
 use std::rt::Files;
 use std::{fs, io};
 
 /// The bytes of a file.
-pub fn read_file(rt: &(impl Files + Eprint + AllocGlobal), path: &str) -> Result<Vec<u8>, Ended> {
+pub fn read_file(
+    rt: &(impl Files + Eprint + AllocGlobal),
+    verbose: bool,
+    path: &str,
+) -> Result<Vec<u8>, Ended> {
     match fs::read(rt, path) {
         Ok(bytes) => Ok(bytes),
-        Err(error) => Err(tell_unread(rt, path, error.kind())),
+        Err(error) => Err(tell_unread(rt, verbose, path, error.kind())),
     }
 }
 
-/// Tells why a file can't be read: memory was refused, or anything else.
-fn tell_unread(rt: &impl Eprint, path: &str, kind: io::ErrorKind) -> Ended {
-    match kind {
-        io::ErrorKind::OutOfMemory => no_memory(rt),
-        _ => refused(eprintln!(rt; "refused: file: {path}", path = Shown(path))),
+/// Tells that a file can't be read, and with `verbose` why; or that memory was refused.
+pub fn tell_unread(rt: &impl Eprint, verbose: bool, path: &str, kind: io::ErrorKind) -> Ended {
+    if kind == io::ErrorKind::OutOfMemory {
+        return no_memory(rt);
     }
+    let ended = refused(eprintln!(rt; "refused: file: {path}", path = Shown(path)));
+    tell_about(rt, verbose, path, open_words(kind));
+    ended
 }
 
-/// The lines of the files of names, in their order; `builtin` stands for the names that are built in.
-pub fn read_header(
-    rt: &(impl Files + Eprint + AllocGlobal),
-    names: &[&str],
-) -> Result<Vec<u8>, Ended> {
-    let mut header = Vec::new(rt.alloc());
-    for name in names {
-        let added = if *name == "builtin" {
-            add_names(&mut header, builtin_names().as_bytes())
-        } else {
-            add_names(&mut header, &read_file(rt, name)?)
+/// The files of names.
+#[derive(Drop)]
+pub struct NameFiles<'n> {
+    /// The lines of all files.
+    pub lines: Vec<u8>,
+    /// The files, in their order.
+    pub files: Vec<Header<'n>>,
+}
+
+impl<'n> NameFiles<'n> {
+    /// Reads the lines of the files of names, in their order; `builtin` stands for the names that are built in.
+    pub fn read(
+        rt: &(impl Files + Eprint + AllocGlobal),
+        verbose: bool,
+        names: &[&'n str],
+    ) -> Result<NameFiles<'n>, Ended> {
+        let mut header = NameFiles {
+            lines: Vec::new(rt.alloc()),
+            files: Vec::new(rt.alloc()),
         };
-        if added.is_err() {
-            return Err(no_memory(rt));
+        for name in names {
+            let added = if *name == "builtin" {
+                header.add(name, builtin_names().as_bytes())
+            } else {
+                header.add(name, &read_file(rt, verbose, name)?)
+            };
+            if added.is_err() {
+                return Err(no_memory(rt));
+            }
+        }
+        Ok(header)
+    }
+
+    /// The same, as it was given with arguments that are to name keysyms, and tables.
+    pub fn given<'a>(
+        &'a self,
+        arguments: &'a [&'a str],
+        tables: &'a [GivenTable<'a>],
+    ) -> Given<'a> {
+        Given {
+            headers: &self.files,
+            header: &self.lines,
+            arguments,
+            tables,
+            repertoire: "",
+            certificate: "",
+            certificate_text: &[],
+            all: false,
         }
     }
-    Ok(header)
+
+    /// Adds a file of names to those before it.
+    fn add(&mut self, path: &'n str, lines: &[u8]) -> Result<(), AllocError> {
+        self.files.push(Header {
+            path,
+            lines: line_count(lines),
+        })?;
+        add_names(&mut self.lines, lines)
+    }
 }
 
 /// Adds the lines of a file of names to those of the files before it. A newline ends each file, so that no line runs on.
@@ -60,10 +110,11 @@ fn add_names(header: &mut Vec<u8>, lines: &[u8]) -> Result<(), AllocError>
     Ok(())
 }
 
-/// The sources of a table, and what is done with its overlaps.
+/// The sources of a table, the paths of their files, and what is done with its overlaps.
 #[derive(Drop)]
 pub struct TableFiles {
     sources: Sources,
+    paths: Vec<String>,
     rule: Rule,
 }
 
@@ -71,20 +122,23 @@ impl TableFiles {
     /// Reads a manifest, and the files that it lists. A refusal of the sources is told of this part.
     pub fn read(
         rt: &(impl Files + Eprint + AllocGlobal),
+        verbose: bool,
         part: &str,
         path: &str,
     ) -> Result<TableFiles, Ended> {
-        let manifest = read_listing(rt, path)?;
-        let sources = read_sources(rt, part, path, &manifest)?;
+        let manifest = read_listing(rt, verbose, path)?;
+        let paths = entry_paths(rt, path, &manifest)?;
+        let sources = read_sources(rt, verbose, part, path, &manifest, &paths)?;
         Ok(TableFiles {
             sources,
+            paths,
             rule: manifest.rule(),
         })
     }
 
     /// The sources, and what is done with their overlaps.
     pub fn into_parts(self) -> (Sources, Rule) {
-        let TableFiles { sources, rule } = self;
+        let TableFiles { sources, rule, .. } = self;
         (sources, rule)
     }
 
@@ -95,54 +149,106 @@ impl TableFiles {
             rule: self.rule,
         }
     }
+
+    /// The same, with the paths of its files and that of its manifest.
+    pub fn given<'a>(&'a self, manifest: &'a str) -> GivenTable<'a> {
+        GivenTable {
+            manifest,
+            paths: &self.paths,
+            input: self.input(),
+        }
+    }
 }
 
 /// Reads a manifest.
-fn read_listing(rt: &(impl Files + Eprint + AllocGlobal), path: &str) -> Result<Manifest, Ended> {
-    let bytes = read_file(rt, path)?;
+fn read_listing(
+    rt: &(impl Files + Eprint + AllocGlobal),
+    verbose: bool,
+    path: &str,
+) -> Result<Manifest, Ended> {
+    let bytes = read_file(rt, verbose, path)?;
     match read_manifest(rt.alloc(), &bytes) {
         Ok(manifest) => Ok(manifest),
         Err(ManifestFault::NoMemory) => Err(no_memory(rt)),
-        Err(fault) => Err(refused(eprintln!(rt; "refused: manifest: {fault}"))),
+        Err(fault) => Err(tell_manifest_fault(rt, verbose, path, &bytes, &fault)),
     }
+}
+
+/// Tells why a manifest is refused.
+fn tell_manifest_fault(
+    rt: &(impl Eprint + AllocGlobal),
+    verbose: bool,
+    path: &str,
+    bytes: &[u8],
+    fault: &ManifestFault,
+) -> Ended {
+    let details = if verbose {
+        manifest_details(rt.alloc(), path, bytes, fault)
+    } else {
+        Ok(String::new(rt.alloc()))
+    };
+    let Ok(details) = details else {
+        return no_memory(rt);
+    };
+    refused(eprint!(rt; "refused: manifest: {fault}\n{details}"))
+}
+
+/// The paths of the files that a manifest lists, which lies at the path `at`.
+fn entry_paths(
+    rt: &(impl Eprint + AllocGlobal),
+    at: &str,
+    manifest: &Manifest,
+) -> Result<Vec<String>, Ended> {
+    let mut paths = Vec::new(rt.alloc());
+    for entry in manifest.entries() {
+        let Ok(path) = file_path(rt.alloc(), manifest, at, entry) else {
+            return Err(no_memory(rt));
+        };
+        if paths.push(path).is_err() {
+            return Err(no_memory(rt));
+        }
+    }
+    Ok(paths)
 }
 
 /// Reads the files of a manifest, which lies at the path `at`.
 fn read_sources(
     rt: &(impl Files + Eprint + AllocGlobal),
+    verbose: bool,
     part: &str,
     at: &str,
     manifest: &Manifest,
+    paths: &[String],
 ) -> Result<Sources, Ended> {
     let mut sources = Sources::new(rt.alloc());
-    for entry in manifest.entries() {
-        let bytes = read_entry(rt, at, manifest, entry)?;
+    for (entry, path) in manifest.entries().iter().zip(paths) {
+        let bytes = read_file(rt, verbose, path)?;
         match sources.add(&entry.name, bytes) {
             Ok(()) => {}
             Err(SourceFault::NoMemory) => return Err(no_memory(rt)),
-            Err(fault) => return Err(refused(eprintln!(rt; "refused: {part}: {fault}"))),
+            Err(fault) => return Err(tell_source_fault(rt, verbose, part, at, fault)),
         }
     }
     Ok(sources)
 }
 
-/// Reads the file of an entry.
-fn read_entry(
-    rt: &(impl Files + Eprint + AllocGlobal),
+/// Tells why a file of the manifest at this path is not among the sources.
+fn tell_source_fault(
+    rt: &impl Eprint,
+    verbose: bool,
+    part: &str,
     at: &str,
-    manifest: &Manifest,
-    entry: &Entry,
-) -> Result<Vec<u8>, Ended> {
-    match file_path(rt.alloc(), manifest, at, entry) {
-        Ok(path) => read_file(rt, &path),
-        Err(_) => Err(no_memory(rt)),
-    }
+    fault: SourceFault,
+) -> Ended {
+    let ended = refused(eprintln!(rt; "refused: {part}: {fault}"));
+    tell_about(rt, verbose, at, source_words(fault));
+    ended
 }
 
 /// The files of a move from an old table to a new one, and the arguments that are to name keysyms.
 #[derive(Drop)]
 pub struct MoveFiles<'w> {
-    pub header: Vec<u8>,
+    pub names: NameFiles<'w>,
     pub old: TableFiles,
     pub new: TableFiles,
     pub arguments: Vec<&'w str>,
@@ -152,18 +258,19 @@ impl<'w> MoveFiles<'w> {
     /// Reads the file of names, and the files of both tables.
     pub fn read(
         rt: &(impl Files + Eprint + AllocGlobal),
-        names: &[&str],
+        verbose: bool,
+        names: &[&'w str],
         paths: &TablePaths<'_>,
         arguments: &[&'w str],
     ) -> Result<MoveFiles<'w>, Ended> {
-        let header = read_header(rt, names)?;
-        let old = TableFiles::read(rt, "old", paths.old)?;
-        let new = TableFiles::read(rt, "new", paths.new)?;
+        let names = NameFiles::read(rt, verbose, names)?;
+        let old = TableFiles::read(rt, verbose, "old", paths.old)?;
+        let new = TableFiles::read(rt, verbose, "new", paths.new)?;
         let Ok(arguments) = Vec::from_slice(rt.alloc(), arguments) else {
             return Err(no_memory(rt));
         };
         Ok(MoveFiles {
-            header,
+            names,
             old,
             new,
             arguments,
@@ -173,7 +280,7 @@ impl<'w> MoveFiles<'w> {
     /// The migration that they are to give.
     pub fn input(&self) -> MigrationInput<'_, 'w> {
         MigrationInput {
-            header: &self.header,
+            header: &self.names.lines,
             key_names: &self.arguments,
             old: self.old.input(),
             new: self.new.input(),

@@ -13,6 +13,7 @@ mod client;
 mod commands;
 mod differing;
 mod files;
+mod found;
 mod manifest;
 mod program;
 mod report;

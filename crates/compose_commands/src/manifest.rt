@@ -1,9 +1,13 @@
 //! `manifest`: finds the sources of a Compose file on the system. An error is the end of a run whose refusal was told.
+use crate::files::tell_unread;
 use crate::report::{no_memory, refused, written};
 use compose_arguments::ManifestArguments;
-use compose_find::{FindFault, FoundSource, Meanings, find_sources, locale_file};
+use compose_details::find_message;
+use compose_find::{FindFault, FoundSource, Meanings, beside, find_sources, locale_file};
 use compose_manifest::{WriteFault, manifest_text};
+use compose_messages::{FileMessage, Message, open_words};
 use compose_tool::{Ended, Shown};
+use std::alloc::{AllocError, Global};
 use std::env::VarError;
 use std::rt::{Env, Files};
 use std::{env, fs, io};
@@ -14,9 +18,16 @@ const SYSTEM_FOLDER: &str = "/usr/share/X11/locale";
 /// Prints the manifest of a Compose file.
 pub fn manifest_files(
     rt: &(impl Env + Files + Print + Eprint + AllocGlobal),
+    verbose: bool,
     arguments: &ManifestArguments<'_>,
 ) -> Result<Ended, Ended> {
-    let sources = found_files(rt, arguments.system, arguments.locale, arguments.file)?;
+    let sources = found_files(
+        rt,
+        verbose,
+        arguments.system,
+        arguments.locale,
+        arguments.file,
+    )?;
     match manifest_text(rt.alloc(), &sources) {
         Ok(text) => Ok(written(rt, print!(rt; "{text}"), Ended::Yes)),
         Err(WriteFault::NoMemory) => Err(no_memory(rt)),
@@ -27,6 +38,7 @@ pub fn manifest_files(
 /// The sources of a Compose file as it lies on the system, by the arguments and the environment.
 pub fn found_files(
     rt: &(impl Env + Files + Eprint + AllocGlobal),
+    verbose: bool,
     system: Option<&str>,
     locale: Option<&str>,
     file: &str,
@@ -40,7 +52,7 @@ pub fn found_files(
         locale: locale.as_deref(),
         home: home.as_deref(),
     };
-    find_files(rt, meanings, file)
+    find_files(rt, verbose, meanings, file)
 }
 
 /// A variable of the environment, if it is set to something.
@@ -120,6 +132,7 @@ fn found_file(
 /// The sources of the table whose root lies at this path. Each search asks for one more path, until it has all.
 fn find_files(
     rt: &(impl Files + Eprint + AllocGlobal),
+    verbose: bool,
     meanings: Meanings<'_>,
     root: &str,
 ) -> Result<Vec<FoundSource>, Ended> {
@@ -128,7 +141,7 @@ fn find_files(
         match find_sources(rt.alloc(), &files, meanings, root) {
             Ok(sources) => return Ok(sources),
             Err(FindFault::Wanted { path }) => look_for(rt, &mut files, &path)?,
-            Err(fault) => return Err(tell_fault(rt, &fault)),
+            Err(fault) => return Err(tell_fault(rt, verbose, &fault)),
         }
     }
     Err(no_memory(rt))
@@ -147,16 +160,88 @@ fn look_for(
 }
 
 /// Tells why not all sources are found. A path may come from a stranger's file.
-fn tell_fault(rt: &(impl Eprint + AllocGlobal), fault: &FindFault) -> Ended {
+fn tell_fault(rt: &(impl Files + Eprint + AllocGlobal), verbose: bool, fault: &FindFault) -> Ended {
     match fault {
         FindFault::NoMemory => no_memory(rt),
-        FindFault::MissingRoot { path } => refused(eprintln!(rt;
-            "refused: file: {path}",
-            path = Shown(path)
-        )),
-        fault => match format!(in rt.alloc(); "{fault}") {
-            Ok(text) => refused(eprintln!(rt; "refused: find: {text}", text = Shown(&text))),
+        FindFault::MissingRoot { path } => {
+            tell_unread(rt, verbose, path, unread_kind(rt, verbose, path))
+        }
+        fault => match fault_text(rt, verbose, fault) {
+            Ok(text) => refused(eprint!(rt; "{text}")),
             Err(_) => no_memory(rt),
         },
+    }
+}
+
+/// The line of a fault, and, where that is asked for, which include leads to no file and why.
+fn fault_text(
+    rt: &(impl Files + AllocGlobal),
+    verbose: bool,
+    fault: &FindFault,
+) -> Result<String, AllocError> {
+    let said = format!(in rt.alloc(); "{fault}").map_err(|_| AllocError)?;
+    let mut text = format!(in rt.alloc(); "refused: find: {said}\n", said = Shown(&said)).map_err(
+        |_| AllocError,
+    )?;
+    if let (true, Some(message)) = (verbose, find_message(fault)) {
+        push_message(rt.alloc(), &mut text, &message)?;
+        push_paths(rt, &mut text, fault)?;
+    }
+    Ok(text)
+}
+
+/// Adds why nothing is opened at the path of an include, and at the same path from the folder of the including file.
+fn push_paths(
+    rt: &(impl Files + AllocGlobal),
+    text: &mut String,
+    fault: &FindFault,
+) -> Result<(), AllocError> {
+    let FindFault::MissingFile { from, path, .. } = fault else {
+        return Ok(());
+    };
+    let other = beside(rt.alloc(), from, path)?;
+    push_unread(rt, text, path)?;
+    if other == *path {
+        return Ok(());
+    }
+    push_unread(rt, text, &other)
+}
+
+/// Adds why the file at the path can't be read.
+fn push_unread(
+    rt: &(impl Files + AllocGlobal),
+    text: &mut String,
+    path: &str,
+) -> Result<(), AllocError> {
+    let kind = unread_kind(rt, true, path);
+    if kind == io::ErrorKind::OutOfMemory {
+        return Err(AllocError);
+    }
+    let message = FileMessage {
+        path,
+        position: None,
+        message: Message::Plain(open_words(kind)),
+    };
+    push_message(rt.alloc(), text, &message)
+}
+
+/// Adds the line of a message.
+fn push_message(
+    alloc: Global,
+    text: &mut String,
+    message: &FileMessage<'_>,
+) -> Result<(), AllocError> {
+    let line = format!(in alloc; "{message}\n").map_err(|_| AllocError)?;
+    text.push_str(&line)
+}
+
+/// Why the file at the path can't be read, where that is asked for.
+fn unread_kind(rt: &(impl Files + AllocGlobal), verbose: bool, path: &str) -> io::ErrorKind {
+    if !verbose {
+        return io::ErrorKind::NotFound;
+    }
+    match fs::read(rt, path) {
+        Ok(_) => io::ErrorKind::NotFound,
+        Err(error) => error.kind(),
     }
 }

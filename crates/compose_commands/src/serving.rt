@@ -1,13 +1,14 @@
 //! `serve`: a service on a socket. An error is the end of a run whose refusal was told.
 use crate::at_once::{print_end, serve_many};
-use crate::files::{TableFiles, read_file, read_header};
-use crate::report::{no_memory, refused, report, written};
+use crate::files::{NameFiles, TableFiles, read_file};
+use crate::report::{no_memory, refused, report, report_given, written};
 use compose_arguments::ServeArguments;
+use compose_details::Given;
 use compose_serve::{Device, serve};
 use compose_service::Service;
 use compose_serving::{BeginFault, BeginInput, begin};
 use compose_socket::{SocketFault, SocketFile, listener_of_systemd};
-use compose_tool::{Answer, Ended, Shown};
+use compose_tool::{Answer, Ended, Refusal, Shown};
 use compose_tree::ComposeTable;
 use std::alloc::Global;
 use std::fs;
@@ -18,11 +19,12 @@ use std::rt::{Env, Files};
 /// Serves typing sessions on a socket, one connection after another.
 pub fn serve_files<T: ComposeTable>(
     rt: &(impl Env + Files + Net + Print + Eprint + AllocGlobal),
+    verbose: bool,
     process_id: u32,
     names: &[&str],
     arguments: &ServeArguments<'_>,
 ) -> Result<Ended, Ended> {
-    let mut service = begin_files::<T>(rt, names, arguments)?;
+    let mut service = begin_files::<T>(rt, verbose, names, arguments)?;
     let listener = bind(rt, process_id, arguments)?;
     written(rt, println!(rt; "listening"), Ended::Yes);
     let ended = match arguments.at_once {
@@ -37,25 +39,26 @@ pub fn serve_files<T: ComposeTable>(
 
 /// The files of a service.
 #[derive(Drop)]
-struct ServiceFiles {
-    header: Vec<u8>,
+struct ServiceFiles<'n> {
+    names: NameFiles<'n>,
     table: TableFiles,
     repertoire: Vec<u8>,
     certificate: Vec<u8>,
 }
 
-impl ServiceFiles {
+impl<'n> ServiceFiles<'n> {
     /// Reads the names, the table, the repertoire and the certificate.
     fn read(
         rt: &(impl Files + Eprint + AllocGlobal),
-        names: &[&str],
+        verbose: bool,
+        names: &[&'n str],
         arguments: &ServeArguments<'_>,
-    ) -> Result<ServiceFiles, Ended> {
+    ) -> Result<ServiceFiles<'n>, Ended> {
         Ok(ServiceFiles {
-            header: read_header(rt, names)?,
-            table: TableFiles::read(rt, "table", arguments.table)?,
-            repertoire: read_file(rt, arguments.repertoire)?,
-            certificate: read_file(rt, arguments.certificate)?,
+            names: NameFiles::read(rt, verbose, names)?,
+            table: TableFiles::read(rt, verbose, "table", arguments.table)?,
+            repertoire: read_file(rt, verbose, arguments.repertoire)?,
+            certificate: read_file(rt, verbose, arguments.certificate)?,
         })
     }
 
@@ -63,7 +66,7 @@ impl ServiceFiles {
     fn begin<T: ComposeTable>(self, alloc: Global) -> Result<Service<T>, BeginFault> {
         let (sources, rule) = self.table.into_parts();
         let input = BeginInput {
-            header: &self.header,
+            header: &self.names.lines,
             repertoire: &self.repertoire,
             rule,
             certificate: &self.certificate,
@@ -75,21 +78,47 @@ impl ServiceFiles {
 /// The service that begins with the files.
 fn begin_files<T: ComposeTable>(
     rt: &(impl Files + Print + Eprint + AllocGlobal),
+    verbose: bool,
     names: &[&str],
     arguments: &ServeArguments<'_>,
 ) -> Result<Service<T>, Ended> {
-    match ServiceFiles::read(rt, names, arguments)?.begin(rt.alloc()) {
+    match ServiceFiles::read(rt, verbose, names, arguments)?.begin(rt.alloc()) {
         Ok(service) => Ok(service),
-        Err(fault) => Err(report_fault(rt, fault)),
+        Err(fault) if verbose => {
+            let files = ServiceFiles::read(rt, verbose, names, arguments)?;
+            Err(report_fault::<T>(rt, arguments, &files, fault))
+        }
+        Err(fault) => Err(report(rt, &answered(fault), &[])),
     }
 }
 
-/// Prints why no service begins.
-fn report_fault(rt: &(impl Print + Eprint), fault: BeginFault) -> Ended {
+/// What is answered where no service begins.
+fn answered(fault: BeginFault) -> Result<Answer, Refusal> {
     match fault {
-        BeginFault::Invalid(fault) => report(rt, &Ok(Answer::Invalid(fault)), &[]),
-        BeginFault::Refused(refusal) => report(rt, &Err(refusal), &[]),
+        BeginFault::Invalid(fault) => Ok(Answer::Invalid(fault)),
+        BeginFault::Refused(refusal) => Err(refusal),
     }
+}
+
+/// Prints why no service begins with the files, which were read again, and what there is to say of it. They are gone with the service.
+fn report_fault<T: ComposeTable>(
+    rt: &(impl Print + Eprint + AllocGlobal),
+    arguments: &ServeArguments<'_>,
+    files: &ServiceFiles<'_>,
+    fault: BeginFault,
+) -> Ended {
+    let table = files.table.given(arguments.table);
+    let given = Given {
+        headers: &files.names.files,
+        header: &files.names.lines,
+        arguments: &[],
+        tables: &[table, table],
+        repertoire: arguments.repertoire,
+        certificate: arguments.certificate,
+        certificate_text: &files.certificate,
+        all: false,
+    };
+    report_given::<T>(rt, true, &given, &answered(fault))
 }
 
 /// The listener that systemd hands over, or else one on a new socket file.
