@@ -9,7 +9,7 @@ use Rattle.std.specs.Fmt.{digits_onto, digit_glyph}
 use Rattle.std.proofs.lemmas.Bool.{and_from, or_parts, or_from, and_cases}
 use Rattle.std.proofs.lemmas.List.Folds.{list_all-append}
 use Rattle.compose_text.specs.Numbers.{is_between}
-use Rattle.compose_lex.specs.Escape.{quote, quote_byte, quote_inside}
+use Rattle.compose_lex.specs.Escape.{quote}
 use Rattle.compose_tool.specs.Shown.{is_unsafe, shown_character, shown_text}
 use Rattle.compose_compare.specs.declared.Change.{Change}
 use Rattle.compose_compare.specs.declared.Change.TheVariants.{Kept, Changed, Waiting, Removed, Added, NewStart}
@@ -102,26 +102,6 @@ character_plain c = by (is_unsafe c) refl
 pub shown_plain : (text : List ℕ) → ArePlain (shown_text text)
 shown_plain text = all_plain shown_character (chars text) character_plain
 
--- ---- quoted texts
-
-byte_plain : (b : ℕ) → ArePlain (quote_byte b)
-byte_plain b = by (b == 92 || b == 34) (nat_lt b 32 || b == 127) refl refl
-  where
-    escaped : (s t : Bool) → (b == 92) ≡ s → (b == 34) ≡ t → (b == 92 || b == 34) ≡ true → is_plain b ≡ true
-    escaped true t e f g = from_32 b (omega (arith, eqb-true b 92 e))
-    escaped false true e f g = from_32 b (omega (arith, eqb-true b 34 f))
-    escaped false false e f g = let clash : false ≡ true = sym (or_from _ _ e f) ∙ g in cc
-
-    by : (s t : Bool) → (b == 92 || b == 34) ≡ s → (nat_lt b 32 || b == 127) ≡ t → ArePlain (quote_byte b)
-    by true t e f = rw e (and_from _ _ (escaped (b == 92) (b == 34) refl refl e) refl)
-    by false true e f =
-        rw (e, f)
-        (and_from _ _ refl (and_from _ _ (from_32 (48 + b / 64) (omega arith)) (and_from _ _ (from_32 (48 + b / 8 % 8) (omega arith)) (and_from _ _ (from_32 (48 + b % 8) (omega arith)) refl))))
-    by false false e f = rw (e, f) (and_from _ _ (from_32 b (ltb-false b 32 (or_parts (nat_lt b 32) _ f).0)) refl)
-
-quote_plain : (text : List ℕ) → ArePlain (quote text)
-quote_plain text = both_plain (34 ∷ quote_inside text) (34 ∷ []) (all_plain quote_byte text byte_plain) refl
-
 -- ---- the parts of a line
 
 word_plain : (c : Change) → ArePlain (change_word c)
@@ -144,7 +124,7 @@ keys_plain c keys =
 -- the text of a sequence in quotes
 pub text_plain : (entry : Option Entry) → ArePlain (text_part entry)
 text_plain None = refl
-text_plain (Some entry) = both_plain (codes " ") (quote entry.text.now) refl (quote_plain entry.text.now)
+text_plain (Some entry) = both_plain (codes " ") (shown_text (quote entry.text.now)) refl (shown_plain (quote entry.text.now))
 
 -- what is told of a row has no newline in it
 pub row_text_plain : (row : DiffRow) → ArePlain (row_text row)

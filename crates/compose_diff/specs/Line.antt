@@ -20,10 +20,10 @@ change_word NewStart = codes "new start"
 abbrev pub keys_part : List (List ℕ) → List ℕ
 keys_part keys = flat_map (λ key. codes " <" ++ (shown_text key ++ codes ">")) keys
 
--- the text in quotes, after a blank
+-- the text in quotes, after a blank; what could harm a terminal is escaped
 abbrev pub text_part : Option Entry → List ℕ
 text_part None = []
-text_part (Some entry) = codes " " ++ quote entry.text.now
+text_part (Some entry) = codes " " ++ shown_text (quote entry.text.now)
 
 -- the path, a colon and the line, after a blank
 abbrev pub place_part : Option Entry → List ℕ

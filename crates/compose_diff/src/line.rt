@@ -53,8 +53,9 @@ pub(crate) fn push_quoted(
     let Ok(quoted) = quote(alloc, entry.text) else {
         return Err(AllocError);
     };
-    text.push_str(" ")?;
-    text.push_str(&quoted)
+    let shown = Shown(&quoted);
+    write!(text, " {shown}")?;
+    Ok(())
 }
 
 /// Appends the place of a definition, if a table has it, to the text.
