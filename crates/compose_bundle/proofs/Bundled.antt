@@ -36,7 +36,7 @@ module _ (bytes name rest : List ℕ) (head : sized_by_2 bytes ≡ Some (name, r
         (named_so ∙ ap (λ b. cond b (sized_by_4 rest >>= (λ p. Some (record { name = name; bytes = p.0 }, p.1))) None) text
         ∙ ap (λ o. o >>= (λ p. Some (record { name = name; bytes = p.0 }, p.1))) body)
 
-    -- a source with a name that is free and a content comes behind the others
+    -- a source with a name that is free and a content comes after the others
     pub one_more : (sources' : List Source) → add_fault sources name ≡ None → sources' ≡ sources ++ whole ∷ [] → AddsSource sources bytes sources' left
     one_more sources' free e = (whole, found ∙ go (nat_lt (source_named sources name) (length sources)) free, e)
       where

@@ -103,7 +103,7 @@ pub record Sized (head : List ℕ) (most : ℕ) (bytes a x : List ℕ) : Type 0 
   pub fits : length a < most
   pub left : AreBytes x
 
--- a part that is read by its length in two bytes stands behind that length, and what follows it is bytes
+-- a part that is read by its length in two bytes follows that length, and what follows it is bytes
 pub sized_2_whole : (bytes a x : List ℕ) → AreBytes bytes → sized_by_2 bytes ≡ Some (a, x) → Sized (to_be_bytes w16 (length a)) (2 ^ 16) bytes a x
 sized_2_whole bytes a x are h =
     let b = bound (split 2 bytes) (λ p. split (from_be_bytes w16 p.0) p.1) (a, x) h in
@@ -118,7 +118,7 @@ sized_2_whole bytes a x are h =
       left = right_bytes a x (subst AreBytes second.whole (right_bytes head b.value.1 are'));
     }
 
--- a part that is read by its length in four bytes stands behind that length, and what follows it is bytes
+-- a part that is read by its length in four bytes follows that length, and what follows it is bytes
 pub sized_4_whole : (bytes a x : List ℕ) → AreBytes bytes → sized_by_4 bytes ≡ Some (a, x) → Sized (to_be_bytes w32 (length a)) (2 ^ 32) bytes a x
 sized_4_whole bytes a x are h =
     let b = bound (split 4 bytes) (λ p. split (from_be_bytes w32 p.0) p.1) (a, x) h in

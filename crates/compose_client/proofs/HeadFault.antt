@@ -46,7 +46,7 @@ eight_bytes s l p x = le-ltb (length ((to_be_bytes w32 s ++ to_be_bytes w32 l ++
 told : ℕ → List ℕ → Bool → Bool → Option Fault
 told kind rest known short = cond (not known) (Some unknown_kind) (cond short None (cond (is_reply_length kind (from_be_bytes w32 (take 4 (drop 4 rest)))) None (Some bad_length)))
 
--- the frame of a reply has no fault in its head, whatever comes behind it
+-- the frame of a reply has no fault in its head, whatever comes after it
 pub no_fault : (r : Reply) (x : List ℕ) → ReplyFits r → head_fault (reply_bytes r ++ x) ≡ None
 unfolding told
 no_fault r x f =
@@ -93,7 +93,7 @@ head_stays (kind ∷ rest) more fault e = elim (cases_Bool (nat_lt (length rest)
 pub no_reply : (bytes : List ℕ) (fault : Fault) → head_fault bytes ≡ Some fault → BeginsWithReply bytes → ⊥
 no_reply bytes fault e b = let n : None ≡ Some fault = sym (no_fault b.0 b.1 b.2) ∙ ap head_fault (sym b.3) ∙ e in cc
 
--- bytes with a fault in their head never begin with a reply, whatever comes behind them
+-- bytes with a fault in their head never begin with a reply, whatever comes after them
 pub never : (bytes more : List ℕ) (fault : Fault) → head_fault bytes ≡ Some fault → BeginsWithReply (bytes ++ more) → ⊥
 never bytes more fault e = no_reply (bytes ++ more) fault (head_stays bytes more fault e)
 

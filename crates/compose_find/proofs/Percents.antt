@@ -113,7 +113,7 @@ divided : (text : List ℕ) (b : ℕ) (rest : List ℕ) → Some b ≡ slice_get
 divided [] b rest first left = cc
 divided (a ∷ text) b rest first left = cc
 
--- a percent sign and what stands behind it give a piece, or the fault of its meaning
+-- a percent sign and what follows it give a piece, or the fault of its meaning
 pub percent_piece : (words : Words) (text : List ℕ) (b : ℕ) (rest : List ℕ) (r : Result (Bor (List ℕ) × Bor (List ℕ)) IncludeFault) → Some b ≡ slice_get text 0 → b ≡ 37 → rest ≡ drop 1 text
     → Gives (λ x. (x.0.now, x.1.now)) r (meaning_at words rest) → IsPiece words text r
 percent_piece words text b rest r first is left gives =

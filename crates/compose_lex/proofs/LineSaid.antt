@@ -196,7 +196,7 @@ pub record Result_said (bytes : List ℕ) (raw name : Option (List ℕ)) : Type 
   pub named : option_map_or is_name name true ≡ true
   pub some : is_some raw || is_some name ≡ true
 
--- what stands behind a run begins with no further run
+-- what follows a run begins with no further run
 pub behind_twice : (p : ℕ → Bool) (xs : List ℕ) → behind p (behind p xs) ≡ behind p xs
 behind_twice p [] = refl
 behind_twice p (x ∷ xs) = go (p x) refl (behind_twice p xs)

@@ -37,7 +37,7 @@ begins_fits (t ∷ ts) bytes rest b =
     let f = begins_fits ts b.1 rest b.5 in
     omega (arith, e, f)
 
--- a whole token that may follow leads one stage further, to what stands behind it and its blanks
+-- a whole token that may follow leads one stage further, to what follows it and its blanks
 pub reached_more : (line : List ℕ) (done : List (List ℕ)) (rest : List ℕ) (s m : Stage) (t more : List ℕ) → Reached line done rest s → rest ≡ t ++ more → is_whole t more ≡ true → step s t ≡ Some m
     → AreFirst (done ++ t ∷ [])
     → Reached line (done ++ t ∷ []) (skip_blanks more) m

@@ -17,7 +17,7 @@ prefix_taken p (b ∷ rest) = go (p b) (prefix_taken p rest)
     go true e = let one : 1 + prefix_len p rest ≡ suc (prefix_len p rest) = omega arith in ap (λ t. b ∷ t) e ∙ ap (λ n. take n (b ∷ rest)) (sym one)
     go false e = refl
 
--- what stands behind the leading bytes is what is left after as many as the scan counts
+-- what follows the leading bytes is what is left after as many as the scan counts
 pub behind_left : (p : ℕ → Bool) (text : List ℕ) → behind p text ≡ drop (prefix_len p text) text
 behind_left p [] = refl
 behind_left p (b ∷ rest) = go (p b) (behind_left p rest)

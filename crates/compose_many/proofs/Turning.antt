@@ -153,7 +153,7 @@ module _ (most : ℕ) (s now : ConnectionState) (piece : List ℕ) (left' : Opti
   follows_read (Ends (Err EndsNoMemory)) before events h = (h, quiet_then)
   follows_read (Ends _) before events h = absurd h
 
-  -- on a connection on which all is sent and nothing was refused, the piece comes behind what is held
+  -- on a connection on which all is sent and nothing was refused, the piece comes after what is held
   pub receives_so : Receives s piece with_piece
   receives_so = record { goes_on = quiet.goes_on; all_sent = quiet.sent; after = refl }
 

@@ -93,7 +93,7 @@ module _ (keysyms texts : List ℕ) (first_keysym first_byte : ℕ) (l : first_k
 
 -- ---- definitions that are being read
 
--- the spans are whole definitions in place, and the offsets, from where one more is being read, come behind them
+-- the spans are whole definitions in place, and the offsets, from where one more is being read, come after them
 abbrev pub IsDrafted : List ℕ → List ℕ → List RowSpan → ℕ → ℕ → Type 0
 IsDrafted keysyms texts spans first_keysym first_byte =
     ArePlaced keysyms texts spans × (first_keysym ≤ length keysyms) × IsCharBoundary texts first_byte × IsTrue (is_table (rows_of keysyms texts spans)) × IsBehind spans first_keysym first_byte
@@ -201,7 +201,7 @@ module _ (ks ts : List ℕ) (ps : List RowSpan) (fk fb : ℕ) (is : IsDrafted ks
         go (Err lex_faults.NoMemory) g = ap (drop fb) g
         go (Err e) g = (g.0, ap (drop fb) g.1)
 
-    -- a raw text that is pushed stands for the text that comes behind the definition's own
+    -- a raw text that is pushed stands for the text that comes after the definition's own
     pub text_found : OnOk r ((bytes : List ℕ) × (drop fb new ≡ drop fb ts ++ bytes) × Unescapes raw bytes × IsText bytes)
     text_found = go r found
       where

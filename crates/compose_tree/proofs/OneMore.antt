@@ -88,7 +88,7 @@ index_in_prefix q (x ∷ xs) ys h = go (q x) h (index_in_prefix q xs ys)
     go true h f = refl
     go false h f = ap (λ n. 1 + n) (f h)
 
--- the first index at which a test holds in the second list alone comes behind the first list
+-- the first index at which a test holds in the second list alone comes after the first list
 pub index_behind : {X : Type 0} (q : X → Bool) (xs ys : List X) → list_any q xs ≡ false → position_or_len q (xs ++ ys) ≡ length xs + position_or_len q ys
 index_behind q [] ys h = omega arith
 index_behind q (x ∷ xs) ys h = go (q x) h (index_behind q xs ys)
@@ -210,7 +210,7 @@ module _ (table : List Definition) (d : Definition) (p : List ℕ) (k : ℕ) (re
   pub node_stays : (x : List ℕ) → is_node table x ≡ true → is_node (table ++ d ∷ []) x ≡ true
   node_stays x h = node_more x ∙ list_any-append (same x) (nodes table) new_nodes ∙ or_left (is_node table x) (list_any (same x) new_nodes) h
 
-  -- a node keeps its number where the next sequence comes behind the others
+  -- a node keeps its number where the next sequence comes after the others
   pub number_stays : (x : List ℕ) → is_node table x ≡ true → number_of (table ++ d ∷ []) x ≡ number_of table x
   number_stays x h = ap (position_or_len (same x)) nodes_more ∙ index_in_prefix (same x) (nodes table) new_nodes h
 

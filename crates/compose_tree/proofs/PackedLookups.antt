@@ -34,7 +34,7 @@ texts_on all i t h e =
     let d : Definition = record { sequence = []; text = [] } in
     rw add-one (ap texts_of (drop-cons all i d h) ∙ ap (λ x. x ∷ texts_of (drop (suc i) all)) (sym (text_read all i t d h e)))
 
--- with the offset of one more text pushed, those of the texts left come behind it
+-- with the offset of one more text pushed, those of the texts left come after it
 pub offsets_step : (all : List Definition) (i offset next : ℕ) (whole offsets more t : List ℕ) → whole ≡ offsets ++ packed_offsets offset (texts_of (drop i all))
     → texts_of (drop i all) ≡ t ∷ texts_of (drop (i + 1) all)
     → more ≡ offsets ++ offset ∷ [] → next ≡ offset + length t → whole ≡ more ++ packed_offsets next (texts_of (drop (i + 1) all))
@@ -43,7 +43,7 @@ offsets_step all i offset next whole offsets more t e f g h =
     e ∙ ap (λ ts. offsets ++ packed_offsets offset ts) f ∙ sym (append_assoc offsets (offset ∷ []) (packed_offsets (offset + length t) rest))
     ∙ ap (λ x. x ++ packed_offsets (offset + length t) rest) (sym g) ∙ ap (λ n. more ++ packed_offsets n rest) (sym h)
 
--- with one more text pushed to the pool, the texts left come behind it
+-- with one more text pushed to the pool, the texts left come after it
 pub pool_step : (all : List Definition) (i : ℕ) (whole bytes more t : List ℕ) → whole ≡ bytes ++ pool (texts_of (drop i all)) → texts_of (drop i all) ≡ t ∷ texts_of (drop (i + 1) all)
     → more ≡ bytes ++ t → whole ≡ more ++ pool (texts_of (drop (i + 1) all))
 pool_step all i whole bytes more t e f g =

@@ -64,7 +64,7 @@ Leads table p k (Some (Node n)) = ToNode table p k n
 Leads table p k (Some (Leaf l)) = ToLeaf table p k l
 Leads table p k None = Nowhere table p k
 
--- the target of a key says what stands behind it
+-- the target of a key says what follows it
 pub leads : (table : List Definition) (p : List ℕ) (k : ℕ) → Leads table p k (target_of table p k)
 leads table p k = go (is_node table (p ++ k ∷ [])) (is_sequence table (p ++ k ∷ [])) refl refl
   where

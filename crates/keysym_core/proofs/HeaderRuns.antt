@@ -27,7 +27,7 @@ behind_all p prefix rest all stops = ap (λ n. drop n (prefix ++ rest)) (run_len
 
 -- ---- the run at the beginning of any bytes
 
--- bytes are their first run and what stands behind it
+-- bytes are their first run and what follows it
 pub parts_of : (p : ℕ → Bool) (bytes : List ℕ) → bytes ≡ run p bytes ++ behind_run p bytes
 parts_of p bytes = sym (take-append-drop (run_length p bytes) bytes)
 
@@ -47,7 +47,7 @@ run_passes p (b ∷ bytes) = go (p b) refl (run_passes p bytes)
     go true e h = ap (λ n. list_all p (take n (b ∷ bytes))) (run_more p b bytes e) ∙ and_from (p b) (list_all p (run p bytes)) e h
     go false e h = ap (λ n. list_all p (take n (b ∷ bytes))) (run_none p b bytes e)
 
--- no byte that passes begins what stands behind a run
+-- no byte that passes begins what follows a run
 pub behind_stops : (p : ℕ → Bool) (bytes : List ℕ) → begins p (behind_run p bytes) ≡ false
 behind_stops p [] = refl
 behind_stops p (b ∷ bytes) = go (p b) refl (behind_stops p bytes)
