@@ -68,7 +68,7 @@ module _ (names : KeysymNames) (sources : List Source) where
 
     include_alone : (missing room : Bool)
         → (let r : Result (Option Definition) ReadFault = cond missing (Err (faults.MissingInclude v.source v.line)) (cond room (Ok None) (Err (faults.IncludeDepth v.source v.line))) in
-          r) ≡ Ok (Some d) → ⊥
+        r) ≡ Ok (Some d) → ⊥
     include_alone true room h = cc
     include_alone false true h = cc
     include_alone false false h = cc

@@ -115,7 +115,7 @@ module _ (names : KeysymNames) where
 
       by_ignored : (k : ℕ) → ((s : List ℕ) → sequence_of names v (1 + index) events ≡ Ok s → keysyms_of events ≡ all_some s) → (ignored : Bool) → value names event ≡ Some k
           → ((let r : Result ℕ ReadFault = cond ignored (Err (faults.IgnoredKeysym v.source v.line index)) (Ok k) in r)
-            >>= (λ k. sequence_of names v (1 + index) events >>= (λ s. Ok (k ∷ s)))) ≡ Ok sequence
+          >>= (λ k. sequence_of names v (1 + index) events >>= (λ s. Ok (k ∷ s)))) ≡ Ok sequence
           → keysyms_of (event ∷ events) ≡ all_some sequence
       by_ignored k others true is h = cc
       by_ignored k others false is h = by_others k others (sequence_of names v (1 + index) events) refl is h
@@ -162,7 +162,7 @@ module _ (names : KeysymNames) where
 
         by_include : (missing room : Bool)
             → (let r : Result (Option Definition) ReadFault = cond missing (Err (faults.MissingInclude v.source v.line)) (cond room (Ok None) (Err (faults.IncludeDepth v.source v.line))) in
-              r) ≡ Ok (Some d) → ⊥
+            r) ≡ Ok (Some d) → ⊥
         by_include true room h = cc
         by_include false true h = cc
         by_include false false h = cc
