@@ -39,7 +39,7 @@ from typing import NamedTuple
 # each further edit of compose_cert took 2.4 seconds.)
 LARGEST_BATCH = 40
 # The most memory that a check of a batch was seen to take, in bytes.
-MEMORY = 2_300_000_000
+MEMORY = 2_600_000_000
 # A function as rt fmt lays it out: no line between its first and its last begins at its indent, but those that its head and its body are written on.
 FUNCTION = re.compile(r"^( *)(?:pub(?:\(\w+\))? )?(?:const )?(?:unsafe )?fn (\w+).*(?:\n(?:\1(?: .*|\).*|\{|where.*))?)*?\n\1\}$", re.M)
 IMPL = re.compile(r"(?:unsafe )?impl(?:<(?:[^<>]|<[^<>]*>)*>)? (?:(.*) for )?(.*) \{")
