@@ -1,6 +1,7 @@
 -- The includes of lines, one line after another.
 use Rattle.std.proofs.Common.{◌≡◌, ℕ, ◌+◌, List, [], ◌∷◌, ◌++◌, Some, refl, sym, ◌∙◌, ap, append_assoc}
-use Rattle.compose_find.specs.Includes.{Include, raw_include, includes_from}
+use Rattle.compose_read.specs.Visits.{raw_include}
+use Rattle.compose_find.specs.Includes.{Include, includes_from}
 
 include_first : (n : ℕ) (line raw : List ℕ) (lines : List (List ℕ)) → raw_include line ≡ Some raw → includes_from n (line ∷ lines) ≡ record { line = n; raw = raw } ∷ includes_from (1 + n) lines
 include_first n line raw lines e = rw e refl

@@ -1,11 +1,14 @@
 //! The includes of a source.
-ghost use Rattle.std.specs.Prelude.{◌≡◌, option_copied, IfOk};
+ghost use Rattle.std.specs.Prelude.{◌≡◌, nat_eq, codes, option_copied, IfOk};
+ghost use Rattle.std.specs.List.{starts_with};
+ghost use Rattle.compose_lex.specs.Fault.{skip_blanks};
 ghost use Rattle.compose_read.specs.Lines.{without_mark};
+ghost use Rattle.compose_read.specs.Visits.{raw_include};
 ghost use Rattle.compose_find.specs.Includes as includes;
 
 use arrayvec::ArrayVec;
 use compose_lex::{Said, lex_line_into};
-use compose_text::first_line;
+use compose_text::{blank_len, first_line};
 use std::alloc::{AllocError, Global};
 use std::marker::Model;
 
@@ -28,17 +31,16 @@ impl Model for Include {
 }
 
 /// The includes of a source in order, as reading finds them: a line that is not UTF-8 or has a fault is none. Takes memory for the includes
-/// alone. O(bytes).
+/// alone. O(bytes): a line that begins with another word costs only the search for its end and its blanks.
 pub fn includes_of(alloc: Global, source: &[u8]) -> Result<Vec<Include>, AllocError>
     ensures { IfOk result (λ found. found.items ≡ includes.includes_of source.now) }
 {
     let mut found = Vec::new(alloc);
-    let mut events = ArrayVec::new();
     let mut rest = without_mark(source);
     let mut line = 0;
     while let Some((bytes, behind)) = first_line(rest) {
         line += 1;
-        if let Some(raw) = raw_include(bytes, &mut events) {
+        if let Some(raw) = raw_include(bytes) {
             found.push(Include {
                 line,
                 raw: String::from_str(alloc, raw)?,
@@ -56,15 +58,26 @@ fn without_mark(bytes: &[u8]) -> &[u8]
     bytes.strip_prefix(&[0xef, 0xbb, 0xbf]).unwrap_or(bytes)
 }
 
-/// The raw text of the line's include, if it is one.
-fn raw_include<'a>(line: &'a [u8], events: &mut ArrayVec<&'a str, 32>) -> Option<&'a str>
-    ensures { option_copied result ≡ includes.raw_include line.now }
+/// The raw text of the line's include, if it is one. O(bytes), and O(blanks) of a line that begins with another word.
+fn raw_include(line: &[u8]) -> Option<&str>
+    ensures { option_copied result ≡ raw_include line.now }
 {
+    if !begins_include(line) {
+        return None;
+    }
     let Ok(text) = str::from_utf8(line) else {
         return None;
     };
-    match lex_line_into(text, events) {
+    let mut events = ArrayVec::new();
+    match lex_line_into(text, &mut events) {
         Ok(Said::Include(raw)) => Some(raw),
         _ => None,
     }
+}
+
+/// Whether the line begins with the word `include`, after blanks.
+fn begins_include(line: &[u8]) -> bool
+    ensures { result ≡ starts_with nat_eq (skip_blanks line.now) (codes "include") }
+{
+    line[blank_len(line)..].starts_with(b"include")
 }

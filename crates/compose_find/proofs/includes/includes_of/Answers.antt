@@ -1,7 +1,7 @@
 use Rattle.std.proofs.Common.{◌≡◌, ◌+◌, ◌∙◌, ap, arith, string_bytes}
 use Rattle.std.specs.Prelude.{Some}
 use Rattle.compose_text.specs.Lines.{lines_of}
-use Rattle.compose_find.specs.Includes.{raw_include}
+use Rattle.compose_read.specs.Visits.{raw_include}
 use Rattle.compose_find.proofs.IncludeLines.{include_more}
 use Rattle.compose_find.proofs.includes.includes_of.Goals as goal
 

@@ -6,7 +6,7 @@ use Rattle.std.proofs.lemmas.Str.{is_utf8-from_IsUtf8, IsUtf8-from_is_utf8}
 use Rattle.compose_lex.specs.Line.{include}
 use Rattle.compose_lex.specs.Fault.{reading_of}
 use Rattle.compose_lex.specs.Lexed.{said_reading}
-use Rattle.compose_find.specs.Includes.{said_include}
+use Rattle.compose_read.specs.Visits.{said_include}
 use Rattle.compose_find.proofs.includes.raw_include.Goals as goal
 
 pub returns-in_default : goal.returns-in_default
