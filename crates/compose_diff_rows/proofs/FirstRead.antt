@@ -1,6 +1,6 @@
 -- What a migration that was read says of its tables.
-use Rattle.std.proofs.Common.{◌≡◌, ℕ, List, [], ◌∷◌, map, refl, sym, ◌∙◌, ap, Bor}
-use Rattle.std.specs.Prelude.{Option, Some, None, option_copied, option_map, slice_get, unwrap_or, Result, Ok, Err}
+use Rattle.std.proofs.Common.{◌≡◌, ℕ, List, [], ◌∷◌, map, refl, sym, ◌∙◌, ap}
+use Rattle.std.specs.Prelude.{Some, option_map, slice_get, Result, Ok, Err}
 use Rattle.std.proofs.lemmas.Option.{same_Some}
 use Rattle.compose_text.specs.Results.{◌>>=◌}
 use Rattle.keysym_core.specs.Names.{KeysymNames}
@@ -63,10 +63,7 @@ pub root_lines_are : (names : KeysymNames) (rule : Rule) (table : List Definitio
 root_lines_are names rule table [] e = cc
 root_lines_are names rule table (s ∷ sources) e = are_lines names (s ∷ sources) s.name rule table e
 
--- the name of the first source, or an empty one
-pub root_is : (sources : List Source) (name : Option (Bor (List ℕ))) (empty : Bor (List ℕ)) → empty.now ≡ [] → option_copied name ≡ option_map (λ (s : Source). s.name) (slice_get sources 0)
-    → (unwrap_or name empty).now ≡ root_of sources
-root_is [] None empty e h = e
-root_is [] (Some first) empty e h = cc
-root_is (s ∷ sources) None empty e h = cc
-root_is (s ∷ sources) (Some first) empty e h = same_Some first.now s.name h
+-- the root has the name of the first source
+pub first_root : (sources : List Source) (root : List ℕ) → Some root ≡ option_map (λ (s : Source). s.name) (slice_get sources 0) → root ≡ root_of sources
+first_root [] root h = cc
+first_root (s ∷ sources) root h = same_Some root s.name h

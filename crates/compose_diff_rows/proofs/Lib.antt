@@ -2,3 +2,4 @@ pub mod Leaves
 pub mod RowsSoFar
 pub mod FirstRead
 pub mod Joining
+pub mod RowsAre

@@ -1,19 +1,20 @@
 -- A row of each kind, and the rows so far.
-use Rattle.std.proofs.Common.{◌≡◌, ℕ, ◌+◌, ◌<◌, List, [], ◌∷◌, ◌++◌, Bool, true, false, cond, length, map, take, get_or, refl, sym, ◌∙◌, ap, ap₂, append_assoc}
+use Rattle.std.proofs.Common.{◌≡◌, ℕ, suc, ◌+◌, ◌<◌, List, [], ◌∷◌, ◌++◌, Bool, true, false, cond, not, length, map, take, get_or, refl, sym, ◌∙◌, ap, ap₂, append_assoc, arith}
 use Rattle.std.specs.Prelude.{Option, Some, None, filter}
-use Rattle.std.specs.Option.{option_map, option_map_or}
+use Rattle.std.specs.Option.{option_map, option_map_or, option_and_then}
 use Rattle.std.proofs.lemmas.List.{take_more, get_or-map, map-append, append-nil}
 use Rattle.std.proofs.lemmas.List.Elements.{filter-append}
 use Rattle.std.proofs.lemmas.Option.{same_Some}
+use Rattle.std.proofs.lemmas.Simd.{map-map}
 use Rattle.keysym_core.specs.Names.{KeysymNames}
 use Rattle.compose_model.specs.Table.{Definition, is_sequence}
 use Rattle.compose_model.specs.Nodes.{leaves}
 use Rattle.compose_tree.specs.Targets.{leaf_number}
-use Rattle.compose_places.specs.Counting.{WrittenLine}
+use Rattle.compose_places.specs.Counting.{WrittenLine, sequence_named, AreLines}
 use Rattle.compose_compare.specs.declared.Change.{Change}
 use Rattle.compose_compare.specs.Change.{change, old_changes, new_changes}
-use Rattle.compose_diff_rows.specs.Rows.{ToldEntry, ToldRow, Written, line_of, keys_of, entry_at, entry_of, row_of}
-use Rattle.compose_diff_rows.proofs.Leaves.{number_of_leaf, leaf_there, leaf_at_number}
+use Rattle.compose_diff_rows.specs.Rows.{ToldEntry, ToldRow, Written, line_of, keys_of, entry_at, entry_of, row_of, told_of, new_told, old_row, new_row}
+use Rattle.compose_diff_rows.proofs.Leaves.{number_of_leaf, leaf_there, leaf_at_number, keys_there}
 
 -- ---- what a table has for a leaf
 
@@ -35,17 +36,67 @@ module _ (w : Written) (i : ℕ) (below : i < length (leaves w.table)) where
 pub no_entry : (w : Written) (s : List ℕ) → is_sequence w.table s ≡ false → None ≡ entry_of w s
 no_entry w s h = sym (ap (λ b. cond b (option_map (entry_at w s) (line_of w s)) None) h)
 
--- ---- a row of each kind
+-- ---- the rows of what is told
 
-module _ (names : KeysymNames) (fresh : List ℕ) (old new : Written) (s : List ℕ) where
-  module _ (told : ToldRow) (what : told.change ≡ change names fresh old.table new.table s) (second : told.new ≡ entry_of new s) where
-    -- the row of a sequence of the old table
-    pub old_row_is : is_sequence old.table s ≡ true → told.keys ≡ keys_of old s → told.old ≡ entry_of old s → told ≡ row_of names fresh old new s
-    old_row_is h keys first = λ i. record { change = what i; keys = (keys ∙ ap (λ b. keys_of (cond b old new) s) (sym h)) i; old = first i; new = second i }
+module _ (names : KeysymNames) (fresh : List ℕ) (old new : Written) where
+  -- of a sequence of the old table whose keys its line writes
+  old_row_is : (s : List ℕ) → is_sequence old.table s ≡ true → sequence_named names (keys_of old s) ≡ Some s
+      → old_row names new (told_of names fresh old new old s) ≡ row_of names fresh old new s
+  old_row_is s h named = λ i. record {
+    change = change names fresh old.table new.table s;
+    keys = (ap (λ b. keys_of (cond b old new) s) (sym h)) i;
+    old = entry_of old s;
+    new = (ap (option_and_then (entry_of new)) named) i;
+  }
 
-    -- the row of a sequence that the new table alone has
-    pub new_row_is : is_sequence old.table s ≡ false → told.keys ≡ keys_of new s → told.old ≡ None → told ≡ row_of names fresh old new s
-    new_row_is h keys first = λ i. record { change = what i; keys = (keys ∙ ap (λ b. keys_of (cond b old new) s) (sym h)) i; old = (first ∙ no_entry old s h) i; new = second i }
+  -- of one that the new table alone has
+  new_row_is : (s : List ℕ) → is_sequence old.table s ≡ false → new_row (told_of names fresh old new new s) ≡ row_of names fresh old new s
+  new_row_is s h = λ i. record {
+    change = change names fresh old.table new.table s;
+    keys = (ap (λ b. keys_of (cond b old new) s) (sym h)) i;
+    old = (no_entry old s h) i;
+    new = entry_of new s;
+  }
+
+  -- of all that are told of the old table
+  module _ (test : List ℕ → Bool) where
+    abbrev made : List ℕ → ToldRow
+    made s = old_row names new (told_of names fresh old new old s)
+
+    along : (xs : List (List ℕ)) → ((i : ℕ) → i < length xs → (is_sequence old.table (get_or xs i []) ≡ true) × (sequence_named names (keys_of old (get_or xs i [])) ≡ Some (get_or xs i [])))
+        → map made (filter test xs) ≡ map (row_of names fresh old new) (filter test xs)
+    along [] f = refl
+    along (x ∷ xs) f = go (test x) (let here = f 0 (omega arith) in old_row_is x here.0 here.1) (along xs (λ i h. f (suc i) (omega (arith, h))))
+      where
+        go : (b : Bool) → made x ≡ row_of names fresh old new x → map made (filter test xs) ≡ map (row_of names fresh old new) (filter test xs)
+            → map made (cond b (x ∷ filter test xs) (filter test xs)) ≡ map (row_of names fresh old new) (cond b (x ∷ filter test xs) (filter test xs))
+        go true e others = ap₂ (λ y ys. y ∷ ys) e others
+        go false e others = others
+
+    -- where each line writes the keys of its sequence
+    pub old_rows_are : AreLines names old.table old.lines
+        → map (old_row names new) (map (told_of names fresh old new old) (filter test (leaves old.table))) ≡ map (row_of names fresh old new) (filter test (leaves old.table))
+    old_rows_are are =
+        map-map (old_row names new) (told_of names fresh old new old) (filter test (leaves old.table))
+        ∙ along (leaves old.table) (λ i h. (leaf_there old.table i h, ap (sequence_named names) (keys_of_leaf old i h) ∙ keys_there old.table names old.lines are i h))
+
+  -- and of all that the new table alone has
+  pub new_rows_are : map new_row (map (told_of names fresh old new new) (new_told old.table new.table)) ≡ map (row_of names fresh old new) (new_told old.table new.table)
+  new_rows_are = map-map new_row (told_of names fresh old new new) (new_told old.table new.table) ∙ go (leaves new.table)
+    where
+      go : (xs : List (List ℕ))
+          → map (λ s. new_row (told_of names fresh old new new s)) (filter (λ s. not (is_sequence old.table s)) xs)
+          ≡ map (row_of names fresh old new) (filter (λ s. not (is_sequence old.table s)) xs)
+      go [] = refl
+      go (x ∷ xs) = by_test (is_sequence old.table x) refl (go xs)
+        where
+          by_test : (b : Bool) → is_sequence old.table x ≡ b
+              → map (λ s. new_row (told_of names fresh old new new s)) (filter (λ s. not (is_sequence old.table s)) xs)
+              ≡ map (row_of names fresh old new) (filter (λ s. not (is_sequence old.table s)) xs)
+              → map (λ s. new_row (told_of names fresh old new new s)) (cond (not b) (x ∷ filter (λ s. not (is_sequence old.table s)) xs) (filter (λ s. not (is_sequence old.table s)) xs))
+              ≡ map (row_of names fresh old new) (cond (not b) (x ∷ filter (λ s. not (is_sequence old.table s)) xs) (filter (λ s. not (is_sequence old.table s)) xs))
+          by_test true h others = others
+          by_test false h others = ap₂ (λ y ys. y ∷ ys) (new_row_is x h) others
 
 -- what a table has for a leaf without a line, and with one
 module _ (w : Written) (i : ℕ) (below : i < length (leaves w.table)) where
@@ -65,20 +116,11 @@ entry_numbered w s n o h e told = told ∙ ap (λ m. entry_of w (get_or (leaves 
 
 -- ---- the rows so far
 
-one_more : {X Y : Type 0} (f : X → Y) (xs : List X) (i : ℕ) (d : X) → i < length xs → map f (take (i + 1) xs) ≡ map f (take i xs) ++ f (get_or xs i d) ∷ []
-one_more f xs i d h = ap (map f) (take_more xs i d h) ∙ map-append f (take i xs) (get_or xs i d ∷ [])
-
--- each leaf has its row
-pub row_added : {R : Type 0} (told : R → ToldRow) (row_for : List ℕ → ToldRow) (xs : List (List ℕ)) (i : ℕ) → i < length xs → (rows : List R) (row : R)
-    → map told rows ≡ map row_for (take i xs) → told row ≡ row_for (get_or xs i []) → map told (rows ++ row ∷ []) ≡ map row_for (take (i + 1) xs)
-row_added told row_for xs i h rows row so_far is =
-    map-append told rows (row ∷ []) ∙ ap₂ (λ ts t. ts ++ t ∷ []) so_far is ∙ sym (one_more row_for xs i [] h)
-
-module _ (test : List ℕ → Bool) (row_for : List ℕ → ToldRow) (xs : List (List ℕ)) (i : ℕ) (h : i < length xs) where
+module _ {Y : Type 0} (test : List ℕ → Bool) (row_for : List ℕ → Y) (xs : List (List ℕ)) (i : ℕ) (h : i < length xs) where
   with_next : filter test (take (i + 1) xs) ≡ filter test (take i xs) ++ cond (test (get_or xs i [])) (get_or xs i [] ∷ []) []
   with_next = ap (filter test) (take_more xs i [] h) ∙ filter-append test (take i xs) (get_or xs i [] ∷ [])
 
-  module _ {R : Type 0} (told : R → ToldRow) (before : List ToldRow) (rows : List R) (so_far : map told rows ≡ before ++ map row_for (filter test (take i xs))) where
+  module _ {R : Type 0} (told : R → Y) (before : List Y) (rows : List R) (so_far : map told rows ≡ before ++ map row_for (filter test (take i xs))) where
     -- a leaf that is told
     pub told_added : (row : R) → test (get_or xs i []) ≡ true → told row ≡ row_for (get_or xs i [])
         → map told (rows ++ row ∷ []) ≡ before ++ map row_for (filter test (take (i + 1) xs))
@@ -122,3 +164,9 @@ pub old_change_at : (names : KeysymNames) (fresh : List ℕ) (old new : List Def
     → changes ≡ old_changes names fresh old new → (i : ℕ) (d : Change) → i < length (leaves old)
     → get_or changes i d ≡ change names fresh old new (get_or (leaves old) i [])
 old_change_at names fresh old new changes all i d h = ap (λ cs. get_or cs i d) all ∙ get_or-map (λ s. change names fresh old new s) (leaves old) i [] d h
+
+-- what a table has for the sequence of names, or nothing where these have none
+pub entry_by_name : (w : Written) (o : Option (List ℕ)) (found : Option ToldEntry) → (o ≡ None → found ≡ None) → ((s : List ℕ) → o ≡ Some s → found ≡ entry_of w s)
+    → found ≡ option_and_then (entry_of w) o
+entry_by_name w None found none some = none refl
+entry_by_name w (Some s) found none some = some s refl

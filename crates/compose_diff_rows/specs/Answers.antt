@@ -1,5 +1,5 @@
 -- What `diff` answers on two tables in their sources and on the changes that are meant (this project's profile).
-use Rattle.std.specs.Prelude.{◌≡◌, ℕ, true, false, not, List, [], ◌∷◌, map, Result, Ok, Err, string_bytes, IsTrue}
+use Rattle.std.specs.Prelude.{◌≡◌, ℕ, Bool, true, false, not, List, [], ◌∷◌, ◌++◌, map, Result, Ok, Err, string_bytes, IsTrue}
 use Rattle.std.specs.Option.{option_map_or}
 use Rattle.std.specs.Ordering.{nat_cmp}
 use Rattle.std.specs.List.Sorted.{IsPermutation}
@@ -25,7 +25,7 @@ use Rattle.compose_diff.specs.Order.{AreInOrder}
 use Rattle.compose_diff.specs.Told.{answer_text}
 use Rattle.compose_diff.specs.declared.accepted.AcceptFault.TheVariants.{Stale, BadLine, NoMemory}
 use Rattle.compose_diff.specs.declared.row.DiffRow.{DiffRow}
-use Rattle.compose_diff_rows.specs.Rows.{Written, told_row, rows_of}
+use Rattle.compose_diff_rows.specs.Rows.{Written, told_row, told_rows, kept_rows}
 use Rattle.compose_diff_rows.specs.declared.asking.Form.{Form}
 use Rattle.compose_diff_rows.specs.declared.asking.Form.TheVariants.{Folded, Lines, Json, AcceptList}
 use Rattle.compose_diff_rows.specs.declared.asking.DiffInput.{DiffInput}
@@ -84,14 +84,23 @@ old_written asked e = written_in e.move.names asked.migration.old.sources asked.
 abbrev pub new_written : Asked → Explainable → Written
 new_written asked e = written_in e.move.names asked.migration.new.sources asked.new_paths e.move.new
 
--- rows, each once, in the order in which they are told
-pub record AreSorted (names : KeysymNames) (fresh : List ℕ) (old new : Written) (rows : List DiffRow) : Type 0 where
-  pub each : IsPermutation (rows_of names fresh old new) (map told_row rows)
-  pub sorted : AreInOrder rows
+-- rows: those that are told, each once, in the order in which they are told; and then the kept ones, where these are not told
+pub record AreSorted (whole : Bool) (names : KeysymNames) (fresh : List ℕ) (old new : Written) (rows : List DiffRow) : Type 0 where
+  pub told : List DiffRow
+  pub kept : List DiffRow
+  pub both : rows ≡ told ++ kept
+  pub each : IsPermutation (told_rows whole names fresh old new) (map told_row told)
+  pub sorted : AreInOrder told
+  pub others : map told_row kept ≡ kept_rows whole names fresh old new
+
+-- whether kept sequences are told too
+abbrev pub tells_kept : Form → Bool
+tells_kept Json = true
+tells_kept _ = false
 
 -- the rows of both tables
 abbrev pub AreRows : Asked → Explainable → List DiffRow → Type 0
-AreRows asked e rows = AreSorted e.move.names e.fresh (old_written asked e) (new_written asked e) rows
+AreRows asked e rows = AreSorted (tells_kept asked.form) e.move.names e.fresh (old_written asked e) (new_written asked e) rows
 
 -- ---- the answer
 

@@ -1,15 +1,17 @@
 -- What is told of two tables: a row for each sequence of either.
-use Rattle.std.specs.Prelude.{ℕ, not, if◌then◌else◌, List, [], ◌++◌, map, filter, get_or, Option, None, unwrap_or}
-use Rattle.std.specs.Option.{option_map, option_map_or}
+use Rattle.std.specs.Prelude.{ℕ, Bool, true, not, if◌then◌else◌, List, [], ◌++◌, map, filter, get_or, Option, None, unwrap_or}
+use Rattle.std.specs.Option.{option_map, option_map_or, option_and_then}
 use Rattle.keysym_core.specs.Names.{KeysymNames}
 use Rattle.compose_model.specs.Table.{Definition, is_sequence, text_at}
 use Rattle.compose_model.specs.Nodes.{leaves}
 use Rattle.compose_tree.specs.Targets.{leaf_number}
-use Rattle.compose_places.specs.Counting.{WrittenLine}
+use Rattle.compose_places.specs.Counting.{WrittenLine, sequence_named}
 use Rattle.compose_compare.specs.declared.Change.{Change}
+use Rattle.compose_compare.specs.declared.Change.TheVariants.{Kept}
 use Rattle.compose_compare.specs.Change.{change}
 use Rattle.compose_diff.specs.declared.row.Entry.{Entry}
 use Rattle.compose_diff.specs.declared.row.DiffRow.{DiffRow}
+use Rattle.compose_diff_rows.specs.declared.told.ToldSequence.{ToldSequence}
 use Rattle.compose_diff_rows.specs.declared.written.WrittenTable.{WrittenTable}
 
 -- ---- rows as values
@@ -71,10 +73,52 @@ row_of names fresh old new s = record {
   new = entry_of new s;
 }
 
--- each sequence of the old table in its order, and then each that the new one alone has
-abbrev pub all_sequences : List Definition → List Definition → List (List ℕ)
-all_sequences old new = leaves old ++ filter (λ s. not (is_sequence old s)) (leaves new)
+-- ---- which are told
 
--- a row for each
-abbrev pub rows_of : KeysymNames → List ℕ → Written → Written → List ToldRow
-rows_of names fresh old new = map (row_of names fresh old new) (all_sequences old.table new.table)
+-- whether a row is told of a sequence of the old table: of a kept one only where all rows are asked for
+abbrev pub is_told : Bool → Change → Bool
+is_told whole Kept = whole
+is_told whole _ = true
+
+abbrev pub is_told_of : Bool → KeysymNames → List ℕ → List Definition → List Definition → List ℕ → Bool
+is_told_of whole names fresh old new s = is_told whole (change names fresh old new s)
+
+-- the sequences of the old table of which a row is told, in its order, and those that the new one alone has
+abbrev pub old_told : Bool → KeysymNames → List ℕ → List Definition → List Definition → List (List ℕ)
+old_told whole names fresh old new = filter (is_told_of whole names fresh old new) (leaves old)
+
+abbrev pub new_told : List Definition → List Definition → List (List ℕ)
+new_told old new = filter (λ s. not (is_sequence old s)) (leaves new)
+
+-- a row for each of them
+abbrev pub told_rows : Bool → KeysymNames → List ℕ → Written → Written → List ToldRow
+told_rows whole names fresh old new = map (row_of names fresh old new) (old_told whole names fresh old.table new.table) ++ map (row_of names fresh old new) (new_told old.table new.table)
+
+-- of a kept sequence that is not told only where it is in the old table
+abbrev pub kept_row : Written → List ℕ → ToldRow
+kept_row old s = record { change = Kept; keys = []; old = entry_of old s; new = None }
+
+abbrev pub kept_rows : Bool → KeysymNames → List ℕ → Written → Written → List ToldRow
+kept_rows whole names fresh old new = map (kept_row old) (filter (λ s. not (is_told_of whole names fresh old.table new.table s)) (leaves old.table))
+
+-- ---- in words for private functions
+
+-- what is told of a sequence by its table: what happens to it, the names of its keys, and what the table has for it
+pub record Told : Type 0 where
+  pub change : Change
+  pub keys : List (List ℕ)
+  pub entry : Option ToldEntry
+
+abbrev pub told_sequence : ToldSequence → Told
+told_sequence told = record { change = told.change; keys = map (λ key. key.now) told.keys.items; entry = option_map told_entry told.entry }
+
+-- of the sequence of one of the two tables
+abbrev pub told_of : KeysymNames → List ℕ → Written → Written → Written → List ℕ → Told
+told_of names fresh old new w s = record { change = change names fresh old.table new.table s; keys = keys_of w s; entry = entry_of w s }
+
+-- the row of a sequence of the old table, which the new one has or not, and of one that the new table alone has
+abbrev pub old_row : KeysymNames → Written → Told → ToldRow
+old_row names new told = record { change = told.change; keys = told.keys; old = told.entry; new = option_and_then (entry_of new) (sequence_named names told.keys) }
+
+abbrev pub new_row : Told → ToldRow
+new_row told = record { change = told.change; keys = told.keys; old = None; new = told.entry }

@@ -3,6 +3,7 @@ use Rattle.std.specs.Prelude.{◌≡◌, ℕ, List, Result, Ok, Err, IsTrue}
 use Rattle.std.specs.declared.vec.Vec.{Vec}
 use Rattle.std.specs.declared.alloc.Global.{Global}
 use Rattle.compose_model.specs.Certificate.{keys_rise}
+use Rattle.compose_model.specs.Table.{Definition}
 use Rattle.compose_migration.specs.Migration.{Parts}
 use Rattle.compose_tool.specs.Parts.{Explainable}
 use Rattle.compose_tool.specs.Refused.{IsRefused}
@@ -14,6 +15,7 @@ use Rattle.compose_diff.specs.declared.accepted.AcceptFault.TheVariants.{Stale, 
 use Rattle.compose_diff.specs.declared.row.DiffRow.{DiffRow}
 use Rattle.compose_diff_rows.specs.Answers.{Asked, compared, AreRows, IsTold}
 use Rattle.compose_diff_rows.specs.declared.asking.Form.{Form}
+use Rattle.compose_diff_rows.specs.declared.placed.PlacedMigration.{PlacedMigration}
 use Rattle.compose_diff_rows.specs.declared.asking.DiffFault.{DiffFault}
 use Rattle.compose_diff_rows.specs.declared.asking.DiffFault.TheVariants.{Input, Accept}
 
@@ -22,6 +24,10 @@ abbrev pub accept_raised : AcceptFault → DiffFault
 accept_raised (Stale n) = Accept (Stale n)
 accept_raised (BadLine n) = Accept (BadLine n)
 accept_raised NoMemory = Input refusals.NoMemory
+
+-- what is read of a migration, seen as values
+abbrev pub placed_parts : {T : Type 0} → (T → List Definition) → PlacedMigration T → Parts
+placed_parts view m = record { names = m.names; keys = m.keys.items; old = view m.old.table; new = view m.new.table }
 
 -- the fresh keysyms of what is compared, which rise; or the condition that they do not meet
 abbrev pub GivesFresh : Parts → Result (Vec ℕ Global) DiffFault → Type 0

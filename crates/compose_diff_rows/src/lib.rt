@@ -1,6 +1,6 @@
 //! From two tables to the rows of `diff`: each sequence of either, what happens to it, its keys as they are written, and where its definitions stand.
 //!
-//! [`diff_rows`] gives the rows of two tables. [`diff_migration`] reads both from their sources and answers.
+//! [`diff_migration`] reads both tables from their sources and answers. Where kept sequences aren't told, nothing is written for them but where they are.
 //!
 //! ```text
 //! old  1  <Multi_key> <e> : "é"     # changed: <Multi_key> <e> "é" "è" old:1 new:2
@@ -9,11 +9,11 @@
 #![tactic(auto)]
 
 mod asking;
+mod placed;
 mod rows;
 mod telling;
+mod told;
 mod written;
 
 pub use asking::{DiffFault, DiffInput, Form};
-pub use rows::diff_rows;
 pub use telling::diff_migration;
-pub use written::WrittenTable;

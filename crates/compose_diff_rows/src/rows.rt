@@ -1,154 +1,61 @@
 //! The rows of two tables.
-ghost use Rattle.std.specs.Prelude.{◌≡◌, ◌<◌, ◌≤◌, ◌++◌, ℕ, List, [], map, length, filter, not, get_or, Some, None, false, option_copied, IsTrue, IfOk, OnOk};
-ghost use Rattle.std.specs.Option.{option_map, option_map_or};
+ghost use Rattle.std.specs.Prelude.{◌≡◌, ◌≤◌, ◌<◌, ◌++◌, ℕ, List, [], map, length, get_or, IfOk, OnOk};
+ghost use Rattle.std.specs.Option.{option_map, option_and_then};
 ghost use Rattle.keysym_core.specs.Names.{KeysymNames};
-ghost use Rattle.compose_model.specs.Table.{is_sequence};
 ghost use Rattle.compose_model.specs.Nodes.{leaves};
-ghost use Rattle.compose_model.specs.Certificate.{keys_rise};
-ghost use Rattle.compose_compare.specs.Change.{old_changes, new_changes};
-ghost use Rattle.compose_compare.specs.Change as changes;
-ghost use Rattle.compose_places.specs.Counting.{AreLines, sequence_named};
+ghost use Rattle.compose_compare.specs.Change.{old_changes};
+ghost use Rattle.compose_diff.specs.declared.row.DiffRow.{DiffRow};
+ghost use Rattle.compose_places.specs.Counting.{sequence_named};
 ghost use Rattle.compose_diff_rows.specs.Rows as words;
-ghost use Rattle.compose_diff_rows.specs.Rows.{Written, told_entry, told_row, row_of, rows_of};
+ghost use Rattle.compose_diff_rows.specs.Rows.{Written, told_entry, told_row, told_sequence, kept_rows};
 
+use crate::told::{ToldSequence, entry_at, is_told};
 use crate::written::WrittenTable;
-use compose_compare::{Change, compare};
+use compose_compare::Change;
 use compose_diff::{DiffRow, Entry};
-use compose_places::{CountingLine, leaf_named};
+use compose_places::leaf_named;
 use compose_tree::{ComposeTable, LeafId};
-use keysym_core::{Keysym, Names};
+use keysym_core::Names;
 use std::alloc::{AllocError, Global};
 
-/// The rows of two tables: one for each sequence of the old table in its order, then one for each that the new table alone has, in the order of that.
-/// A row tells what happens to its sequence ([`compare`]), the names of its keys as the line writes them that counts in the old table, or in the new
-/// one where that alone has it, and for each table that has it the text and the place of the line that counts there.
-///
-/// O(edges of both tables × log edges of a node + keys of all sequences × log edges) time, and memory for the rows.
-pub fn diff_rows<'a, T: ComposeTable, U: ComposeTable>(
+/// The rows of these sequences of the old table, and then of these ones that the new table alone has, each with the text and the place that
+/// either table has for it. O(keys of all sequences × log edges of a node).
+pub(crate) fn told_rows<'a, T: ComposeTable>(
     alloc: Global,
     names: &Names,
-    fresh: &[Keysym],
-    old: &WrittenTable<'a, T>,
-    new: &WrittenTable<'a, U>,
+    of_old: &'a [ToldSequence<'a>],
+    of_new: &'a [ToldSequence<'a>],
+    new: &WrittenTable<'a, T>,
 ) -> Result<Vec<DiffRow<'a>>, AllocError>
-    requires rise { IsTrue (keys_rise fresh.now) }
-    requires old_lines { AreLines names.now (T.definitions old.now.table.now) old.now.lines.now }
     ensures { IfOk result
         (λ rows. map told_row rows.items
-        ≡ rows_of names.now fresh.now (words.written T.definitions old.now)
-        (words.written U.definitions new.now)) }
+        ≡ map (words.old_row names.now (words.written T.definitions new.now))
+        (map told_sequence of_old.now)
+        ++ map words.new_row (map told_sequence of_new.now)) }
 {
-    let comparison = compare(alloc, old.table, new.table, names, fresh)?;
-    let mut rows = old_rows(alloc, names, comparison.old_changes(), old, new)?;
-    add_new_rows(&mut rows, comparison.new_changes(), new)?;
-    Ok(rows)
-}
-
-/// The rows of the sequences of the old table, in its order, to which these things happen.
-fn old_rows<'a, T: ComposeTable, U: ComposeTable>(
-    alloc: Global,
-    names: &Names,
-    changes: &[Change],
-    old: &WrittenTable<'a, T>,
-    new: &WrittenTable<'a, U>,
-) -> Result<Vec<DiffRow<'a>>, AllocError>
-    requires fits { length changes.now ≡ length (leaves (T.definitions old.now.table.now)) }
-    requires old_lines { AreLines names.now (T.definitions old.now.table.now) old.now.lines.now }
-    ensures { (fresh : List ℕ)
-        → changes.now
-        ≡ old_changes names.now fresh (T.definitions old.now.table.now)
-        (U.definitions new.now.table.now)
-        → IfOk result
-        (λ rows. map told_row rows.items
-        ≡ map
-        (row_of names.now fresh (words.written T.definitions old.now)
-        (words.written U.definitions new.now))
-        (leaves (T.definitions old.now.table.now))) }
-{
-    let mut rows = Vec::with_capacity(alloc, changes.len())?;
-    for leaf in 0..old.table.leaf_count() {
-        let change = changes[leaf as usize];
-        rows.push(old_row(names, LeafId(leaf), change, old, new))?;
+    let mut rows = Vec::with_capacity(alloc, of_old.len())?;
+    for told in of_old {
+        rows.push(old_row(names, told, new))?;
     }
+    add_new_rows(&mut rows, of_new)?;
     Ok(rows)
 }
 
-/// The row of a sequence of the old table, to which this happens.
-fn old_row<'a, T: ComposeTable, U: ComposeTable>(
+/// The row of a sequence of the old table.
+fn old_row<'a, T: ComposeTable>(
     names: &Names,
-    leaf: LeafId,
-    change: Change,
-    old: &WrittenTable<'a, T>,
-    new: &WrittenTable<'a, U>,
+    told: &'a ToldSequence<'a>,
+    new: &WrittenTable<'a, T>,
 ) -> DiffRow<'a>
-    requires within { leaf.0 < length (leaves (T.definitions old.now.table.now)) }
-    requires old_lines { AreLines names.now (T.definitions old.now.table.now) old.now.lines.now }
-    ensures { (fresh : List ℕ)
-        → change
-        ≡ changes.change names.now fresh (T.definitions old.now.table.now)
-        (U.definitions new.now.table.now)
-        (get_or (leaves (T.definitions old.now.table.now)) leaf.0 [])
-        → told_row result
-        ≡ row_of names.now fresh (words.written T.definitions old.now)
-        (words.written U.definitions new.now)
-        (get_or (leaves (T.definitions old.now.table.now)) leaf.0 []) }
+    ensures { told_row result
+        ≡ words.old_row names.now (words.written T.definitions new.now) (told_sequence told.now) }
 {
-    let keys = keys_at(old, leaf);
+    let keys = told.keys.as_slice();
     DiffRow {
-        change,
+        change: told.change,
         keys,
-        old: entry_at(old, leaf),
+        old: told.entry,
         new: entry_named(names, keys, new),
-    }
-}
-
-/// Adds the rows of the sequences that the new table alone has, in its order.
-fn add_new_rows<'a, T: ComposeTable>(
-    rows: &mut Vec<DiffRow<'a>>,
-    changes: &[Option<Change>],
-    new: &WrittenTable<'a, T>,
-) -> Result<(), AllocError>
-    requires fits { length changes.now ≡ length (leaves (T.definitions new.now.table.now)) }
-    ensures { (names : KeysymNames) (fresh : List ℕ) (old : Written)
-        → changes.now
-        ≡ new_changes names fresh old.table (T.definitions new.now.table.now)
-        → OnOk result
-        (map told_row rows.new.items
-        ≡ map told_row rows.old.items
-        ++ map (row_of names fresh old (words.written T.definitions new.now))
-        (filter (λ s. not (is_sequence old.table s))
-        (leaves (T.definitions new.now.table.now)))) }
-{
-    for leaf in 0..new.table.leaf_count() {
-        if let Some(change) = changes[leaf as usize] {
-            rows.push(new_row(LeafId(leaf), change, new))?;
-        }
-    }
-    Ok(())
-}
-
-/// The row of a sequence that the new table alone has, to which this happens.
-fn new_row<'a, T: ComposeTable>(
-    leaf: LeafId,
-    change: Change,
-    new: &WrittenTable<'a, T>,
-) -> DiffRow<'a>
-    requires within { leaf.0 < length (leaves (T.definitions new.now.table.now)) }
-    ensures { (names : KeysymNames) (fresh : List ℕ) (old : Written)
-        → is_sequence old.table (get_or (leaves (T.definitions new.now.table.now)) leaf.0 [])
-        ≡ false
-        → change
-        ≡ changes.change names fresh old.table (T.definitions new.now.table.now)
-        (get_or (leaves (T.definitions new.now.table.now)) leaf.0 [])
-        → told_row result
-        ≡ row_of names fresh old (words.written T.definitions new.now)
-        (get_or (leaves (T.definitions new.now.table.now)) leaf.0 []) }
-{
-    DiffRow {
-        change,
-        keys: keys_at(new, leaf),
-        old: None,
-        new: entry_at(new, leaf),
     }
 }
 
@@ -159,60 +66,69 @@ fn entry_named<'a, T: ComposeTable>(
     written: &WrittenTable<'a, T>,
 ) -> Option<Entry<'a>>
     requires few { length keys.now ≤ 32 }
-    ensures { (s : List ℕ)
-        → sequence_named names.now (map (λ key. key.now) keys.now) ≡ Some s
-        → option_map told_entry result
-        ≡ words.entry_of (words.written T.definitions written.now) s }
+    ensures { option_map told_entry result
+        ≡ option_and_then (words.entry_of (words.written T.definitions written.now))
+        (sequence_named names.now (map (λ key. key.now) keys.now)) }
 {
     let leaf = leaf_named(names, written.table, keys)?;
     entry_at(written, leaf)
 }
 
-/// What a table has for the sequence of this leaf.
-fn entry_at<'a, T: ComposeTable>(written: &WrittenTable<'a, T>, leaf: LeafId) -> Option<Entry<'a>>
-    requires { leaf.0 < length (leaves (T.definitions written.now.table.now)) }
-    ensures { option_map told_entry result
-        ≡ words.entry_of (words.written T.definitions written.now)
-        (get_or (leaves (T.definitions written.now.table.now)) leaf.0 []) }
+/// Adds the rows of sequences that the new table alone has.
+fn add_new_rows<'a>(
+    rows: &mut Vec<DiffRow<'a>>,
+    told: &'a [ToldSequence<'a>],
+) -> Result<(), AllocError>
+    ensures { OnOk result
+        (map told_row rows.new.items
+        ≡ map told_row rows.old.items ++ map words.new_row (map told_sequence told.now)) }
 {
-    let line = line_at(written, leaf)?;
-    let place = line.place();
-    Some(Entry {
-        text: written.table.text(leaf),
-        source: place.source,
-        path: path_at(written.paths, place.source),
-        line: place.line,
-    })
-}
-
-/// The names of the keys of this leaf, as the line writes them that counts; none without a line.
-fn keys_at<'a, T: ComposeTable>(written: &WrittenTable<'a, T>, leaf: LeafId) -> &'a [&'a str]
-    ensures names { map (λ key. key.now) result.now
-        ≡ option_map_or (λ line. line.keys) (get_or written.now.lines.now leaf.0 None) [] }
-    ensures few { length result.now ≤ 32 }
-{
-    match line_at(written, leaf) {
-        Some(line) => line.keys(),
-        None => &[],
+    for sequence in told {
+        rows.push(DiffRow {
+            change: sequence.change,
+            keys: sequence.keys.as_slice(),
+            old: None,
+            new: sequence.entry,
+        })?;
     }
+    Ok(())
 }
 
-/// The line that counts for this leaf, if there is one.
-fn line_at<'a, T: ComposeTable>(
-    written: &WrittenTable<'a, T>,
-    leaf: LeafId,
-) -> Option<&'a CountingLine<'a>>
-    ensures { option_copied result ≡ get_or written.now.lines.now leaf.0 None }
+/// Adds the rows of the kept sequences of the old table, in its order, where these are not told: of each only where it is in the old table.
+/// `changes` says what happens to all its sequences. O(sequences).
+pub(crate) fn add_kept_rows<'a, T: ComposeTable>(
+    rows: &mut Vec<DiffRow<'a>>,
+    whole: bool,
+    changes: &[Change],
+    old: &WrittenTable<'a, T>,
+) -> Result<(), AllocError>
+    requires fits { length changes.now ≡ length (leaves (T.definitions old.now.table.now)) }
+    ensures { (names : KeysymNames) (fresh : List ℕ) (new : Written)
+        → changes.now ≡ old_changes names fresh (T.definitions old.now.table.now) new.table
+        → OnOk result
+        ((kept : List DiffRow) × (rows.new.items ≡ rows.old.items ++ kept)
+        × (map told_row kept
+        ≡ kept_rows whole names fresh (words.written T.definitions old.now) new)) }
 {
-    written.lines.get(leaf.0 as usize)?.as_ref()
+    for leaf in 0..old.table.leaf_count() {
+        if !is_told(whole, changes[leaf as usize]) {
+            rows.push(kept_row(LeafId(leaf), old))?;
+        }
+    }
+    Ok(())
 }
 
-/// The path at this index, if there is one, and else an empty one.
-fn path_at<'a>(paths: &[&'a str], index: usize) -> &'a str
-    ensures { result.now ≡ get_or (map (λ path. path.now) paths.now) index [] }
+/// The row of a kept sequence that is not told.
+fn kept_row<'a, T: ComposeTable>(leaf: LeafId, old: &WrittenTable<'a, T>) -> DiffRow<'a>
+    requires { leaf.0 < length (leaves (T.definitions old.now.table.now)) }
+    ensures { told_row result
+        ≡ words.kept_row (words.written T.definitions old.now)
+        (get_or (leaves (T.definitions old.now.table.now)) leaf.0 []) }
 {
-    match paths.get(index) {
-        Some(path) => path,
-        None => "",
+    DiffRow {
+        change: Change::Kept,
+        keys: &[],
+        old: entry_at(old, leaf),
+        new: None,
     }
 }

@@ -1,26 +1,28 @@
 //! The answer of `diff`: both tables are read, and what happens to their sequences is told.
-ghost use Rattle.std.specs.Prelude.{◌≡◌, List, map, Ok, IfOk, IsTrue, string_bytes};
+ghost use Rattle.std.specs.Prelude.{◌≡◌, ◌++◌, List, map, Ok, IfOk, IsTrue, string_bytes};
+ghost use Rattle.std.specs.List.Sorted.{IsPermutation};
 ghost use Rattle.compose_model.specs.Certificate.{keys_rise};
 ghost use Rattle.compose_model.specs.Nodes.{leaves};
-ghost use Rattle.compose_migration.specs.MigrationGives.{parts};
-ghost use Rattle.compose_places.specs.Counting.{AreLines, counting_line, read_lines};
+ghost use Rattle.compose_places.specs.Counting.{counting_line, read_lines};
 ghost use Rattle.compose_tree.specs.TableGives.{first_table};
-ghost use Rattle.compose_diff_rows.specs.Answers.{AnswersDiff, AreSorted, IsTold, asked, form_text, root_of};
+ghost use Rattle.compose_diff_rows.specs.Answers as answers;
+ghost use Rattle.compose_diff_rows.specs.Answers.{AnswersDiff, IsTold, asked, form_text, root_of};
 ghost use Rattle.compose_diff_rows.specs.Rows as words;
-ghost use Rattle.compose_diff_rows.specs.Steps.{GivesFresh, TellsDiff, TellsRows};
+ghost use Rattle.compose_diff_rows.specs.Steps.{GivesFresh, TellsDiff, TellsRows, placed_parts};
 ghost use Rattle.compose_diff_rows.specs.declared.asking.Form.{Form};
+ghost use Rattle.compose_diff.specs.Order.{AreInOrder};
 ghost use Rattle.compose_diff.specs.declared.row.DiffRow.{DiffRow};
 
 use crate::asking::{DiffFault, DiffInput, Form};
-use crate::rows::diff_rows;
+use crate::placed::PlacedMigration;
+use crate::rows::{add_kept_rows, told_rows};
+use crate::told::{ToldSequence, told_of_new, told_of_old};
 use crate::written::WrittenTable;
+use compose_compare::compare;
 use compose_diff::{
     Accepted, DiffRow, accept_text, answer_diff, json_text, loses_nothing, sort_rows,
 };
 use compose_fresh::check_fresh;
-use compose_migration::Migration;
-use compose_places::{CountingLine, counting_lines};
-use compose_read::Sources;
 use compose_tool::{Answer, Refusal};
 use compose_tree::ComposeTable;
 use keysym_core::{Keysym, Names};
@@ -28,14 +30,15 @@ use std::alloc::{AllocError, Global};
 
 /// Tells what the new table does to each sequence of the old one, and what it adds; yes where nobody who types with the old table meets
 /// a change that is not accepted. The parts are read in the order names, key names, old table, new table, fresh keysyms, accepted
-/// changes; the first that is refused decides. At the cost of reading the tables, of `counting_lines` and of `diff_rows`.
+/// changes; the first that is refused decides. At the cost of reading the tables with their places (`read_placed_table`), of comparing them
+/// (`compare`), and of the rows that are told: O(r log r + keys of these rows × log edges of a node).
 pub fn diff_migration<T: ComposeTable>(
     alloc: Global,
     input: &DiffInput<'_, '_>,
 ) -> Result<Answer, DiffFault>
     ensures { AnswersDiff (asked input.now) result }
 {
-    let migration: Migration<T> = match Migration::read(alloc, &input.tables) {
+    let migration: PlacedMigration<T> = match PlacedMigration::read(alloc, &input.tables) {
         Ok(migration) => migration,
         Err(fault) => return Err(DiffFault::Input(Refusal::from(fault))),
     };
@@ -47,14 +50,14 @@ pub fn diff_migration<T: ComposeTable>(
 /// The fresh keysyms of a migration in rising order, each once, if the old table has none of them.
 fn fresh_keysyms<T: ComposeTable>(
     alloc: Global,
-    migration: &Migration<T>,
+    migration: &PlacedMigration<T>,
 ) -> Result<Vec<Keysym>, DiffFault>
-    ensures { GivesFresh (parts T.definitions migration.now) result }
+    ensures { GivesFresh (placed_parts T.definitions migration.now) result }
 {
     let mut fresh = Vec::from_slice(alloc, &migration.keys)?;
     fresh.sort()?;
     fresh.dedup();
-    match check_fresh(&migration.old, &fresh) {
+    match check_fresh(&migration.old.table, &fresh) {
         Some(fault) => Err(DiffFault::Input(Refusal::Fresh(fault))),
         None => Ok(fresh),
     }
@@ -64,65 +67,76 @@ fn fresh_keysyms<T: ComposeTable>(
 fn answer_tables<T: ComposeTable>(
     alloc: Global,
     input: &DiffInput<'_, '_>,
-    migration: &Migration<T>,
+    migration: &PlacedMigration<T>,
     fresh: &[Keysym],
     accepted: &Accepted<'_>,
 ) -> Result<Answer, DiffFault>
     requires rise { IsTrue (keys_rise fresh.now) }
     requires old_read { first_table migration.now.names input.now.tables.old.sources.now
-        input.now.tables.old.rule ≡ Ok (T.definitions migration.now.old) }
+        input.now.tables.old.rule ≡ Ok (T.definitions migration.now.old.table) }
+    requires old_lines { migration.now.old.lines.items
+        ≡ map
+        (counting_line migration.now.names
+        (read_lines input.now.tables.old.sources.now
+        (root_of input.now.tables.old.sources.now)))
+        (leaves (T.definitions migration.now.old.table)) }
+    requires new_lines { migration.now.new.lines.items
+        ≡ map
+        (counting_line migration.now.names
+        (read_lines input.now.tables.new.sources.now
+        (root_of input.now.tables.new.sources.now)))
+        (leaves (T.definitions migration.now.new.table)) }
     ensures { TellsDiff (asked input.now)
-        (record { move = parts T.definitions migration.now; fresh = fresh.now })
+        (record { move = placed_parts T.definitions migration.now; fresh = fresh.now })
         accepted.now result }
 {
-    let (names, tables) = (&migration.names, &input.tables);
-    let old_lines = first_lines(alloc, names, tables.old.sources, &migration.old)?;
-    let new_lines = first_lines(alloc, names, tables.new.sources, &migration.new)?;
+    let names = &migration.names;
     let old = WrittenTable {
-        table: &migration.old,
-        lines: &old_lines,
+        table: &migration.old.table,
+        lines: &migration.old.lines,
         paths: input.old_paths,
     };
     let new = WrittenTable {
-        table: &migration.new,
-        lines: &new_lines,
+        table: &migration.new.table,
+        lines: &migration.new.lines,
         paths: input.new_paths,
     };
-    let rows = sorted_rows(alloc, names, fresh, &old, &new)?;
+    let whole = tells_kept(input.form);
+    let comparison = compare(alloc, old.table, new.table, names, fresh)?;
+    let of_old = told_of_old(alloc, whole, comparison.old_changes(), &old)?;
+    let of_new = told_of_new(alloc, comparison.new_changes(), &new)?;
+    let mut rows = sorted_rows(alloc, names, &of_old, &of_new, &new)?;
+    add_kept_rows(&mut rows, whole, comparison.old_changes(), &old)?;
     answer_rows(alloc, &rows, accepted, input.form)
 }
 
-/// For each leaf of a table that is read from the first of the sources, the line that counts for its sequence.
-fn first_lines<'a, T: ComposeTable>(
-    alloc: Global,
-    names: &Names,
-    sources: &'a Sources,
-    table: &T,
-) -> Result<Vec<Option<CountingLine<'a>>>, AllocError>
-    ensures { IfOk result
-        (λ lines. lines.items
-        ≡ map (counting_line names.now (read_lines sources.now (root_of sources.now)))
-        (leaves (T.definitions table.now))) }
+/// Whether kept sequences are told too.
+fn tells_kept(form: Form) -> bool
+    ensures { result ≡ answers.tells_kept form }
 {
-    let root = sources.name(0).unwrap_or("");
-    counting_lines(alloc, names, sources, root, table)
+    match form {
+        Form::Json => true,
+        Form::Folded | Form::Lines | Form::AcceptList => false,
+    }
 }
 
-/// The rows of both tables, in the order in which they are told.
+/// The rows of these sequences of the old table, and of these ones that the new table alone has, in the order in which they are told.
 fn sorted_rows<'a, T: ComposeTable>(
     alloc: Global,
     names: &Names,
-    fresh: &[Keysym],
-    old: &WrittenTable<'a, T>,
+    of_old: &'a [ToldSequence<'a>],
+    of_new: &'a [ToldSequence<'a>],
     new: &WrittenTable<'a, T>,
 ) -> Result<Vec<DiffRow<'a>>, AllocError>
-    requires rise { IsTrue (keys_rise fresh.now) }
-    requires old_lines { AreLines names.now (T.definitions old.now.table.now) old.now.lines.now }
-    ensures { IfOk result
-        (λ rows. AreSorted names.now fresh.now (words.written T.definitions old.now)
-        (words.written T.definitions new.now) rows.items) }
+    ensures same { IfOk result
+        (λ rows. IsPermutation
+        (map (words.old_row names.now (words.written T.definitions new.now))
+        (map words.told_sequence of_old.now)
+        ++ map words.new_row (map words.told_sequence of_new.now))
+        (map words.told_row rows.items)) }
+    ensures sorted { IfOk result (λ rows. AreInOrder rows.items) }
 {
-    let mut rows = diff_rows(alloc, names, fresh, old, new)?;
+    let mut rows = told_rows(alloc, names, of_old, of_new, new)?;
     sort_rows(&mut rows)?;
     Ok(rows)
 }

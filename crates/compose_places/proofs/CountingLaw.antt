@@ -1,10 +1,10 @@
 -- Each sequence of a table has a line that counts, whose keys it is.
-use Rattle.std.proofs.Common.{◌≡◌, ℕ, suc, ◌+◌, List, [], ◌∷◌, ◌++◌, Bool, true, false, cond, not, ◌&&◌, ◌||◌, ◌⊎◌, length, map, take, nat_lt, nat_le, refl, sym, ◌∙◌, ap, ap₂, inl, inr}
+use Rattle.std.proofs.Common.{◌≡◌, ℕ, ◌+◌, List, [], ◌∷◌, Bool, true, false, cond, not, ◌&&◌, ◌||◌, ◌⊎◌, length, map, take, nat_lt, nat_le, refl, sym, ◌∙◌, ap, ap₂, inl, inr}
 use Rattle.std.specs.Prelude.{Option, Some, None, is_some, unwrap_or, Result, Ok, Err, filter}
 use Rattle.std.specs.Option.{option_or, option_map, option_map_or, option_and_then}
 use Rattle.std.specs.List.{list_any}
 use Rattle.std.specs.Str.{is_utf8}
-use Rattle.std.proofs.lemmas.Bool.{cases_Bool, or_cases, or_left, or_right}
+use Rattle.std.proofs.lemmas.Bool.{or_cases, or_left, or_right}
 use Rattle.std.proofs.lemmas.Option.{same_Some}
 use Rattle.compose_text.specs.Results.{◌>>=◌}
 use Rattle.keysym_core.specs.Keysym.{is_ignored}
@@ -18,17 +18,18 @@ use Rattle.compose_lex.specs.Line.{Reading, blank, include, production}
 use Rattle.compose_lex.specs.Fault.{reading_of}
 use Rattle.compose_lex.specs.declared.LexFault.{LexFault}
 use Rattle.compose_read.specs.Lines.{Source, Visit, source_named, visits, max_depth}
-use Rattle.compose_read.specs.Read.{at_line, said, line_gives, definition_of, event_keysym, sequence_of, string_text, result_text, definitions_of, max_lines}
+use Rattle.compose_read.specs.Read.{at_line, said, line_gives, event_keysym, sequence_of, string_text, result_text, definitions_of, max_lines}
 use Rattle.compose_read.specs.Settle.{row, in_order, settled, overlap, or_overlap, Overlap}
 use Rattle.compose_read.specs.declared.ReadFault.{ReadFault}
 use Rattle.compose_read.specs.declared.ReadFault.TheVariants as faults
-use Rattle.compose_tree.specs.TableGives.{NoTable, too_many_nodes, bounded, settled_by, table_of}
+use Rattle.compose_tree.specs.TableGives.{too_many_nodes, bounded, settled_by, table_of}
 use Rattle.compose_tree.specs.Targets.{max_nodes}
 use Rattle.compose_tree.proofs.Steps.{leaf_means}
 use Rattle.compose_places.specs.Events.{line_events, events_of}
 use Rattle.compose_places.specs.Places.{is_production, says_definition, definition_lines}
-use Rattle.compose_places.specs.Counting.{WrittenLine, sequence_named, defines, written_line, read_lines, counting_line, AreLines}
+use Rattle.compose_places.specs.Counting.{WrittenLine, sequence_named, defined_sequence, defines, begun_lines, written_line, read_lines, counting_line, AreLines}
 use Rattle.compose_places.proofs.Told.{lines_told}
+use Rattle.compose_places.proofs.BegunLines.{begun_told}
 
 same_Ok : {A E : Type 0} (x y : A) → (let r : Result A E = Ok x in r) ≡ Ok y → x ≡ y
 same_Ok x y h = cc
@@ -177,6 +178,17 @@ module _ (names : KeysymNames) (sources : List Source) where
             h ∙ sym (nothing_else (counting_line names vs s))
             ∙ ap (λ b. option_or (counting_line names vs s) (cond b (Some (written_line v)) None)) (sym (not_said v.bytes e))
 
+  -- of the lines that are read those that read as definitions count alone
+  same_lines : (root s : List ℕ) → counting_line names (definition_lines sources root) s ≡ counting_line names (read_lines sources root) s
+  same_lines root s = go (nat_lt (source_named sources root) (length sources))
+    where
+      all : List Visit
+      all = take max_lines (visits sources (source_named sources root))
+
+      go : (there : Bool) → counting_line names (cond there (filter (λ v. says_definition v.bytes) all) []) s ≡ counting_line names (cond there all []) s
+      go true = said_alone s all
+      go false = refl
+
   -- ---- settling
 
   any_filtered : {X : Type 0} (p q : X → Bool) (xs : List X) → list_any p (filter q xs) ≡ true → list_any p xs ≡ true
@@ -227,18 +239,8 @@ module _ (names : KeysymNames) (sources : List Source) where
         by_definitions (Err f) e h = cc
         by_definitions (Ok ds) e h = by_rows ds e (settled rule ds) refl h
 
-    same_lines : counting_line names (definition_lines sources root) s ≡ counting_line names (read_lines sources root) s
-    same_lines = go (nat_lt (source_named sources root) (length sources))
-      where
-        all : List Visit
-        all = take max_lines (visits sources (source_named sources root))
-
-        go : (there : Bool) → counting_line names (cond there (filter (λ v. says_definition v.bytes) all) []) s ≡ counting_line names (cond there all []) s
-        go true = said_alone s all
-        go false = refl
-
     told_line : option_and_then (λ (line : WrittenLine). sequence_named names line.keys) (counting_line names (read_lines sources root) s) ≡ Some s
-    told_line = go (counting_line names (read_lines sources root) s) refl (ap (λ o. is_some o) (sym same_lines) ∙ counts)
+    told_line = go (counting_line names (read_lines sources root) s) refl (ap (λ o. is_some o) (sym (same_lines root s)) ∙ counts)
       where
         go : (o : Option WrittenLine) → counting_line names (read_lines sources root) s ≡ o → is_some o ≡ true → option_and_then (λ (line : WrittenLine). sequence_named names line.keys) o ≡ Some s
         go None e h = cc
@@ -254,3 +256,26 @@ module _ (names : KeysymNames) (sources : List Source) where
           → map (option_and_then (λ (line : WrittenLine). sequence_named names line.keys)) (map (counting_line names (read_lines sources root)) xs) ≡ map (λ s. Some s) xs
       go [] f = refl
       go (x ∷ xs) f = ap₂ (λ y ys. y ∷ ys) (f x (or_left (same x x) (list_any (same x) xs) (same_from x x refl))) (go xs (λ s h. f s (or_right (same s x) (list_any (same s) xs) h)))
+
+  -- ---- the lines that begin as definitions
+
+  module _ (root : List ℕ) (ds : List Definition) (read : definitions_of names sources root ≡ Ok ds) where
+    -- they define the sequences that are read, each one
+    pub sequences_defined : map (λ (d : Definition). Some d.sequence) ds ≡ map (λ (v : Visit). defined_sequence names v.bytes) (begun_lines sources root)
+    sequences_defined =
+        go (definition_lines sources root) ds (lines_told names sources root ds read)
+        ∙ ap (map (λ (v : Visit). defined_sequence names v.bytes)) (sym (begun_told names sources root ds read))
+      where
+        go : (vs : List Visit) (es : List Definition) → map (line_gives names sources) vs ≡ each es
+            → map (λ (d : Definition). Some d.sequence) es ≡ map (λ (v : Visit). defined_sequence names v.bytes) vs
+        go [] [] h = refl
+        go [] (e ∷ es) h = cc
+        go (v ∷ vs) [] h = cc
+        go (v ∷ vs) (e ∷ es) h =
+            let parts = heads (line_gives names sources v) (Ok (Some e)) (map (line_gives names sources) vs) (each es) h in
+            ap₂ (λ y ys. y ∷ ys) (sym (gives_sequence v e parts.0)) (go vs es parts.1)
+
+    -- and count alone
+    pub begun_count : (xs : List (List ℕ)) → map (counting_line names (begun_lines sources root)) xs ≡ map (counting_line names (read_lines sources root)) xs
+    begun_count [] = refl
+    begun_count (x ∷ xs) = ap₂ (λ y ys. y ∷ ys) (ap (λ vs. counting_line names vs x) (begun_told names sources root ds read) ∙ same_lines root x) (begun_count xs)

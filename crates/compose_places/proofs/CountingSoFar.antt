@@ -1,9 +1,7 @@
 -- The counting line of each sequence, as one line more is read.
-use Rattle.std.proofs.Common.{◌≡◌, ℕ, zero, suc, List, [], ◌∷◌, ◌++◌, Bool, true, false, cond, map, set, take, refl, sym, ◌∙◌, ap, ap₂, append_assoc}
+use Rattle.std.proofs.Common.{◌≡◌, ℕ, List, [], ◌∷◌, ◌++◌, Bool, true, false, cond, map, set, refl, ◌∙◌, ap}
 use Rattle.std.specs.Prelude.{Option, Some, None}
 use Rattle.std.specs.Option.{option_or, option_map_or, option_and_then}
-use Rattle.std.proofs.lemmas.List.{append-nil}
-use Rattle.std.proofs.lemmas.Option.{same_Some}
 use Rattle.std.proofs.lemmas.Cmp.{nat_list_cmp_total}
 use Rattle.keysym_core.specs.Names.{KeysymNames}
 use Rattle.compose_model.specs.Table.{Definition, same, is_sequence}
@@ -11,7 +9,6 @@ use Rattle.compose_model.specs.Nodes.{leaves}
 use Rattle.compose_model.proofs.NodeLemmas.{same_from}
 use Rattle.compose_model.proofs.Sorted.{rising_sorted}
 use Rattle.compose_read.specs.Lines.{Visit}
-use Rattle.compose_read.specs.Read.{max_lines}
 use Rattle.compose_tree.specs.Targets.{leaf_number}
 use Rattle.compose_tree.proofs.Steps.{leaf_means}
 use Rattle.compose_places.specs.Events.{line_events}
@@ -42,14 +39,6 @@ module _ (names : KeysymNames) where
     one_more : (o : Option (List ℕ)) → sequence ≡ o → (s : List ℕ) → after s ≡ cond (option_map_or (same s) o false) (Some (written_line v)) (before s)
     one_more o e s = counting_line-append seen v s ∙ ap (λ x. cond (option_map_or (same s) x false) (Some (written_line v)) (before s)) e
 
-    -- a line that defines nothing
-    pub defines_none : sequence ≡ None → map after (leaves table) ≡ map before (leaves table)
-    defines_none e = go (leaves table)
-      where
-        go : (xs : List (List ℕ)) → map after xs ≡ map before xs
-        go [] = refl
-        go (x ∷ xs) = ap₂ (λ y ys. y ∷ ys) (one_more None e x) (go xs)
-
     module _ (s : List ℕ) (e : sequence ≡ Some s) where
       others : (x : List ℕ) → same x s ≡ false → after x ≡ before x
       others x h = one_more (Some s) e x ∙ ap (λ b. cond b (Some (written_line v)) (before x)) h
@@ -63,37 +52,3 @@ module _ (names : KeysymNames) where
       defines_one h =
           changed_at before after s others (leaves table) (rising_sorted nat_list_cmp_total (map (λ (d : Definition). d.sequence) table)) (leaf_means table s ∙ h)
           ∙ ap (set (map before (leaves table)) (leaf_number table s)) (one_more (Some s) e s ∙ ap (λ b. cond b (Some (written_line v)) (before s)) (same_from s s refl))
-
-    -- one whose keys are no sequence of the table
-    pub defines_unknown : (o : Option (List ℕ)) → sequence ≡ o → ((s : List ℕ) → o ≡ Some s → is_sequence table s ≡ false) → map after (leaves table) ≡ map before (leaves table)
-    defines_unknown None e f = defines_none e
-    defines_unknown (Some s) e f = defines_other s e (f s refl)
-
--- ---- along the lines
-
-take_nothing : {X : Type 0} (n : ℕ) (xs : List X) → xs ≡ [] → take n xs ≡ []
-take_nothing zero xs e = refl
-take_nothing (suc n) xs e = ap (take (suc n)) e
-
--- where no line is left, or none is to be read, all were seen
-pub all_seen : {X : Type 0} (seen all left : List X) (n : ℕ) → seen ++ take n left ≡ all → left ≡ [] → seen ≡ all
-all_seen seen all left n told e = sym (append-nil seen) ∙ ap (λ xs. seen ++ xs) (sym (take_nothing n left e)) ∙ told
-
--- where no more is to be read, all were seen
-pub enough_seen : {X : Type 0} (seen all left : List X) (n : ℕ) → seen ++ take n left ≡ all → n ≡ 0 → seen ≡ all
-enough_seen seen all left n told e = sym (append-nil seen) ∙ ap (λ k. seen ++ take k left) (sym e) ∙ told
-
--- with one more that is seen, one less is left
-pub one_seen : {X : Type 0} (seen all left : List X) (n : ℕ) → seen ++ take n left ≡ all → (v : X) (rest : List X) (m : ℕ) → left ≡ v ∷ rest → n ≡ suc m
-    → (seen ++ v ∷ []) ++ take m rest ≡ all
-one_seen seen all left n told v rest m is one = append_assoc seen (v ∷ []) (take m rest) ∙ sym (ap₂ (λ k xs. seen ++ take k xs) one is) ∙ told
-
--- all lines that are read, or none where no source has the root's name
-pub read_some : (there : Bool) (all given : List Visit) → Some given ≡ cond there (Some all) None → take max_lines given ≡ cond there (take max_lines all) []
-read_some true all given h = ap (take max_lines) (same_Some given all h)
-read_some false all given h = cc
-
--- where no source has the root's name, nothing is read
-pub read_none : (there : Bool) (all : List Visit) → None ≡ cond there (Some all) None → [] ≡ cond there (take max_lines all) []
-read_none true all h = cc
-read_none false all h = refl

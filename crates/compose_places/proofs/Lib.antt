@@ -5,4 +5,6 @@ pub mod PlacesSoFar
 pub mod NumberedLines
 pub mod WrittenEvents
 pub mod CountingSoFar
+pub mod BegunLines
+pub mod LastLines
 pub mod CountingLaw

@@ -81,7 +81,7 @@ module _ (names : KeysymNames) (sources : List Source) where
   AreFew vs = (n m : ℕ) (t : List Definition) → read_on names sources n m vs ≡ Ok t → n ≤ max_lines → n + length vs ≤ max_lines
 
   -- lines that are read to the end are no more than may be
-  few : (vs : List Visit) (lines definitions : ℕ) (table : List Definition) → read_on names sources lines definitions vs ≡ Ok table → lines ≤ max_lines → lines + length vs ≤ max_lines
+  pub few : (vs : List Visit) (lines definitions : ℕ) (table : List Definition) → read_on names sources lines definitions vs ≡ Ok table → lines ≤ max_lines → lines + length vs ≤ max_lines
   few [] lines definitions table h l = omega (arith, l)
   few (v ∷ vs) lines definitions table h l = by_many (λ n m t e k. few vs n m t e k) (nat_le max_lines lines) refl h
     where

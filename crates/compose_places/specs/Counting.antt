@@ -1,9 +1,11 @@
 -- The line that counts for a sequence: the last one that defines it (Compose(5): a later definition overrides an earlier one).
-use Rattle.std.specs.Prelude.{◌≡◌, ℕ, nat_lt, if◌then◌else◌, List, [], ◌∷◌, length, map, take, Option, Some, None, unwrap_or, false, Bool}
+use Rattle.std.specs.Prelude.{◌≡◌, ℕ, nat_lt, nat_eq, codes, if◌then◌else◌, List, [], ◌∷◌, length, map, filter, take, Option, Some, None, unwrap_or, false, Bool}
+use Rattle.std.specs.List.{starts_with}
 use Rattle.std.specs.Option.{option_map, option_map_or, option_and_then, option_or}
 use Rattle.keysym_core.specs.Names.{KeysymNames, value}
 use Rattle.compose_model.specs.Table.{Definition, same}
 use Rattle.compose_model.specs.Nodes.{leaves}
+use Rattle.compose_lex.specs.Fault.{skip_blanks}
 use Rattle.compose_read.specs.Lines.{Source, Visit, source_named, visits}
 use Rattle.compose_read.specs.Read.{max_lines}
 use Rattle.compose_places.specs.Events.{line_events}
@@ -15,9 +17,13 @@ abbrev pub sequence_named : KeysymNames → List (List ℕ) → Option (List ℕ
 sequence_named names [] = Some []
 sequence_named names (key ∷ keys) = option_and_then (λ k. option_map (λ s. k ∷ s) (sequence_named names keys)) (value names key)
 
+-- the sequence that a line defines, if it reads as a definition and each of its keys has a keysym
+abbrev pub defined_sequence : KeysymNames → List ℕ → Option (List ℕ)
+defined_sequence names line = option_and_then (sequence_named names) (line_events line)
+
 -- the line reads as a definition of the sequence
 abbrev pub defines : KeysymNames → List ℕ → List ℕ → Bool
-defines names s line = option_map_or (same s) (option_and_then (sequence_named names) (line_events line)) false
+defines names s line = option_map_or (same s) (defined_sequence names line) false
 
 -- a line that gives a definition: where it stands, and the names of its keys as it writes them
 pub record WrittenLine : Type 0 where
@@ -39,3 +45,13 @@ counting_line names (v ∷ vs) s = option_or (counting_line names vs s) (if defi
 -- each sequence of the table has a line that counts, whose keys it is
 abbrev pub AreLines : KeysymNames → List Definition → List (Option WrittenLine) → Type 0
 AreLines names table lines = map (option_and_then (λ line. sequence_named names line.keys)) lines ≡ map (λ s. Some s) (leaves table)
+
+-- ---- in words for private functions
+
+-- a line that begins as a definition does: with `<`, after blanks
+abbrev pub begins_definition : List ℕ → Bool
+begins_definition line = starts_with nat_eq (skip_blanks line) (codes "<")
+
+-- the lines read from the root that begin so
+abbrev pub begun_lines : List Source → List ℕ → List Visit
+begun_lines sources root = filter (λ v. begins_definition v.bytes) (read_lines sources root)

@@ -1,45 +1,48 @@
 //! The line of each sequence of a table that counts, and its keys as it writes them.
-ghost use Rattle.std.specs.Prelude.{◌≡◌, ◌≤◌, ◌++◌, ◌∷◌, [], ℕ, List, Some, None, map, length, take, replicate, true, false, MatchOption, IfOk, OnOk};
+ghost use Rattle.std.specs.Prelude.{◌≡◌, ◌≤◌, ℕ, List, None, Some, map, length, filter, take, replicate, slice_get, true, false, MatchOption, IfOk};
 ghost use Rattle.std.specs.Option.{option_map};
+ghost use Rattle.keysym_core.specs.Names.{KeysymNames};
 ghost use Rattle.compose_model.specs.Table.{is_sequence};
 ghost use Rattle.compose_model.specs.Nodes.{leaves};
 ghost use Rattle.compose_read.specs.Lines.{Visit};
 ghost use Rattle.compose_read.specs.Read.{max_lines};
-ghost use Rattle.compose_read.specs.Settle.{IsSettled};
-ghost use Rattle.compose_read.specs.Visits.{visit_of};
 ghost use Rattle.compose_tree.specs.Targets.{leaf_number};
-ghost use Rattle.compose_places.specs.Counting.{sequence_named, counting_line, read_lines};
+ghost use Rattle.compose_places.specs.Counting as words;
+ghost use Rattle.compose_places.specs.Counting.{begun_lines, counting_line, defined_sequence, written_line};
 
-use crate::events::line_events;
+use crate::events::{Events, line_events};
 use crate::last::leaf_of;
 use crate::places::{DefinitionPlace, MAX_LINES};
 use arrayvec::ArrayVec;
-use compose_read::{Sources, VisitedLine, Visits};
+use compose_read::{Definitions, Sources, Visits};
+use compose_text::blank_len;
 use compose_tree::{ComposeTable, LeafId};
 use keysym_core::{Keysym, Names};
 use std::alloc::{AllocError, Global};
 use std::marker::Model;
 
+/// The keysyms of a definition.
+type Sequence = ArrayVec<Keysym, 32>;
+
 /// The line that counts for a sequence.
 #[derive(Drop)]
 pub struct CountingLine<'a> {
     place: DefinitionPlace,
-    keys: Vec<&'a str>,
+    bytes: &'a [u8],
 }
 
 impl<'a> Model for CountingLine<'a> {
-    ghost use Rattle.std.specs.Prelude.{◌≤◌, map, length};
+    ghost use Rattle.std.specs.Prelude.{[], unwrap_or};
+    ghost use Rattle.compose_places.specs.Events.{line_events};
     ghost use Rattle.compose_places.specs.Counting.{WrittenLine};
 
     ghost Value = { WrittenLine };
 
-    ghost view = { λ l. record { place = l.place; keys = map (λ key. key.now) l.keys.items } };
-
-    ghost invariant = { λ l. length l.keys.items ≤ 32 };
+    ghost view = { λ l. record { place = l.place; keys = unwrap_or (line_events l.bytes.now) [] } };
 }
 
 impl<'a> CountingLine<'a> {
-    ghost use Rattle.std.specs.Prelude.{◌≡◌, ◌≤◌, map, length};
+    ghost use Rattle.std.specs.Prelude.{◌≡◌, map};
 
     /// Where it stands. O(1).
     pub fn place(&self) -> DefinitionPlace
@@ -48,37 +51,125 @@ impl<'a> CountingLine<'a> {
         self.place
     }
 
-    /// The names of its keys, as it writes them, at most 32. O(1).
-    pub fn keys(&self) -> &[&'a str]
-        ensures names { map (λ key. key.now) result.now ≡ self.now.keys }
-        ensures few { length result.now ≤ 32 }
+    /// The names of its keys, as it writes them. O(bytes of the line).
+    pub fn keys(&self) -> Events<'a>
+        ensures { map (λ key. key.now) result.items ≡ self.now.keys }
     {
-        self.keys.as_slice()
+        match line_events(self.bytes) {
+            Some(events) => events,
+            None => ArrayVec::new(),
+        }
     }
 }
 
-/// For each leaf of the table, by its number, the line that counts for its sequence: of the lines that are read from the root the last one that
-/// defines it; none where no line does. O(bytes of the lines that are read + keys of all definitions × log edges of a node) time, and
-/// memory for the leaves and their keys.
-pub fn counting_lines<'a, T: ComposeTable>(
+/// The lines that begin as definitions do among those that are read from the root, of which 1,000,000 are read at most. Where a table is read
+/// without a fault, these are the lines of its definitions. O(bytes of the lines that are read).
+pub(crate) fn begun_lines<'a>(
     alloc: Global,
-    names: &Names,
     sources: &'a Sources,
     root: &str,
+) -> Result<Vec<CountingLine<'a>>, AllocError>
+    ensures { IfOk result
+        (λ lines. lines.items ≡ map written_line (begun_lines sources.now root.now)) }
+{
+    match sources.visits(root) {
+        Some(visits) => begun_in(alloc, visits),
+        None => Ok(Vec::new(alloc)),
+    }
+}
+
+/// Those of these lines that begin as definitions do, of which 1,000,000 are read at most.
+fn begun_in<'a>(alloc: Global, mut visits: Visits<'a>) -> Result<Vec<CountingLine<'a>>, AllocError>
+    ensures { IfOk result
+        (λ begun. begun.items
+        ≡ map written_line
+        (filter (λ v. words.begins_definition v.bytes) (take max_lines visits.entry))) }
+{
+    let mut begun = Vec::new(alloc);
+    let mut lines = 0;
+    while lines < MAX_LINES {
+        let Some(line) = visits.next() else {
+            return Ok(begun);
+        };
+        lines += 1;
+        if begins_definition(line.bytes) {
+            let place = DefinitionPlace {
+                source: line.source,
+                line: line.line,
+            };
+            begun.push(CountingLine {
+                place,
+                bytes: line.bytes,
+            })?;
+        }
+    }
+    Ok(begun)
+}
+
+/// Whether the line begins as a definition does. O(blanks).
+fn begins_definition(line: &[u8]) -> bool
+    ensures { result ≡ words.begins_definition line.now }
+{
+    line[blank_len(line)..].starts_with(b"<")
+}
+
+/// The sequences of definitions.
+pub(crate) fn sequences_of(
+    alloc: Global,
+    definitions: &Definitions,
+) -> Result<Vec<Sequence>, AllocError>
+    ensures { IfOk result
+        (λ sequences. map (λ s. s.items) sequences.items ≡ map (λ d. d.sequence) definitions.now) }
+{
+    let mut sequences = Vec::with_capacity(alloc, definitions.len())?;
+    for index in 0..definitions.len() {
+        sequences.push(sequence_of(definitions.sequence(index)))?;
+    }
+    Ok(sequences)
+}
+
+/// A copy of at most 32 keysyms.
+fn sequence_of(keysyms: &[Keysym]) -> Sequence
+    requires { length keysyms.now ≤ 32 }
+    ensures { result.items ≡ keysyms.now }
+{
+    let mut sequence = ArrayVec::new();
+    sequence.try_extend_from_slice(keysyms).unwrap();
+    sequence
+}
+
+/// For each leaf of the table, by its number, the line that counts: the last one of these that define these sequences. O(keysyms × log edges of a node).
+pub(crate) fn last_lines<'a, T: ComposeTable>(
+    alloc: Global,
+    lines: &[CountingLine<'a>],
+    sequences: &[Sequence],
     table: &T,
 ) -> Result<Vec<Option<CountingLine<'a>>>, AllocError>
-    ensures { IfOk result
-        (λ kept. kept.items
-        ≡ map (counting_line names.now (read_lines sources.now root.now))
-        (leaves (T.definitions table.now))) }
+    ensures { (names : KeysymNames) (visits : List Visit) → lines.now ≡ map written_line visits
+        → map (λ s. Some s.items) sequences.now ≡ map (λ v. defined_sequence names v.bytes) visits
+        → IfOk result
+        (λ kept. kept.items ≡ map (counting_line names visits) (leaves (T.definitions table.now))) }
 {
     // The contract of this call says that the table is settled.
     let _ = table.node_count();
     let mut kept = no_lines(alloc, table.leaf_count())?;
-    if let Some(visits) = sources.visits(root) {
-        keep_lines(alloc, names, table, visits, &mut kept)?;
+    for index in 0..sequences.len() {
+        if let Some(leaf) = leaf_of(table, sequences[index].as_slice()) {
+            kept[leaf.0 as usize] = line_at(lines, index);
+        }
     }
     Ok(kept)
+}
+
+/// The line at this index, if there is one.
+fn line_at<'a>(lines: &[CountingLine<'a>], index: usize) -> Option<CountingLine<'a>>
+    ensures { result ≡ slice_get lines.now index }
+{
+    let line = lines.get(index)?;
+    Some(CountingLine {
+        place: line.place,
+        bytes: line.bytes,
+    })
 }
 
 /// No line for each of so many leaves.
@@ -92,74 +183,14 @@ fn no_lines<'a>(alloc: Global, leaves: u32) -> Result<Vec<Option<CountingLine<'a
     Ok(kept)
 }
 
-/// Keeps of these lines, of which 1,000,000 are read at most, the last one for each leaf.
-fn keep_lines<'a, T: ComposeTable>(
-    alloc: Global,
-    names: &Names,
-    table: &T,
-    mut visits: Visits<'a>,
-    kept: &mut [Option<CountingLine<'a>>],
-) -> Result<(), AllocError>
-    requires settled { IsSettled (T.definitions table.now) }
-    requires none { kept.old ≡ map (counting_line names.now []) (leaves (T.definitions table.now)) }
-    ensures kept { OnOk result
-        (kept.new
-        ≡ map (counting_line names.now (take max_lines visits.entry))
-        (leaves (T.definitions table.now))) }
-    ensures fits { length kept.new ≡ length kept.old }
-{
-    let mut lines = 0;
-    while lines < MAX_LINES {
-        let Some(line) = visits.next() else {
-            return Ok(());
-        };
-        lines += 1;
-        keep_line(alloc, names, table, line, kept)?;
-    }
-    Ok(())
-}
-
-/// Keeps the line in place of an earlier one, where it defines a sequence of the table.
-fn keep_line<'a, T: ComposeTable>(
-    alloc: Global,
-    names: &Names,
-    table: &T,
-    line: VisitedLine<'a>,
-    kept: &mut [Option<CountingLine<'a>>],
-) -> Result<(), AllocError>
-    requires settled { IsSettled (T.definitions table.now) }
-    requires fits { length kept.old ≡ length (leaves (T.definitions table.now)) }
-    ensures fits { length kept.new ≡ length kept.old }
-    ensures kept { (seen : List Visit)
-        → kept.old ≡ map (counting_line names.now seen) (leaves (T.definitions table.now))
-        → OnOk result
-        (kept.new
-        ≡ map (counting_line names.now (seen ++ visit_of line.entry ∷ []))
-        (leaves (T.definitions table.now))) }
-{
-    let Some(events) = line_events(line.bytes) else {
-        return Ok(());
-    };
-    let Some(leaf) = leaf_named(names, table, events.as_slice()) else {
-        return Ok(());
-    };
-    let keys = Vec::from_slice(alloc, events.as_slice())?;
-    let place = DefinitionPlace {
-        source: line.source,
-        line: line.line,
-    };
-    kept[leaf.0 as usize] = Some(CountingLine { place, keys });
-    Ok(())
-}
-
 /// The leaf to which the keys of these names lead, if each name has a keysym and the table has their sequence. O(keys × log edges of a node).
 pub fn leaf_named<T: ComposeTable>(names: &Names, table: &T, keys: &[&str]) -> Option<LeafId>
     requires few { length keys.now ≤ 32 }
     ensures { MatchOption result
-        ((s : List ℕ) → sequence_named names.now (map (λ key. key.now) keys.now) ≡ Some s
+        ((s : List ℕ) → words.sequence_named names.now (map (λ key. key.now) keys.now) ≡ Some s
         → is_sequence (T.definitions table.now) s ≡ false)
         (λ leaf. (s : List ℕ)
-        × (sequence_named names.now (map (λ key. key.now) keys.now) ≡ Some s)
+        × (words.sequence_named names.now (map (λ key. key.now) keys.now) ≡ Some s)
         × (is_sequence (T.definitions table.now) s ≡ true)
         × (leaf_number (T.definitions table.now) s ≡ leaf.0)) }
 {
@@ -170,10 +201,10 @@ pub fn leaf_named<T: ComposeTable>(names: &Names, table: &T, keys: &[&str]) -> O
 }
 
 /// The keysyms of these names, if each has one.
-fn sequence_named(names: &Names, keys: &[&str]) -> Option<ArrayVec<Keysym, 32>>
+fn sequence_named(names: &Names, keys: &[&str]) -> Option<Sequence>
     requires { length keys.now ≤ 32 }
     ensures { option_map (λ sequence. sequence.items) result
-        ≡ sequence_named names.now (map (λ key. key.now) keys.now) }
+        ≡ words.sequence_named names.now (map (λ key. key.now) keys.now) }
 {
     let mut sequence = ArrayVec::new();
     for key in keys {

@@ -12,7 +12,7 @@ use compose_read::Sources;
 use compose_text::first_line;
 
 /// The names of a definition's events.
-type Events<'a> = ArrayVec<&'a str, 32>;
+pub type Events<'a> = ArrayVec<&'a str, 32>;
 
 /// The names of the events of the definition at this place, as its line writes them between `<` and `>`; none where no such line is there, or it
 /// reads as no production. O(bytes of the source up to the end of the line).

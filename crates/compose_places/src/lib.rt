@@ -2,7 +2,7 @@
 //!
 //! [`definition_places`] tells where the definitions stand that [`read_definitions`](compose_read::read_definitions) gives, in the same order.
 //! [`last_definitions`] tells for each leaf of a table which definition counts, and [`written_events`] the names of a definition's events,
-//! as its line writes them.
+//! as its line writes them. [`read_placed_table`] reads a table and tells for each of its leaves the line that counts.
 //!
 //! ```text
 //! main  1  include "%L"
@@ -27,11 +27,13 @@ ghost use Rattle.compose_places.specs.Events.{written_events};
 mod counting;
 mod events;
 mod last;
+mod placed;
 mod places;
 
-pub use counting::{CountingLine, counting_lines, leaf_named};
-pub use events::written_events;
+pub use counting::{CountingLine, leaf_named};
+pub use events::{Events, written_events};
 pub use last::last_definitions;
+pub use placed::{PlacedTable, read_placed_table};
 pub use places::{DefinitionPlace, definition_places};
 
 /// Where a table is read without a fault, there are as many places as definitions, and the line of each place gives the definition of the

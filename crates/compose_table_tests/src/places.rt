@@ -1,6 +1,9 @@
 //! Where the definitions of worked tables stand, which of them count, and how their events are written.
 use compose_model::Rule;
-use compose_places::{DefinitionPlace, definition_places, last_definitions, written_events};
+use compose_places::{
+    CountingLine, DefinitionPlace, PlacedTable, definition_places, last_definitions,
+    read_placed_table, written_events,
+};
 use compose_read::{Definitions, ReadFault, Sources, read_definitions};
 use compose_tree::{ComposeTable, ListTable, PackedTable, TableFault, read_table};
 use keysym_core::Names;
@@ -65,6 +68,28 @@ static WRITTEN: [(&str, Option<&str>); 8] = [
     ("include \"%L\"", None),
     ("<a> \"x\"", None),
     ("Ctrl<a> : \"x\"", None),
+];
+
+/// The root's lines, those of the source `%L`, and what is printed of each sequence in rising order: the source and the line of the
+/// definition that counts, and the names of its keys as that line writes them.
+static COUNTING: [(&str, &str, &str); 5] = [
+    ("", "<a> : \"x\"", ""),
+    (
+        "include \"%L\"\n<Multi_key> <e> : \"x\"\n<a> : \"y\"\n<Multi_key> <e> : \"z\"",
+        "\u{feff}<Multi_key> <e> : \"é\"\n<b> : \"w\"\n",
+        "0:3 a 1:2 b 0:4 Multi_key e ",
+    ),
+    (
+        "<a> <b> : \"1\"\n<a> : \"2\"\n<a> <b> : \"3\"\n<a> : \"4\"\n",
+        "",
+        "0:3 a b ",
+    ),
+    (
+        "<U00E9> : \"1\"\n# <eacute> : \"2\"\n \t< eacute >:\"3\"\n",
+        "",
+        "0:3 eacute ",
+    ),
+    ("<eacute> : \"1\"\n<U00E9> : \"2\"\n", "", "0:2 U00E9 "),
 ];
 
 /// The sources `r` and `%L`.
@@ -221,6 +246,60 @@ fn print_names(text: &mut String, names: &[&str]) -> Result<(), AllocError> {
         write!(text, "{name} ")?;
     }
     Ok(())
+}
+
+fn print_lines(text: &mut String, lines: &[Option<CountingLine>]) -> Result<(), AllocError> {
+    for slot in lines {
+        match slot {
+            Some(line) => {
+                print_places(text, &[line.place()])?;
+                print_names(text, &line.keys())?;
+            }
+            None => text.push_str("none ")?,
+        }
+    }
+    Ok(())
+}
+
+fn placed_of<'a, T: ComposeTable>(
+    alloc: Global,
+    names: &Names,
+    sources: &'a Sources,
+) -> Result<PlacedTable<'a, T>, TableFault> {
+    read_placed_table(alloc, names, sources, "r", Rule::Longest)
+}
+
+/// The lines that count for the sequences of the table that is read from these sources.
+fn printed_lines<T: ComposeTable>(
+    alloc: Global,
+    names: &Names,
+    sources: &Sources,
+) -> Result<String, Fail> {
+    let placed: PlacedTable<T> = placed_of(alloc, names, sources)?;
+    let mut text = String::new(alloc);
+    print_lines(&mut text, &placed.lines)?;
+    Ok(text)
+}
+
+fn check_lines<T: ComposeTable>(rt: &impl Abort, alloc: Global, names: &Names) -> Result<(), Fail> {
+    for (root, included, lines) in &COUNTING {
+        let sources = two_sources(alloc, root, included)?;
+        let text = printed_lines::<T>(alloc, names, &sources)?;
+        assert_eq!(rt; text.as_str(), *lines);
+    }
+    Ok(())
+}
+
+#[test]
+fn counting_lines_of_lists(rt: HostRuntime) -> Result<(), Fail> {
+    let names = Names::core(rt.alloc())?;
+    check_lines::<ListTable>(&rt, rt.alloc(), &names)
+}
+
+#[test]
+fn counting_lines_of_packed_tables(rt: HostRuntime) -> Result<(), Fail> {
+    let names = Names::core(rt.alloc())?;
+    check_lines::<PackedTable>(&rt, rt.alloc(), &names)
 }
 
 /// The names of the events that are written at a place, if a definition stands there.

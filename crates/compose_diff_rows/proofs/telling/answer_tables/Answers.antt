@@ -1,11 +1,32 @@
-use Rattle.std.proofs.Common.{◌∙◌, sym, subst}
-use Rattle.compose_migration.specs.MigrationGives.{parts}
+use Rattle.std.proofs.Common.{◌≡◌, ◌∙◌, List, map, sym, ap, subst}
 use Rattle.compose_places.specs.Counting.{AreLines}
+use Rattle.compose_tool.specs.Parts.{Explainable}
+use Rattle.compose_diff.specs.declared.row.DiffRow.{DiffRow}
+use Rattle.compose_diff_rows.specs.Answers.{Asked, asked}
+use Rattle.compose_diff_rows.specs.Rows.{Written, told_sequence}
+use Rattle.compose_diff_rows.specs.Steps.{TellsRows, placed_parts}
 use Rattle.compose_diff_rows.proofs.FirstRead.{root_lines_are}
+use Rattle.compose_diff_rows.proofs.RowsAre.{rows_are, rows_told}
 use Rattle.compose_diff_rows.proofs.telling.answer_tables.Goals as goal
 
-pub sorted_rows-requires-clause-old_lines : goal.sorted_rows-requires-clause-old_lines
-sorted_rows-requires-clause-old_lines g c =
-    let move = parts g.T.ComposeTable.definitions c.args.migration.now in
-    let old = c.args.input.now.tables.old in
-    subst (AreLines move.names move.old) (sym (c.deref.ensures.value ∙ c.in_ok-old_lines.ensures)) (root_lines_are move.names old.rule move.old old.sources.now c.requires.old_read)
+pub returns : goal.returns
+returns g c =
+    let given : Asked = asked c.args.input.now in
+    let move = placed_parts g.T.ComposeTable.definitions c.args.migration.now in
+    let e : Explainable = record { move = move; fresh = c.args.fresh.now } in
+    let old : Written = record { table = move.old; lines = c.deref.result.now; paths = map (λ path. path.now) c.args.input.now.old_paths.now } in
+    let new : Written = record { table = move.new; lines = c.deref-2.result.now; paths = map (λ path. path.now) c.args.input.now.new_paths.now } in
+    let old_lines = c.deref.ensures.value ∙ c.requires.old_lines in
+    let new_lines = c.deref-2.ensures.value ∙ c.requires.new_lines in
+    let changes = c.old_changes.ensures ∙ c.in_ok-comparison.ensures.of_old in
+    let added = c.new_changes.ensures ∙ c.in_ok-comparison.ensures.of_new in
+    let kept = c.in_ok-add_kept_rows.ensures move.names c.args.fresh.now new (c.old_changes-2.ensures ∙ c.in_ok-comparison.ensures.of_old) in
+    rows_told given e c.args.accepted.now c.deref-5.result.now
+    (rows_are given e old new (λ i. record { table = move.old; lines = old_lines i; paths = given.old_paths }) (λ i. record { table = move.new; lines = new_lines i; paths = given.new_paths })
+    c.tells_kept-whole.result c.tells_kept-whole.ensures
+    (subst (AreLines move.names move.old) (sym old_lines) (root_lines_are move.names given.migration.old.rule move.old given.migration.old.sources c.requires.old_read))
+    (map told_sequence c.deref-3.result.now) (map told_sequence c.deref-4.result.now)
+    (ap (map told_sequence) c.deref-3.ensures.value ∙ c.in_ok-of_old.ensures move.names c.args.fresh.now new changes)
+    (ap (map told_sequence) c.deref-4.ensures.value ∙ c.in_ok-of_new.ensures move.names c.args.fresh.now old added)
+    c.deref-5.result.now c.in_ok-rows.rows.items kept.0 (c.deref-5.ensures.value ∙ kept.1) c.in_ok-rows.ensures.same c.in_ok-rows.ensures.sorted kept.2)
+    c.answer_rows.result c.answer_rows.ensures

@@ -3,13 +3,13 @@ use Rattle.std.specs.Prelude.{IsTrue}
 use Rattle.std.proofs.lemmas.List.Filters.{dedup_is}
 use Rattle.compose_model.specs.Certificate.{keys_rise}
 use Rattle.compose_model.specs.Nodes.{rising}
-use Rattle.compose_migration.specs.MigrationGives.{parts}
+use Rattle.compose_diff_rows.specs.Steps.{placed_parts}
 use Rattle.compose_diff_rows.proofs.Joining.{rising_of, fresh_met, fresh_unmet}
 use Rattle.compose_diff_rows.proofs.telling.fresh_keysyms.Goals as goal
 
 pub returns-in-Some : goal.returns-in-Some
 returns-in-Some g c =
-    let move = parts g.T.ComposeTable.definitions c.args.migration.now in
+    let move = placed_parts g.T.ComposeTable.definitions c.args.migration.now in
     let fresh = c.dedup.new.self.items in
     let is : fresh ≡ rising nat_cmp move.keys =
     rising_of move.keys c.deref.result.now _ c.sort.new.self.items fresh c.deref.ensures.value c.in_ok-fresh.ensures.items c.sort.ensures.permutation c.in_ok-sort.ensures.sorted
@@ -18,7 +18,7 @@ returns-in-Some g c =
 
 pub returns-in-None : goal.returns-in-None
 returns-in-None g c =
-    let move = parts g.T.ComposeTable.definitions c.args.migration.now in
+    let move = placed_parts g.T.ComposeTable.definitions c.args.migration.now in
     let fresh = c.dedup.new.self.items in
     let is : fresh ≡ rising nat_cmp move.keys =
     rising_of move.keys c.deref.result.now _ c.sort.new.self.items fresh c.deref.ensures.value c.in_ok-fresh.ensures.items c.sort.ensures.permutation c.in_ok-sort.ensures.sorted

@@ -6,7 +6,7 @@ use Rattle.compose_diff_rows.proofs.telling.sorted_rows.Goals as goal
 
 pub returns : goal.returns
 returns g c = record {
-  each = subst (λ (told : List ToldRow). IsPermutation told (map told_row c.sort_rows.new.rows.items)) c.in_ok-rows.ensures
+  same = subst (λ (told : List ToldRow). IsPermutation told (map told_row c.sort_rows.new.rows.items)) c.in_ok-rows.ensures
       (IsPermutation-map told_row c.in_ok-rows.rows.items c.sort_rows.new.rows.items c.sort_rows.ensures.same);
   sorted = c.in_ok-sort_rows.ensures.sorted;
 }

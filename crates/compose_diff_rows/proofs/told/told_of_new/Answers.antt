@@ -1,0 +1,27 @@
+use Rattle.std.proofs.Common.{◌∙◌, ◌<◌, [], length, map, not, ap, arith}
+use Rattle.compose_model.specs.Table.{is_sequence}
+use Rattle.compose_model.specs.Nodes.{leaves}
+use Rattle.compose_diff_rows.specs.Rows.{written, told_sequence, told_of}
+use Rattle.compose_diff_rows.proofs.RowsSoFar.{told_added, not_told, told_change, no_change}
+use Rattle.compose_diff_rows.proofs.told.told_of_new.Goals as goal
+use Rattle.compose_diff_rows.proofs.told.told_of_new.Goals.{in-Some+in_ok-push, in_default}
+
+pub loop-leaf-preserved : goal.loop-leaf-preserved
+loop-leaf-preserved g c = λ names fresh old h.
+    (let table = g.T.ComposeTable.definitions c.args.new.now.table.now in
+    let new = written g.T.ComposeTable.definitions c.args.new.now in
+    let i = c.loop-leaf.leaf in
+    let end = c.leaf_count-leaf-end.ensures in
+    let below : i < length (leaves table) = omega (arith, c.loop-leaf-test.true, end) in
+    let row_for = told_of names fresh old new new in
+    let so_far = c.loop-leaf.invariant names fresh old h in
+    elim c.match-changes-leaf.branch [
+      | in-Some+in_ok-push w ↦ (
+          let what = told_change names fresh old.table table c.args.changes.now h i below _ w.in-Some.change w.in-Some.is in
+          ap (λ v. map told_sequence v.items) w.told-is ∙ ap (map told_sequence) w.in_ok-push.ensures.items
+          ∙ told_added (λ s. not (is_sequence old.table s)) row_for (leaves table) i below told_sequence [] c.loop-leaf.told.items so_far w.told_at.result (ap not what.0)
+          (λ j. record { change = (w.told_at.ensures.change ∙ what.1) j; keys = w.told_at.ensures.keys j; entry = w.told_at.ensures.entry j }))
+      | in_default w ↦ ap (λ v. map told_sequence v.items) w.told-is
+          ∙ not_told (λ s. not (is_sequence old.table s)) row_for (leaves table) i below told_sequence [] c.loop-leaf.told.items so_far
+          (ap not (no_change names fresh old.table table c.args.changes.now h i below _ w.in_default.is))
+    ])

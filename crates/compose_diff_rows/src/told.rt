@@ -1,0 +1,165 @@
+//! The sequences of which a row is told.
+ghost use Rattle.std.specs.Prelude.{◌≡◌, ◌<◌, ℕ, List, [], map, length, get_or, None, option_copied, IfOk};
+ghost use Rattle.std.specs.Option.{option_map, option_map_or};
+ghost use Rattle.keysym_core.specs.Names.{KeysymNames};
+ghost use Rattle.compose_model.specs.Nodes.{leaves};
+ghost use Rattle.compose_compare.specs.Change.{old_changes, new_changes};
+ghost use Rattle.compose_diff_rows.specs.Rows as words;
+ghost use Rattle.compose_diff_rows.specs.Rows.{Written, told_entry, told_of, told_sequence, old_told, new_told};
+
+use crate::written::WrittenTable;
+use arrayvec::ArrayVec;
+use compose_compare::Change;
+use compose_diff::Entry;
+use compose_places::{CountingLine, Events};
+use compose_tree::{ComposeTable, LeafId};
+use std::alloc::{AllocError, Global};
+
+/// What is told of a sequence by its table.
+#[derive(Drop)]
+pub(crate) struct ToldSequence<'a> {
+    /// What happens to it.
+    pub(crate) change: Change,
+    /// The names of its keys, as the line writes them that counts.
+    pub(crate) keys: Events<'a>,
+    /// What the table has for it.
+    pub(crate) entry: Option<Entry<'a>>,
+}
+
+/// Whether a row is told of a sequence of the old table to which this happens: of a kept one only where all rows are asked for.
+pub(crate) fn is_told(whole: bool, change: Change) -> bool
+    ensures { result ≡ words.is_told whole change }
+{
+    match change {
+        Change::Kept => whole,
+        Change::Changed | Change::Waiting | Change::Removed | Change::Added | Change::NewStart => {
+            true
+        }
+    }
+}
+
+/// The sequences of the old table of which a row is told, in its order, where these things happen to all of them. At the cost of lexing their lines.
+pub(crate) fn told_of_old<'a, T: ComposeTable>(
+    alloc: Global,
+    whole: bool,
+    changes: &[Change],
+    old: &WrittenTable<'a, T>,
+) -> Result<Vec<ToldSequence<'a>>, AllocError>
+    requires fits { length changes.now ≡ length (leaves (T.definitions old.now.table.now)) }
+    ensures { (names : KeysymNames) (fresh : List ℕ) (new : Written)
+        → changes.now ≡ old_changes names fresh (T.definitions old.now.table.now) new.table
+        → IfOk result
+        (λ told. map told_sequence told.items
+        ≡ map
+        (told_of names fresh (words.written T.definitions old.now) new
+        (words.written T.definitions old.now))
+        (old_told whole names fresh (T.definitions old.now.table.now) new.table)) }
+{
+    let mut told = Vec::new(alloc);
+    for leaf in 0..old.table.leaf_count() {
+        let change = changes[leaf as usize];
+        if is_told(whole, change) {
+            told.push(told_at(LeafId(leaf), change, old))?;
+        }
+    }
+    Ok(told)
+}
+
+/// The sequences that the new table alone has, in its order, where these things happen to all that it has. At the cost of lexing their lines.
+pub(crate) fn told_of_new<'a, T: ComposeTable>(
+    alloc: Global,
+    changes: &[Option<Change>],
+    new: &WrittenTable<'a, T>,
+) -> Result<Vec<ToldSequence<'a>>, AllocError>
+    requires fits { length changes.now ≡ length (leaves (T.definitions new.now.table.now)) }
+    ensures { (names : KeysymNames) (fresh : List ℕ) (old : Written)
+        → changes.now
+        ≡ new_changes names fresh old.table (T.definitions new.now.table.now)
+        → IfOk result
+        (λ told. map told_sequence told.items
+        ≡ map
+        (told_of names fresh old (words.written T.definitions new.now)
+        (words.written T.definitions new.now))
+        (new_told old.table (T.definitions new.now.table.now))) }
+{
+    let mut told = Vec::new(alloc);
+    for leaf in 0..new.table.leaf_count() {
+        if let Some(change) = changes[leaf as usize] {
+            told.push(told_at(LeafId(leaf), change, new))?;
+        }
+    }
+    Ok(told)
+}
+
+/// What is told of the sequence of this leaf, to which this happens.
+fn told_at<'a, T: ComposeTable>(
+    leaf: LeafId,
+    change: Change,
+    written: &WrittenTable<'a, T>,
+) -> ToldSequence<'a>
+    requires { leaf.0 < length (leaves (T.definitions written.now.table.now)) }
+    ensures change { result.change ≡ change }
+    ensures keys { map (λ key. key.now) result.keys.items
+        ≡ words.keys_of (words.written T.definitions written.now)
+        (get_or (leaves (T.definitions written.now.table.now)) leaf.0 []) }
+    ensures entry { option_map told_entry result.entry
+        ≡ words.entry_of (words.written T.definitions written.now)
+        (get_or (leaves (T.definitions written.now.table.now)) leaf.0 []) }
+{
+    ToldSequence {
+        change,
+        keys: keys_at(written, leaf),
+        entry: entry_at(written, leaf),
+    }
+}
+
+/// The names of the keys of this leaf, as the line writes them that counts; none without a line.
+fn keys_at<'a, T: ComposeTable>(written: &WrittenTable<'a, T>, leaf: LeafId) -> Events<'a>
+    ensures { map (λ key. key.now) result.items
+        ≡ option_map_or (λ line. line.keys) (get_or written.now.lines.now leaf.0 None) [] }
+{
+    match line_at(written, leaf) {
+        Some(line) => line.keys(),
+        None => ArrayVec::new(),
+    }
+}
+
+/// What a table has for the sequence of this leaf.
+pub(crate) fn entry_at<'a, T: ComposeTable>(
+    written: &WrittenTable<'a, T>,
+    leaf: LeafId,
+) -> Option<Entry<'a>>
+    requires { leaf.0 < length (leaves (T.definitions written.now.table.now)) }
+    ensures { option_map told_entry result
+        ≡ words.entry_of (words.written T.definitions written.now)
+        (get_or (leaves (T.definitions written.now.table.now)) leaf.0 []) }
+{
+    let line = line_at(written, leaf)?;
+    let place = line.place();
+    Some(Entry {
+        text: written.table.text(leaf),
+        source: place.source,
+        path: path_at(written.paths, place.source),
+        line: place.line,
+    })
+}
+
+/// The line that counts for this leaf, if there is one.
+fn line_at<'a, T: ComposeTable>(
+    written: &WrittenTable<'a, T>,
+    leaf: LeafId,
+) -> Option<&'a CountingLine<'a>>
+    ensures { option_copied result ≡ get_or written.now.lines.now leaf.0 None }
+{
+    written.lines.get(leaf.0 as usize)?.as_ref()
+}
+
+/// The path at this index, if there is one, and else an empty one.
+fn path_at<'a>(paths: &[&'a str], index: usize) -> &'a str
+    ensures { result.now ≡ get_or (map (λ path. path.now) paths.now) index [] }
+{
+    match paths.get(index) {
+        Some(path) => path,
+        None => "",
+    }
+}

@@ -1,0 +1,54 @@
+use Rattle.std.proofs.Common.{◌≡◌, ◌∙◌, length, map, set, take, refl, sym, ap, ap₂, arith}
+use Rattle.std.specs.Prelude.{Some, None, option_map, slice_get}
+use Rattle.std.proofs.lemmas.List.{length-set, length-replicate, length-map, take_all}
+use Rattle.std.proofs.lemmas.Option.{slice_get-map, slice_get_read}
+use Rattle.std.proofs.lemmas.Simd.{splat_is_map}
+use Rattle.compose_model.specs.Nodes.{leaves}
+use Rattle.compose_read.specs.Lines.{Visit}
+use Rattle.compose_tree.proofs.Steps.{leaf_below}
+use Rattle.compose_places.specs.Counting.{counting_line, defined_sequence}
+use Rattle.compose_places.proofs.LastLines.{other_line, one_line}
+use Rattle.compose_places.proofs.counting.last_lines.Goals as goal
+use Rattle.compose_places.proofs.counting.last_lines.Goals.{in-Some, in_default}
+
+pub loop-index-init : goal.loop-index-init
+loop-index-init g c =
+    let sequences = leaves (g.T.ComposeTable.definitions c.args.table.now) in record {
+      fits = ap (λ xs. length xs) c.in_ok-kept.ensures ∙ length-replicate c.leaf_count.result None ∙ c.leaf_count.ensures;
+      kept = λ names visits written defined. c.in_ok-kept.ensures ∙ splat_is_map sequences c.leaf_count.result None (sym c.leaf_count.ensures);
+    }
+
+pub index_mut-requires : goal.index_mut-requires
+index_mut-requires g c =
+    let below = leaf_below (g.T.ComposeTable.definitions c.args.table.now) c.as_slice.result.now c.in-Some.ensures.0 in
+    omega (arith, below, c.in-Some.ensures.1, c.loop-index.invariant.fits, c.loop-index.kept.ok)
+
+pub loop-index-preserved : goal.loop-index-preserved
+loop-index-preserved g c =
+    let table = g.T.ComposeTable.definitions c.args.table.now in
+    let index = c.loop-index.index in
+    let s = c.as_slice.result.now in
+    let read = slice_get_read c.args.sequences.now _ index c.index-sequences-index.result refl (omega (arith, c.loop-index-test.true)) c.index-sequences-index.is in
+    let at : slice_get (map (λ x. Some x.items) c.args.sequences.now) index ≡ Some (Some s) =
+    slice_get-map (λ x. Some x.items) c.args.sequences.now index ∙ ap (option_map (λ x. Some x.items)) read ∙ ap (λ xs. Some (Some xs)) (sym c.as_slice.ensures.value) in
+    elim c.match-leaf_of.branch [
+      | in-Some w ↦ record {
+        fits = ap (λ v. length v.items) w.kept-is ∙ length-set _ _ _ ∙ c.loop-index.invariant.fits;
+        kept = λ names visits written defined.
+            ap (λ v. v.items) w.kept-is ∙ ap₂ (λ xs l. set xs w.in-Some.leaf.0 l) (c.loop-index.invariant.kept names visits written defined) w.line_at.ensures
+            ∙ ap (λ n. set (map (counting_line names (take index visits)) (leaves table)) n (slice_get c.args.lines.now index)) (sym w.in-Some.ensures.1)
+            ∙ one_line names table visits index s (ap (λ xs. slice_get xs index) (sym defined) ∙ at) w.in-Some.ensures.0 c.args.lines.now written;
+      }
+      | in_default w ↦ record {
+        fits = ap (λ v. length v.items) w.kept-is ∙ c.loop-index.invariant.fits;
+        kept = λ names visits written defined.
+            ap (λ v. v.items) w.kept-is ∙ c.loop-index.invariant.kept names visits written defined
+            ∙ other_line names table visits index s (ap (λ xs. slice_get xs index) (sym defined) ∙ at) w.in_default.ensures;
+      }
+    ]
+
+pub returns : goal.returns
+returns g c = λ names visits written defined.
+    (let read = sym (length-map c.args.sequences.now (λ x. Some x.items)) ∙ ap (λ xs. length xs) defined ∙ length-map visits (λ (v : Visit). defined_sequence names v.bytes) in
+    c.loop-index.invariant.kept names visits written defined
+    ∙ ap (λ vs. map (counting_line names vs) (leaves (g.T.ComposeTable.definitions c.args.table.now))) (take_all c.loop-index.index visits (omega (arith, read, c.loop-index-test.false))))

@@ -1,0 +1,53 @@
+//! A table, and the line of each of its sequences that counts.
+ghost use Rattle.std.specs.Prelude.{◌≡◌, map, IfOk};
+ghost use Rattle.compose_model.specs.Nodes.{leaves};
+ghost use Rattle.compose_places.specs.Counting.{counting_line, read_lines};
+ghost use Rattle.compose_tree.specs.TableGives.{TableGives, table_of};
+
+use crate::counting::{CountingLine, begun_lines, last_lines, sequences_of};
+use compose_model::Rule;
+use compose_read::{Sources, read_definitions, settle};
+use compose_tree::{ComposeTable, TableFault};
+use keysym_core::Names;
+use std::alloc::Global;
+
+/// A table, and the line of each of its sequences that counts.
+#[derive(Drop)]
+pub struct PlacedTable<'a, T: ComposeTable> {
+    /// The table.
+    pub table: T,
+    /// For each leaf, by its number, the line that counts for its sequence: of the lines that are read from the root the last one that
+    /// defines it.
+    pub lines: Vec<Option<CountingLine<'a>>>,
+}
+
+/// The table that is read from the root by the rule, as by `read_table`, and the line of each of its sequences that counts. No line is lexed
+/// a second time. At the cost of `read_table`, with O(bytes of the lines that are read + keysyms of all definitions × log edges of a node) more.
+pub fn read_placed_table<'a, T: ComposeTable>(
+    alloc: Global,
+    names: &Names,
+    sources: &'a Sources,
+    root: &str,
+    rule: Rule,
+) -> Result<PlacedTable<'a, T>, TableFault>
+    ensures table { TableGives (λ placed. T.definitions placed.table) result
+        (table_of names.now sources.now root.now rule) }
+    ensures lines { IfOk result
+        (λ placed. placed.lines.items
+        ≡ map (counting_line names.now (read_lines sources.now root.now))
+        (leaves (T.definitions placed.table))) }
+{
+    let definitions = read_definitions(alloc, names, sources, root)?;
+    let Ok(begun) = begun_lines(alloc, sources, root) else {
+        return Err(TableFault::NoMemory);
+    };
+    let Ok(read) = sequences_of(alloc, &definitions) else {
+        return Err(TableFault::NoMemory);
+    };
+    let sequences = settle(alloc, definitions, rule)?;
+    let table = T::build(alloc, sequences)?;
+    let Ok(lines) = last_lines(alloc, &begun, &read, &table) else {
+        return Err(TableFault::NoMemory);
+    };
+    Ok(PlacedTable { table, lines })
+}
