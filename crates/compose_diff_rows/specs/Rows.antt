@@ -80,45 +80,50 @@ abbrev pub is_told : Bool → Change → Bool
 is_told whole Kept = whole
 is_told whole _ = true
 
+-- the same of a sequence, by what happens to it
 abbrev pub is_told_of : Bool → KeysymNames → List ℕ → List Definition → List Definition → List ℕ → Bool
 is_told_of whole names fresh old new s = is_told whole (change names fresh old new s)
 
--- the sequences of the old table of which a row is told, in its order, and those that the new one alone has
+-- the sequences of the old table of which a row is told, in its order
 abbrev pub old_told : Bool → KeysymNames → List ℕ → List Definition → List Definition → List (List ℕ)
 old_told whole names fresh old new = filter (is_told_of whole names fresh old new) (leaves old)
 
+-- the sequences that the new table alone has, in its order
 abbrev pub new_told : List Definition → List Definition → List (List ℕ)
 new_told old new = filter (λ s. not (is_sequence old s)) (leaves new)
 
--- a row for each of them
+-- a row for each of the former, and then for each of the latter
 abbrev pub told_rows : Bool → KeysymNames → List ℕ → Written → Written → List ToldRow
 told_rows whole names fresh old new = map (row_of names fresh old new) (old_told whole names fresh old.table new.table) ++ map (row_of names fresh old new) (new_told old.table new.table)
 
--- of a kept sequence that is not told only where it is in the old table
+-- of a kept sequence that is not told only what the old table has for it
 abbrev pub kept_row : Written → List ℕ → ToldRow
 kept_row old s = record { change = Kept; keys = []; old = entry_of old s; new = None }
 
+-- a row for each of these, in the order of the old table
 abbrev pub kept_rows : Bool → KeysymNames → List ℕ → Written → Written → List ToldRow
 kept_rows whole names fresh old new = map (kept_row old) (filter (λ s. not (is_told_of whole names fresh old.table new.table s)) (leaves old.table))
 
 -- ---- in words for private functions
 
--- what is told of a sequence by its table: what happens to it, the names of its keys, and what the table has for it
+-- a sequence of one of the tables: what happens to it, the names of its keys, and what the table has for it
 pub record Told : Type 0 where
   pub change : Change
   pub keys : List (List ℕ)
   pub entry : Option ToldEntry
 
+-- such a sequence as the code keeps it
 abbrev pub told_sequence : ToldSequence → Told
 told_sequence told = record { change = told.change; keys = map (λ key. key.now) told.keys.items; entry = option_map told_entry told.entry }
 
--- of the sequence of one of the two tables
+-- the sequence s of w, which is one of the two tables
 abbrev pub told_of : KeysymNames → List ℕ → Written → Written → Written → List ℕ → Told
 told_of names fresh old new w s = record { change = change names fresh old.table new.table s; keys = keys_of w s; entry = entry_of w s }
 
--- the row of a sequence of the old table, which the new one has or not, and of one that the new table alone has
+-- the row of a sequence of the old table: what the new one has for it is found by the names of its keys
 abbrev pub old_row : KeysymNames → Written → Told → ToldRow
 old_row names new told = record { change = told.change; keys = told.keys; old = told.entry; new = option_and_then (entry_of new) (sequence_named names told.keys) }
 
+-- the row of a sequence that the new table alone has
 abbrev pub new_row : Told → ToldRow
 new_row told = record { change = told.change; keys = told.keys; old = None; new = told.entry }

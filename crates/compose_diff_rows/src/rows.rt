@@ -94,7 +94,7 @@ fn add_new_rows<'a>(
     Ok(())
 }
 
-/// Adds the rows of the kept sequences of the old table, in its order, where these are not told: of each only where it is in the old table.
+/// Adds the rows of the kept sequences of the old table, in its order, where these are not told: of each only what the old table has for it.
 /// `changes` says what happens to all its sequences. O(sequences).
 pub(crate) fn add_kept_rows<'a, T: ComposeTable>(
     rows: &mut Vec<DiffRow<'a>>,
