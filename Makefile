@@ -1,4 +1,5 @@
-# `make` proves and builds ./composecheck; `make test` is the gate; `make install PREFIX=/usr/local` installs, `make uninstall` takes it away.
+# `make` proves and builds ./composecheck; `make test` is the gate, over what earlier runs of it kept on this machine, and `make test-anew` the
+# same from nothing; `make install PREFIX=/usr/local` installs, `make uninstall` takes it away.
 # `make dist` and `make deb` pack the proved program for others, in packages/; `make test-packages` looks at what they hold.
 # `make test-whole` is the gate with each must-fail edit in a check of its own, as the kit's `rt ci` tries them: for a release.
 # `make names HEADER=FILE` writes the names that are built in anew from keysymdef.h, and prints what changed.
@@ -18,6 +19,9 @@ compose_bench: $(SOURCES)
 
 test:
 	python3 tests/gate.py
+
+test-anew:
+	python3 tests/gate.py --anew
 
 test-whole:
 	python3 tests/gate.py --whole
@@ -66,4 +70,4 @@ bench: composecheck compose_bench
 clean:
 	rm -rf composecheck compose_bench packages crates/*/out
 
-.PHONY: all test test-whole install uninstall dist deb test-packages names real bench clean
+.PHONY: all test test-anew test-whole install uninstall dist deb test-packages names real bench clean

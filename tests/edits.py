@@ -158,11 +158,12 @@ def copy_of(kept, into):
 class Trial:
     """The edits of one crate, tried over its kept work: `begin`, then `work` in as many threads as there are, and then `end`."""
 
-    def __init__(self, rt, crate, kept, room, is_asked=lambda name: True, said=lambda: None):
-        """`said` gives what the proof printed that has just made the kept work, if one has."""
-        self.rt, self.crate, self.kept, self.room, self.said = rt, crate, kept, room, said
+    def __init__(self, rt, crate, kept, room, is_asked=lambda name: True, results=None, prepare=lambda: None, said=lambda: None):
+        """`results` finds what earlier runs came to, and keeps what this one does. `prepare` makes the kept work, and `said` gives what the proof printed that it is
+        made of, if this run has made it."""
+        self.rt, self.crate, self.kept, self.room, self.results, self.prepare, self.said = rt, crate, kept, room, results, prepare, said
         self.files = [it for it in rt.edits_of(crate)[0] if is_asked(os.path.basename(it).removesuffix(".edit"))]
-        self.left, self.told, self.is_proved = collections.deque(), {}, False
+        self.left, self.told, self.earlier, self.is_proved = collections.deque(), {}, {}, False
 
     def tell(self, file, passes, text):
         self.told[file] = passes, f"must-fail {self.crate.name}/{os.path.basename(file)}: {text}"
@@ -187,15 +188,21 @@ class Trial:
         return None if ran.returncode else ran.stdout
 
     def begin(self):
-        """Plans the checks of the crate's edits, of the functions that its proof names."""
+        """Plans the checks of the crate's edits, of the functions that its proof names, but for those whose results earlier runs kept."""
+        found = {it: self.results and self.results.find(it) for it in self.files}
+        self.earlier = {file: line for file, line in found.items() if line}
+        files = [it for it in self.files if it not in self.earlier]
+        if not files:
+            return
         shutil.rmtree(self.room, ignore_errors=True)
         os.makedirs(self.room)
+        self.prepare()
         said = self.said() or self.proof()
         self.is_proved = said is not None
         if not self.is_proved:
             return
         printed = {*re.findall(r"^fn (\S+): proved\b", said, re.M)}
-        edits = {it: located(self.rt, self.crate, it, printed) for it in self.files}
+        edits = {it: located(self.rt, self.crate, it, printed) for it in files}
         self.left.extend(batches_of([it for it in edits.values() if it]))
         self.left.extend([file for file, it in edits.items() if not it])
 
@@ -209,8 +216,8 @@ class Trial:
     def alone(self, file):
         """Tries an edit alone, by rt's rule."""
         with self.copy_of_kept() as kept:
-            passes, text = self.rt.must_fail(self.crate, file, ["--jobs", "1"], kept)
-        text = text.partition(f"{os.path.basename(file)}: ")[2]
+            kind, text = self.rt.must_fail(self.crate, file, ["--jobs", "1"], kept)
+        text, passes = text.partition(f"{os.path.basename(file)}: ")[2], kind in (self.rt.REFUSED, self.rt.AT_LIMIT)
         self.tell(file, passes, "refused alone: " + text.partition(": ")[2] if passes else text)
 
     def together(self, batch):
@@ -229,21 +236,28 @@ class Trial:
             goal = own_refusal(ran.stdout, it.function) if is_read and ran.returncode == 1 else None
             self.tell(it.file, True, f"refused by {goal}") if goal else self.left.append(it.file)
 
+    def judge(self, file, is_kept_well):
+        """Fails an edit that was not tried, or that was tried over kept work which does not prove the unedited crate."""
+        if not self.is_proved:
+            self.tell(file, False, "NOT TRIED: the crate itself is not proved")
+        elif not is_kept_well:
+            self.tell(file, False, "NOT JUDGED: the unedited crate is not proved over the same kept work")
+        elif file not in self.told:
+            self.tell(file, False, "NOT JUDGED: no check says anything of it")
+        elif self.results and self.told[file][0]:
+            self.results.keep(file, self.told[file][1])
+
     def end(self):
-        """Checks the unedited crate once more, and returns of each edit, in order, whether it passed and its line."""
+        """Checks the unedited crate once more, if an edit was tried, and returns of each edit, in order, whether it passed and its line."""
+        tried = [it for it in self.files if it not in self.earlier]
         try:
             self.work()
-            is_kept_well = self.is_proved and not self.check(self.kept).returncode
+            is_kept_well = bool(tried) and self.is_proved and not self.check(self.kept).returncode
         finally:
             shutil.rmtree(self.room, ignore_errors=True)
-        for file in self.files:
-            if not self.is_proved:
-                self.tell(file, False, "NOT TRIED: the crate itself is not proved")
-            elif not is_kept_well:
-                self.tell(file, False, "NOT JUDGED: the unedited crate is not proved over the same kept work")
-            elif file not in self.told:
-                self.tell(file, False, "NOT JUDGED: no check says anything of it")
-        return [self.told[it] for it in self.files]
+        for it in tried:
+            self.judge(it, is_kept_well)
+        return [(True, self.earlier[it]) if it in self.earlier else self.told[it] for it in self.files]
 
     def tasks(self, waits, seconds, is_well, last):
         """Returns the trial as tasks of rt's lanes, which begin only where all is well with those that they wait for. `last` is the call of the last one."""

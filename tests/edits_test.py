@@ -110,9 +110,9 @@ def ended(*statuses):
     left = [*statuses]
     with tempfile.TemporaryDirectory(prefix="edits-test-") as folder:
         crate = types.SimpleNamespace(name="neighbours", folder=folder)
-        rt = types.SimpleNamespace(edits_of=lambda crate: (["wrong.edit"], []), read_edit=lambda file, folder: (None, "it is not read here"))
+        rt = types.SimpleNamespace(edits_of=lambda crate: (["wrong.edit"], []), read_edit=lambda file, folder: (None, "it is not read here"), REFUSED="refused", AT_LIMIT="limit")
         rt.checked = lambda *given: types.SimpleNamespace(returncode=left.pop(0), stdout="fn neighbours::next: proved\n")
-        rt.must_fail = lambda crate, file, flags, kept: (True, "must-fail neighbours/wrong.edit: refused, as it must be: a goal")
+        rt.must_fail = lambda crate, file, flags, kept: ("refused", "must-fail neighbours/wrong.edit: refused, as it must be: a goal")
         trial = edits.Trial(rt, crate, f"{folder}/kept", f"{folder}/room")
         trial.begin()
         return trial.end()[0]

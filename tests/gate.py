@@ -1,19 +1,22 @@
 #!/usr/bin/env python3
-"""The gate, from nothing:
+"""The gate:
 
   - the runner of must-fail edits against a small crate of its own (edits_test.py),
-  - `rt ci`, with the edits tried over the proofs that it has just made (proofs.py),
+  - `rt ci`, with the edits tried over the proofs of their crates, several in one check (proofs.py),
   - the command-line cases against both built programs, `composecheck` and the same on the plain form of a table, some of them again
     with each allocation refused in turn, the second reading of lines, inputs at their limits and files that are written by `composecheck`,
   - the service of both programs over real sockets, many connections at once, random streams against a second reading of them, README's script, and both packages,
   - single calls with each growth of their memory refused in turn, and streams over devices that fail.
 
-With --whole it is `rt ci` as the kit has it, which tries each edit in a check of its own.
+What a run proved is kept on this machine by the checksums of all that it read, and so is which edits were refused: a later run proves and
+tries only what has changed, and what stands on it. With --anew it proves and tries all, from nothing. With --whole it is `rt ci` as the
+kit has it, which tries each edit in a check of its own.
 
 Where the machine has two or three processors and at least 2.7 GB for each, it has as many checks run side by side: `rt ci` plans for more
 memory than a check needs, and would run one at a time.
 
-At the end it prints what each crate took, as the table of docs/ARCHITECTURE.md. The last line is `N passed, M failed` over all."""
+At the end it prints what each crate took that was proved or tried, as the table of docs/ARCHITECTURE.md. The last line is `N passed, M failed`
+over all."""
 import os
 import re
 import resource
@@ -74,15 +77,15 @@ def without_a_line(names_of, lines):
     return [f"{crate}/{name}" for crate, names in names_of.items() for name in names if f"{crate}/{name}" not in said]
 
 
-def prove(is_whole, names_of):
+def prove(flags, names_of):
     """Runs `rt ci` and prints what it says; the counts, and the lines of the table of what each crate took."""
-    if is_whole:
+    if "--whole" in flags:
         lines, (passed, failed) = follow(["rt", "ci"])
         table = []
     else:
         with tempfile.TemporaryDirectory(prefix="gate-") as room:
             file = os.path.join(room, "measured")
-            lines, (passed, failed) = test("proofs.py", file)
+            lines, (passed, failed) = test("proofs.py", file, *flags)
             table = measured.table_of(measured.rows_of(file), {it: len(names) for it, names in names_of.items()}) if os.path.isfile(file) else []
     lost = without_a_line(names_of, lines)
     for it in lost:
@@ -101,7 +104,7 @@ def main():
     began = time.monotonic()
     use_all_processors(edits.load_rt())
     passed, failed = test("edits_test.py")[1]
-    counts, table = prove("--whole" in sys.argv[1:], edits_by_crate())
+    counts, table = prove(sys.argv[1:], edits_by_crate())
     passed, failed = passed + counts[0], failed + counts[1]
     if failed == 0:
         shutil.copy(built("composecheck"), PROGRAM)

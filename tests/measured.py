@@ -42,10 +42,12 @@ def rows_of(file):
 
 
 def table_of(found, edits):
-    """Returns the table's lines. `edits` says how many each crate has, in the crates' order."""
+    """Returns the table's lines, of the crates that were proved or tried. `edits` says how many each crate has, in the crates' order."""
     lines, sums = [HEAD, "|---|" + "---:|" * 6], collections.Counter()
     for crate, count in edits.items():
         row = {it: found[crate, it] for it in KINDS}
+        if not any(it[3] for it in row.values()):
+            continue
         seconds = [round(row[it][0]) for it in KINDS]
         memory = max(it[2] for it in row.values()) / 1e9
         lines.append(f"| `{crate}` | {seconds[0]} | {seconds[1] or '-'} | {seconds[2] or '-'} | {count or '-'} | {row['proof'][1]:.0f} | {memory:.1f} |")

@@ -1,13 +1,15 @@
 #!/usr/bin/env python3
-"""`rt ci`, with the must-fail edits tried over the proofs that it has just made.
+"""`rt ci`, with the must-fail edits tried over the proofs of their crates, several in one check.
 
-  proofs.py FILE
+  proofs.py FILE [--anew] [CRATE ..]
 
 `rt ci` proves a crate that has edits a second time, to keep work for them, and then tries each edit in a check of its own. Here each
-library is proved once, from nothing, and built with its proofs in it, which `rt ci` leaves out. These are the kept work over which its
-edits are tried, several in one check (edits.py). All else of `rt ci` stays as it is. What each check took is written to FILE.
+library is built with its proofs in it, which `rt ci` leaves out. These are the kept work over which its edits are tried (edits.py).
+All else of `rt ci` stays as it is: what a run passed is kept on this machine, by the checksums of all that it read, and what is kept
+is not proved or tried again, but with --anew. With names it does these crates and those below them, on a copy, as `rt ci CRATE ..`
+does. What each check took is written to FILE.
 """
-import contextlib
+import hashlib
 import json
 import os
 import shutil
@@ -18,7 +20,7 @@ import measured
 
 
 def take_checked(rlib, kept):
-    """Makes kept work of a library that was just proved and built: each of its checked modules as a file, in a folder that is named after the prover."""
+    """Makes kept work of a proved library: each of its checked modules as a file, in a folder that is named after the prover."""
     with open(f"{rlib}/format", encoding="utf-8") as file:
         build = dict(it.rstrip("\n").partition(" ")[::2] for it in file)["rattle-build"]
     folder = f"{kept}/{build.replace('/', '_')}"
@@ -32,67 +34,80 @@ def take_checked(rlib, kept):
                 file.write(archive.read(size))
 
 
+class Results:
+    """What the edits of a crate came to, kept on this machine beside the proofs that they stand on."""
+
+    def __init__(self, rt, kept, crate):
+        self.rt, self.kept, self.crate = rt, kept, crate
+
+    def name(self, file):
+        """Returns the name of an edit's result, which no edit has that is tried in a check of its own."""
+        return self.kept.of_edit(file, hashlib.sha256(f"several in a check {self.kept.key(self.crate)}".encode()).hexdigest())
+
+    def find(self, file):
+        """Returns the line of an edit that an earlier run saw refused, or None."""
+        found = self.kept.tried(self.name(file))
+        return found and found[1]
+
+    def keep(self, file, line):
+        if self.kept.is_untouched(self.crate):
+            self.kept.keep_tried(self.name(file), self.rt.REFUSED, line)
+
+
 class Gate:
     """`rt ci` with some of its calls replaced."""
 
     def __init__(self, rt, file):
-        self.rt, self.trials, self.said = rt, {}, {}
+        self.rt, self.said = rt, {}
         self.crate_ci, self.in_lanes = rt.Crate.ci, rt.in_lanes
         measured.measure(rt.rtlib, file)
         rt.Crate.ci = lambda crate, flags, tests: self.prove(crate, flags, tests)
-        rt.in_lanes = self.in_lanes_with_edits
-        rt.must_fail_all = lambda crate, files, flags: self.trials[crate.name].end() if files else []
-
-    def kept(self, crate):
-        return f"{crate.folder}/out/proved"
+        rt.add_edits, rt.in_lanes = self.add_edits, self.in_measured_lanes
 
     def prove(self, crate, flags, tests):
-        """Proves a library that has edits from nothing, with its proofs in what the crates above it use, and keeps these for its edits."""
+        """Proves a library that has edits from nothing, with its proofs in what the crates above it use."""
         if tests or not crate.makes_rlib() or not self.rt.edits_of(crate)[0]:
             return self.crate_ci(crate, flags, tests)
         crate.cuts_libraries = False
         status = self.crate_ci(crate, flags, tests)
         if not status:
-            with contextlib.suppress(FileNotFoundError):
-                # (with no stamp, later commands build their own, as after rt ci)
-                os.remove(f"{os.path.dirname(crate.rlib)}/stamp")
-            shutil.rmtree(self.kept(crate), ignore_errors=True)
-            take_checked(crate.rlib, self.kept(crate))
             crate.out.seek(0)
             self.said[crate.name] = crate.out.read()
         return status
 
-    def in_lanes_with_edits(self, tasks):
-        """Runs rt's tasks, with those of a crate's edits split so that several lanes can share them, and the measured seconds in the place of lines."""
-        more, crates = {}, {it.name: it for it in self.rt.rtlib.crates_below(os.getcwd())}
-        for (name, kind), (waits, lines, memory, call) in tasks.items():
-            seconds = lines and measured.seconds_of(crates[name], kind)
-            if kind != "edits" or not self.rt.edits_of(crates[name])[0]:
-                more[name, kind] = waits, seconds, memory, call
-                continue
-            said = lambda name=name: self.said.get(name)
-            trial = edits.Trial(self.rt, crates[name], self.kept(crates[name]), f"{crates[name].folder}/out/edits", said=said)
-            is_well = lambda given, name=name: given[name, "proof"] and given[name, "tests"]
-            self.trials[name] = trial
-            more.update(trial.tasks(waits, seconds, is_well, self.ended(trial, call)))
-        return self.in_lanes(more)
+    def add_edits(self, tasks, crate, files, first, waits, is_well, kept):
+        """Adds the tasks that try a crate's edits, so that several lanes can share them. As rt's, it returns what gives their results, in order, and what gives those of earlier runs."""
+        if not files:
+            return lambda given: [], dict
+        kept_work = f"{crate.folder}/out/proved"
 
-    def ended(self, trial, call):
-        """Returns the last call of a trial, after which its crate's kept work is not needed any more."""
+        def prepare():
+            shutil.rmtree(kept_work, ignore_errors=True)
+            take_checked(crate.rlib, kept_work)
 
         def end(given, jobs):
             try:
-                return call(given, jobs)
+                return trial.end() if is_well(given) else []
             finally:
-                shutil.rmtree(trial.kept, ignore_errors=True)
+                shutil.rmtree(kept_work, ignore_errors=True)
 
-        return end
+        trial = edits.Trial(self.rt, crate, kept_work, f"{crate.folder}/out/edits", results=Results(self.rt, kept, crate), prepare=prepare, said=lambda: self.said.get(crate.name))
+        tasks.update(trial.tasks(waits, measured.seconds_of(crate, "edits"), is_well, end))
+        # (an edit that cannot be read fails here)
+        return lambda given: [(self.rt.REFUSED if passes else self.rt.MISSED, line) for passes, line in given[crate.name, "edits"]], lambda: trial.earlier
+
+    def in_measured_lanes(self, tasks):
+        """Runs rt's tasks with the measured seconds of proofs in the place of lines."""
+        crates = {it.name: it for it in self.rt.rtlib.crates_below(os.getcwd())}
+        weigh = lambda name, kind, lines: lines and measured.seconds_of(crates[name], kind)
+        return self.in_lanes({it: (waits, lines if it[1] == "edits" else weigh(*it, lines), memory, call) for it, (waits, lines, memory, call) in tasks.items()})
 
 
 def main():
+    file, *words = sys.argv[1:]
     rt = edits.load_rt()
-    Gate(rt, os.path.abspath(sys.argv[1]))
-    return rt.ci()
+    Gate(rt, os.path.abspath(file))
+    return rt.ci("--anew" in words, [it for it in words if it != "--anew"])
 
 
 if __name__ == "__main__":
