@@ -1,161 +1,410 @@
-//! The commands as clap reads them.
-use crate::client_commands::add_client_commands;
-use crate::diff_command::diff_command;
-use crate::manifest_arguments::manifest_command;
-use crate::serve_command::serve_command;
-use clap::{Arg, ArgAction, Command};
-use std::alloc::{AllocError, Global};
+//! The commands of the program, as rows.
+use crate::rows::{ArgumentRow, CommandRow, Given, NumberRange, OptionRow, Takes};
 
-/// The option for names, which may come several times.
-pub fn names_option<'a>(alloc: Global) -> Arg<'a> {
-    Arg::new(alloc, "names")
-        .long("names")
-        .value_name("FILE")
-        .help(
-            "Keysym names, in the form of keysymdef.h, or builtin for the names of keysymdef.h itself",
-        )
-        .action(ArgAction::Append)
+/// A command of the program.
+#[derive(Clone, Copy)]
+pub enum CommandName {
+    Type,
+    Check,
+    Diff,
+    Explain,
+    Make,
+    Manifest,
+    Serve,
+    Load,
+    Session,
 }
 
-/// The option for more of a refusal, which each command has.
-pub fn verbose_option<'a>(alloc: Global) -> Arg<'a> {
-    Arg::new(alloc, "verbose")
-        .short('v')
-        .long("verbose")
-        .help("Say more of a refusal: file, line and column, and hints")
-        .action(ArgAction::SetTrue)
+/// All commands, in the order of the program's help.
+pub const COMMANDS: [CommandName; 9] = [
+    CommandName::Type,
+    CommandName::Check,
+    CommandName::Diff,
+    CommandName::Explain,
+    CommandName::Make,
+    CommandName::Manifest,
+    CommandName::Serve,
+    CommandName::Load,
+    CommandName::Session,
+];
+
+/// The row of a command.
+pub fn row_of(command: CommandName) -> &'static CommandRow {
+    match command {
+        CommandName::Type => &TYPE,
+        CommandName::Check => &CHECK,
+        CommandName::Diff => &DIFF,
+        CommandName::Explain => &EXPLAIN,
+        CommandName::Make => &MAKE,
+        CommandName::Manifest => &MANIFEST,
+        CommandName::Serve => &SERVE,
+        CommandName::Load => &LOAD,
+        CommandName::Session => &SESSION,
+    }
 }
 
-/// The option for fresh keysyms.
-pub fn fresh_option<'a>(alloc: Global) -> Arg<'a> {
-    Arg::new(alloc, "fresh")
-        .long("fresh")
-        .value_name("KEYS")
-        .help("Keysyms that no sequence of the old table has, joined by commas")
-        .action(ArgAction::Set)
-}
+/// More of a refusal.
+const VERBOSE: OptionRow = OptionRow {
+    name: "verbose",
+    letter: Some('v'),
+    takes: Takes::Nothing,
+    help: "Say more of a refusal: file, line and column, and hints",
+};
 
-/// A file that is required.
-pub fn file<'a>(alloc: Global, name: &'a str, help: &'a str) -> Arg<'a> {
-    Arg::new(alloc, name).help(help).required(true)
-}
+/// Names of keysyms.
+const NAMES: OptionRow = OptionRow {
+    name: "names",
+    letter: None,
+    takes: Takes::Values("FILE"),
+    help: "Keysym names, in the form of keysymdef.h, or builtin for the names of keysymdef.h itself",
+};
+
+/// Fresh keysyms.
+const FRESH: OptionRow = OptionRow {
+    name: "fresh",
+    letter: None,
+    takes: Takes::Value("KEYS"),
+    help: "Keysyms that no sequence of the old table has, joined by commas",
+};
+
+/// The folder of the system's tables.
+const SYSTEM: OptionRow = OptionRow {
+    name: "system",
+    letter: None,
+    takes: Takes::Value("DIR"),
+    help: "The folder for %S in place of $XLOCALEDIR or /usr/share/X11/locale",
+};
+
+/// The name of a locale.
+const LOCALE: OptionRow = OptionRow {
+    name: "locale",
+    letter: None,
+    takes: Takes::Value("NAME"),
+    help: "The locale for %L in place of $LC_ALL, $LC_CTYPE or $LANG",
+};
+
+/// The table that is used.
+const TABLE: ArgumentRow = ArgumentRow {
+    name: "TABLE",
+    given: Given::Text,
+    help: "The manifest of the table",
+};
+
+/// The old table.
+const OLD: ArgumentRow = ArgumentRow {
+    name: "OLD",
+    given: Given::Text,
+    help: "The manifest of the old table",
+};
+
+/// The new table.
+const NEW: ArgumentRow = ArgumentRow {
+    name: "NEW",
+    given: Given::Text,
+    help: "The manifest of the new table",
+};
+
+/// The characters and keys.
+const REPERTOIRE: ArgumentRow = ArgumentRow {
+    name: "REPERTOIRE",
+    given: Given::Text,
+    help: "The characters that people need, and their keys",
+};
+
+/// The certificate.
+const CERTIFICATE: ArgumentRow = ArgumentRow {
+    name: "CERTIFICATE",
+    given: Given::Text,
+    help: "The certificate",
+};
+
+/// The socket of a running service.
+const SOCKET: ArgumentRow = ArgumentRow {
+    name: "SOCKET",
+    given: Given::Text,
+    help: "The path of the service's socket",
+};
 
 /// The command that types keys.
-fn type_command<'a>(alloc: Global) -> Result<Command<'a>, AllocError> {
-    Command::new(alloc, "type")
-        .about("Type keys with a table, and print what happens at each")
-        .after_help(
-            "Exit status: 0 typed, 2 input refused, 3 out of memory\nExample: composecheck type table.manifest Multi_key apostrophe e",
-        )
-        .arg(verbose_option(alloc))?
-        .arg(names_option(alloc))?
-        .arg(file(alloc, "TABLE", "The manifest of the table"))?
-        .arg(
-            Arg::new(alloc, "KEY")
-                .help("The names of the keysyms")
-                .required(true)
-                .num_args(1..),
-        )
-}
-
-/// The option for all that there is to tell, in place of the first.
-fn all_option<'a>(alloc: Global, help: &'a str) -> Arg<'a> {
-    Arg::new(alloc, "all")
-        .long("all")
-        .help(help)
-        .action(ArgAction::SetTrue)
-}
-
-/// The file of characters and keys.
-fn repertoire_file<'a>(alloc: Global) -> Arg<'a> {
-    file(
-        alloc,
-        "REPERTOIRE",
-        "The characters that people need, and their keys",
-    )
-}
-
-/// Adds the names, the old table and the new one to a command.
-fn add_tables<'a>(alloc: Global, command: Command<'a>) -> Result<Command<'a>, AllocError> {
-    command
-        .arg(verbose_option(alloc))?
-        .arg(names_option(alloc))?
-        .arg(fresh_option(alloc))?
-        .arg(file(alloc, "OLD", "The manifest of the old table"))?
-        .arg(file(alloc, "NEW", "The manifest of the new table"))
-}
+static TYPE: CommandRow = CommandRow {
+    name: "type",
+    about: "Type keys with a table, and print what happens at each",
+    after_help: "Exit status: 0 typed, 2 input refused, 3 out of memory\nExample: composecheck type table.manifest Multi_key apostrophe e",
+    options: &[VERBOSE, NAMES],
+    arguments: &[
+        TABLE,
+        ArgumentRow {
+            name: "KEY",
+            given: Given::Some,
+            help: "The names of the keysyms",
+        },
+    ],
+};
 
 /// The command that checks a certificate.
-fn check_command<'a>(alloc: Global) -> Result<Command<'a>, AllocError> {
-    let command = Command::new(alloc, "check")
-        .about("Check by a certificate that a new table changes nobody's typing")
-        .after_help(
-            "With --fresh, a certificate whose fresh keysyms are not all among KEYS is answered no.\nExit status: 0 yes, 1 no, 2 input refused, 3 out of memory\nExample: composecheck check old.manifest new.manifest repertoire certificate",
-        );
-    add_tables(alloc, command)?
-        .arg(repertoire_file(alloc))?
-        .arg(file(alloc, "CERTIFICATE", "The certificate"))
-}
+static CHECK: CommandRow = CommandRow {
+    name: "check",
+    about: "Check by a certificate that a new table changes nobody's typing",
+    after_help: "With --fresh, a certificate whose fresh keysyms are not all among KEYS is answered no.\nExit status: 0 yes, 1 no, 2 input refused, 3 out of memory\nExample: composecheck check old.manifest new.manifest repertoire certificate",
+    options: &[VERBOSE, NAMES, FRESH],
+    arguments: &[OLD, NEW, REPERTOIRE, CERTIFICATE],
+};
 
-/// The option for the file of what is made.
-fn output_option<'a>(alloc: Global) -> Arg<'a> {
-    Arg::new(alloc, "output")
-        .short('o')
-        .long("output")
-        .value_name("FILE")
-        .help("Write the certificate to FILE, whole or not at all")
-        .action(ArgAction::Set)
-}
-
-/// The command that makes a certificate.
-fn make_command<'a>(alloc: Global) -> Result<Command<'a>, AllocError> {
-    let command = Command::new(alloc, "make")
-        .about("Make a certificate, or print why there is none")
-        .after_help(
-            "Exit status: 0 made, 1 none, 2 input refused, 3 out of memory\nExample: composecheck make -o certificate old.manifest new.manifest repertoire",
-        );
-    add_tables(alloc, command)?
-        .arg(all_option(
-            alloc,
-            "Print every character that can't be typed, and count them",
-        ))?
-        .arg(output_option(alloc))?
-        .arg(repertoire_file(alloc))
-}
+/// The command that tells what a new table changes.
+static DIFF: CommandRow = CommandRow {
+    name: "diff",
+    about: "Tell of each sequence that a new Compose file changes, removes, makes wait or adds",
+    after_help: "Names are those of keysymdef.h, unless --names gives others.\nExit status: 0 nothing changes for people who type, 1 something does, 2 input refused, 3 out of memory\nExample: composecheck diff /usr/share/X11/locale/en_US.UTF-8/Compose ~/.XCompose",
+    options: &[
+        NAMES,
+        FRESH,
+        OptionRow {
+            name: "overlap",
+            letter: None,
+            takes: Takes::OneOf {
+                name: "RULE",
+                values: &["refuse", "longest"],
+                default: "refuse",
+            },
+            help: "Of a sequence that another one begins with: refuse the table, or take the longest",
+        },
+        OptionRow {
+            name: "accept",
+            letter: None,
+            takes: Takes::Value("FILE"),
+            help: "Leave out and count apart the changes that FILE lists; refuse a line of it that tells none",
+        },
+        OptionRow {
+            name: "write-accept",
+            letter: None,
+            takes: Takes::Nothing,
+            help: "Print the list that accepts the changes, in place of the changes",
+        },
+        OptionRow {
+            name: "no-fold",
+            letter: None,
+            takes: Takes::Nothing,
+            help: "Print a line for each sequence",
+        },
+        OptionRow {
+            name: "format",
+            letter: None,
+            takes: Takes::OneOf {
+                name: "FORMAT",
+                values: &["text", "json"],
+                default: "text",
+            },
+            help: "Lines for people, or json: an object for each sequence, the kept ones too",
+        },
+        OptionRow {
+            name: "color",
+            letter: None,
+            takes: Takes::OneOf {
+                name: "WHEN",
+                values: &["auto", "always", "never"],
+                default: "auto",
+            },
+            help: "Colour the lines: on a terminal unless NO_COLOR is set (auto), always, or never",
+        },
+        SYSTEM,
+        LOCALE,
+    ],
+    arguments: &[
+        ArgumentRow {
+            name: "OLD",
+            given: Given::Text,
+            help: "The old Compose file",
+        },
+        ArgumentRow {
+            name: "NEW",
+            given: Given::Text,
+            help: "The new Compose file",
+        },
+    ],
+};
 
 /// The command that explains how two tables differ.
-fn explain_command<'a>(alloc: Global) -> Result<Command<'a>, AllocError> {
-    let command = Command::new(alloc, "explain")
-        .about("Print the shortest keys on which two tables differ")
-        .after_help(
-            "Exit status: 0 no difference, 1 a difference, 2 input refused, 3 out of memory\nExample: composecheck explain --all old.manifest new.manifest",
-        );
-    add_tables(alloc, command)?.arg(all_option(
-        alloc,
-        "Print every shortest difference, and count them",
-    ))
-}
+static EXPLAIN: CommandRow = CommandRow {
+    name: "explain",
+    about: "Print the shortest keys on which two tables differ",
+    after_help: "Exit status: 0 no difference, 1 a difference, 2 input refused, 3 out of memory\nExample: composecheck explain --all old.manifest new.manifest",
+    options: &[
+        VERBOSE,
+        NAMES,
+        FRESH,
+        OptionRow {
+            name: "all",
+            letter: None,
+            takes: Takes::Nothing,
+            help: "Print every shortest difference, and count them",
+        },
+    ],
+    arguments: &[OLD, NEW],
+};
 
-/// Adds the commands on an old table and a new one.
-fn add_move_commands<'a>(alloc: Global, command: Command<'a>) -> Result<Command<'a>, AllocError> {
-    command
-        .subcommand(check_command(alloc)?)?
-        .subcommand(diff_command(alloc)?)?
-        .subcommand(explain_command(alloc)?)?
-        .subcommand(make_command(alloc)?)
-}
+/// The command that makes a certificate.
+static MAKE: CommandRow = CommandRow {
+    name: "make",
+    about: "Make a certificate, or print why there is none",
+    after_help: "Exit status: 0 made, 1 none, 2 input refused, 3 out of memory\nExample: composecheck make -o certificate old.manifest new.manifest repertoire",
+    options: &[
+        VERBOSE,
+        NAMES,
+        FRESH,
+        OptionRow {
+            name: "all",
+            letter: None,
+            takes: Takes::Nothing,
+            help: "Print every character that can't be typed, and count them",
+        },
+        OptionRow {
+            name: "output",
+            letter: Some('o'),
+            takes: Takes::Value("FILE"),
+            help: "Write the certificate to FILE, whole or not at all",
+        },
+    ],
+    arguments: &[OLD, NEW, REPERTOIRE],
+};
 
-/// All commands.
-pub fn command_line<'a>(alloc: Global) -> Result<Command<'a>, AllocError> {
-    let command = Command::new(alloc, "composecheck")
-        .version("0.3.0")
-        .about(
-            "Check migrations between X11 Compose tables, type with them, and serve typing sessions",
-        )
-        .subcommand_required(true)
-        .subcommand(type_command(alloc)?)?;
-    let command = add_move_commands(alloc, command)?
-        .subcommand(manifest_command(alloc)?)?
-        .subcommand(serve_command(alloc)?)?;
-    add_client_commands(alloc, command)
-}
+/// The command that prints the manifest of a Compose file.
+static MANIFEST: CommandRow = CommandRow {
+    name: "manifest",
+    about: "Print the manifest of a Compose file as it lies on the system, includes followed",
+    after_help: "Exit status: 0 printed, 2 input refused, 3 out of memory\nExample: composecheck manifest --locale en_US.UTF-8 ~/.XCompose > table.manifest",
+    options: &[VERBOSE, SYSTEM, LOCALE],
+    arguments: &[ArgumentRow {
+        name: "FILE",
+        given: Given::Text,
+        help: "The Compose file",
+    }],
+};
+
+/// The command that serves.
+static SERVE: CommandRow = CommandRow {
+    name: "serve",
+    about: "Serve typing sessions on a Unix socket, one connection after another or many at once",
+    after_help: "Exit status: 0 served, 1 the certificate is not valid, 2 input refused, 3 out of memory\nExample: composecheck serve table.manifest repertoire certificate compose.socket 100",
+    options: &[
+        VERBOSE,
+        NAMES,
+        OptionRow {
+            name: "at-once",
+            letter: None,
+            takes: Takes::Number {
+                name: "N",
+                range: NumberRange::U16(1, 1024),
+                default: None,
+            },
+            help: "Serve up to N connections at once, 1 to 1024; others wait",
+        },
+        OptionRow {
+            name: "unsent",
+            letter: None,
+            takes: Takes::Number {
+                name: "BYTES",
+                range: NumberRange::U32(1, u32::MAX),
+                default: Some("65536"),
+            },
+            help: "With --at-once: answer no more of a connection's requests while so many bytes of replies are unsent",
+        },
+        OptionRow {
+            name: "mode",
+            letter: None,
+            takes: Takes::OneOf {
+                name: "MODE",
+                values: &["600", "660", "666"],
+                default: "600",
+            },
+            help: "Who may connect: 600 the user, 660 the group too, 666 everyone",
+        },
+        OptionRow {
+            name: "replace",
+            letter: None,
+            takes: Takes::Nothing,
+            help: "Replace a socket that nobody listens on",
+        },
+        OptionRow {
+            name: "unlink",
+            letter: None,
+            takes: Takes::Nothing,
+            help: "Remove the socket's file at the end",
+        },
+    ],
+    arguments: &[
+        TABLE,
+        REPERTOIRE,
+        ArgumentRow {
+            name: "CERTIFICATE",
+            given: Given::Text,
+            help: "The certificate of the table against itself",
+        },
+        ArgumentRow {
+            name: "SOCKET",
+            given: Given::Text,
+            help: "The path of the socket",
+        },
+        ArgumentRow {
+            name: "CONNECTIONS",
+            given: Given::Number(NumberRange::U16(1, u16::MAX)),
+            help: "End after so many connections",
+        },
+    ],
+};
+
+/// The command that loads a table.
+static LOAD: CommandRow = CommandRow {
+    name: "load",
+    about: "Load a new table into a running service, by a certificate that it follows the table in use",
+    after_help: "Exit status: 0 loaded, 1 refused by the service, 2 input refused, 3 out of memory\nExample: composecheck load compose.socket new.manifest certificate",
+    options: &[VERBOSE],
+    arguments: &[SOCKET, NEW, CERTIFICATE],
+};
+
+/// The command that types in a session.
+static SESSION: CommandRow = CommandRow {
+    name: "session",
+    about: "Type keys in a session of a running service, and print what happens at each",
+    after_help: "Exit status: 0 answered, 1 refused by the service, 2 input refused, 3 out of memory\nExample: composecheck session --open compose.socket 7 Multi_key apostrophe",
+    options: &[
+        VERBOSE,
+        NAMES,
+        OptionRow {
+            name: "open",
+            letter: None,
+            takes: Takes::Nothing,
+            help: "Open the session first",
+        },
+        OptionRow {
+            name: "reset",
+            letter: None,
+            takes: Takes::Nothing,
+            help: "Put the session to rest before the keys",
+        },
+        OptionRow {
+            name: "ask",
+            letter: None,
+            takes: Takes::Nothing,
+            help: "Print where the session stands, after the keys",
+        },
+        OptionRow {
+            name: "close",
+            letter: None,
+            takes: Takes::Nothing,
+            help: "Close the session at the end",
+        },
+    ],
+    arguments: &[
+        SOCKET,
+        ArgumentRow {
+            name: "NUMBER",
+            given: Given::Number(NumberRange::U32(0, u32::MAX)),
+            help: "The number of the session",
+        },
+        ArgumentRow {
+            name: "KEY",
+            given: Given::Any,
+            help: "The names of the keysyms",
+        },
+    ],
+};

@@ -1,6 +1,6 @@
 //! The arguments of the command line of `composecheck`, as requests.
 //!
-//! A command is a variant of [`Request`], a `Command` of clap in `commands`, and a line of `request_of`.
+//! A command is a variant of [`Request`], a row of `commands`, and a line of `request_of`.
 //!
 //! ```text
 //! read_command_line(alloc, &arguments)?.request    // type table.manifest a b
@@ -9,14 +9,13 @@
 #![tactic(auto)]
 
 mod client_arguments;
-mod client_commands;
+mod command_line;
 mod commands;
 mod diff_arguments;
-mod diff_command;
 mod manifest_arguments;
 mod request;
+mod rows;
 mod serve_arguments;
-mod serve_command;
 
 pub use client_arguments::{LoadArguments, SessionArguments};
 pub use diff_arguments::{DiffArguments, DiffColor, DiffForm};

@@ -4,12 +4,12 @@ ghost use Rattle.std.specs.List.{slice_split};
 ghost use Rattle.compose_arguments.specs.Commas.{names_between};
 
 use crate::client_arguments::{LoadArguments, SessionArguments, load_arguments, session_arguments};
-use crate::commands::command_line;
+use crate::command_line::command_line;
 use crate::diff_arguments::{DiffArguments, diff_arguments};
 use crate::manifest_arguments::{ManifestArguments, manifest_arguments};
 use crate::serve_arguments::{ServeArguments, serve_arguments};
 use clap::error::ErrorKind;
-use clap::{ArgMatches, Error};
+use clap::{ArgMatches, Command, Error};
 use std::alloc::{AllocError, Global};
 
 /// What the command line asks for: its arguments and paths, which are lent by it.
@@ -92,12 +92,16 @@ pub fn read_command_line<'a>(
     arguments: &'a [String],
 ) -> Result<CommandLine<'a>, Error> {
     let matches = command_line(alloc)?.try_get_matches_from(arguments)?;
-    let names = names_of(alloc, &matches)?;
-    let verbose = is_verbose(&matches);
-    match request_of(alloc, &matches)? {
+    arguments_found(alloc, &matches)
+}
+
+/// What was found says.
+fn arguments_found<'a>(alloc: Global, matches: &ArgMatches<'a>) -> Result<CommandLine<'a>, Error> {
+    let names = names_of(alloc, matches)?;
+    match request_of(alloc, matches)? {
         Some(request) => Ok(CommandLine {
             names,
-            verbose,
+            verbose: is_verbose(matches),
             request,
         }),
         None => Err(no_request(alloc)?),
@@ -125,7 +129,13 @@ fn is_verbose(matches: &ArgMatches<'_>) -> bool {
 
 /// What is said where an argument is missing that clap has let pass.
 fn no_request(alloc: Global) -> Result<Error, AllocError> {
-    command_line(alloc)?.error(ErrorKind::MissingRequiredArgument, "a word is missing")
+    let mut command = command_line(alloc)?;
+    missing_word(&mut command)
+}
+
+/// That a word is missing.
+fn missing_word(command: &mut Command<'_>) -> Result<Error, AllocError> {
+    command.error(ErrorKind::MissingRequiredArgument, "a word is missing")
 }
 
 /// What the command that was found asks for, if it has its arguments.
@@ -133,18 +143,36 @@ fn request_of<'a>(
     alloc: Global,
     matches: &ArgMatches<'a>,
 ) -> Result<Option<Request<'a>>, AllocError> {
-    match matches.subcommand() {
-        Some(("type", given)) => type_request(alloc, given),
-        Some(("check", given)) => check_request(alloc, given),
-        Some(("explain", given)) => explain_request(alloc, given),
-        Some(("diff", given)) => diff_request(alloc, given),
-        Some(("make", given)) => make_request(alloc, given),
-        Some(("manifest", given)) => Ok(manifest_arguments(given).map(Request::Manifest)),
-        Some(("serve", given)) => Ok(serve_arguments(given).map(Request::Serve)),
-        Some(("load", given)) => Ok(load_arguments(given).map(Request::Load)),
-        Some(("session", given)) => Ok(session_arguments(alloc, given)?.map(Request::Session)),
-        _ => Ok(None),
+    let Some((command, given)) = matches.subcommand() else {
+        return Ok(None);
+    };
+    match command {
+        "type" => type_request(alloc, given),
+        "check" => check_request(alloc, given),
+        "explain" => explain_request(alloc, given),
+        "diff" => diff_request(alloc, given),
+        "make" => make_request(alloc, given),
+        "session" => session_request(alloc, given),
+        _ => Ok(request_without_lists(command, given)),
     }
+}
+
+/// What a command asks for that takes no list.
+fn request_without_lists<'a>(command: &str, given: &ArgMatches<'a>) -> Option<Request<'a>> {
+    match command {
+        "manifest" => manifest_arguments(given).map(Request::Manifest),
+        "serve" => serve_arguments(given).map(Request::Serve),
+        "load" => load_arguments(given).map(Request::Load),
+        _ => None,
+    }
+}
+
+/// The arguments of `session`.
+fn session_request<'a>(
+    alloc: Global,
+    given: &ArgMatches<'a>,
+) -> Result<Option<Request<'a>>, AllocError> {
+    Ok(session_arguments(alloc, given)?.map(Request::Session))
 }
 
 /// The arguments of `type`.

@@ -28,11 +28,12 @@ pub struct ServeArguments<'a> {
 
 /// The arguments of `serve`, if they are all there.
 pub fn serve_arguments<'a>(given: &ArgMatches<'a>) -> Option<ServeArguments<'a>> {
+    let (table, repertoire, certificate, socket) = serve_paths(given)?;
     Some(ServeArguments {
-        table: given.get_str("TABLE")?,
-        repertoire: given.get_str("REPERTOIRE")?,
-        certificate: given.get_str("CERTIFICATE")?,
-        socket: given.get_str("SOCKET")?,
+        table,
+        repertoire,
+        certificate,
+        socket,
         connections: given.get_one::<u16>("CONNECTIONS")?,
         at_once: given.get_one::<u16>("at-once"),
         unsent: given.get_one::<u32>("unsent")?,
@@ -40,6 +41,16 @@ pub fn serve_arguments<'a>(given: &ArgMatches<'a>) -> Option<ServeArguments<'a>>
         replace: given.get_flag("replace"),
         unlink: given.get_flag("unlink"),
     })
+}
+
+/// The paths of the table, the repertoire, the certificate and the socket.
+fn serve_paths<'a>(given: &ArgMatches<'a>) -> Option<(&'a str, &'a str, &'a str, &'a str)> {
+    Some((
+        given.get_str("TABLE")?,
+        given.get_str("REPERTOIRE")?,
+        given.get_str("CERTIFICATE")?,
+        given.get_str("SOCKET")?,
+    ))
 }
 
 /// The mode that an argument of `--mode` says.

@@ -1,0 +1,124 @@
+//! The rows of `commands` as clap reads them.
+use crate::commands::{COMMANDS, row_of};
+use crate::rows::{ArgumentRow, CommandRow, Given, NumberRange, OptionRow, Takes};
+use clap::builder::ValueParser;
+use clap::{Arg, ArgAction, Command, value_parser};
+use std::alloc::{AllocError, Global};
+
+/// All commands.
+pub fn command_line<'a>(alloc: Global) -> Result<Command<'a>, AllocError> {
+    let mut program = program(alloc);
+    for command in COMMANDS {
+        program = program.subcommand(command_of(alloc, row_of(command))?)?;
+    }
+    Ok(program)
+}
+
+/// The program without its commands.
+fn program<'a>(alloc: Global) -> Command<'a> {
+    Command::new(alloc, "composecheck")
+        .version("0.3.0")
+        .about(
+            "Check migrations between X11 Compose tables, type with them, and serve typing sessions",
+        )
+        .subcommand_required(true)
+}
+
+/// A command with its options and arguments.
+fn command_of<'a>(alloc: Global, row: &CommandRow) -> Result<Command<'a>, AllocError> {
+    let mut arguments = options_of(alloc, row.options)?;
+    add_arguments(alloc, row.arguments, &mut arguments)?;
+    Command::new(alloc, row.name)
+        .about(row.about)
+        .after_help(row.after_help)
+        .args(arguments)
+}
+
+/// The options of a command.
+fn options_of<'a>(alloc: Global, rows: &[OptionRow]) -> Result<Vec<Arg<'a>>, AllocError> {
+    let mut options = Vec::new(alloc);
+    for row in rows {
+        options.push(option_of(alloc, row))?;
+    }
+    Ok(options)
+}
+
+/// Adds the arguments of a command that go by their places.
+fn add_arguments<'a>(
+    alloc: Global,
+    rows: &[ArgumentRow],
+    arguments: &mut Vec<Arg<'a>>,
+) -> Result<(), AllocError> {
+    for row in rows {
+        arguments.push(argument_of(alloc, row))?;
+    }
+    Ok(())
+}
+
+/// An option.
+fn option_of<'a>(alloc: Global, row: &OptionRow) -> Arg<'a> {
+    let option = Arg::new(alloc, row.name).long(row.name);
+    let option = with_letter(option, row.letter).help(row.help);
+    with_value(option, row.takes)
+}
+
+/// The option with its letter.
+fn with_letter<'a>(option: Arg<'a>, letter: Option<char>) -> Arg<'a> {
+    match letter {
+        Some(letter) => option.short(letter),
+        None => option,
+    }
+}
+
+/// The option with what follows it.
+fn with_value<'a>(option: Arg<'a>, takes: Takes) -> Arg<'a> {
+    match takes {
+        Takes::Nothing => option.action(ArgAction::SetTrue),
+        Takes::Value(name) => option.value_name(name).action(ArgAction::Set),
+        Takes::Values(name) => option.value_name(name).action(ArgAction::Append),
+        Takes::OneOf {
+            name,
+            values,
+            default,
+        } => option
+            .value_name(name)
+            .value_parser(values)
+            .default_value(default),
+        Takes::Number {
+            name,
+            range,
+            default,
+        } => with_default(option.value_name(name), default).value_parser(number_in(range)),
+    }
+}
+
+/// The option with the value that it has where it is not given.
+fn with_default<'a>(option: Arg<'a>, default: Option<&'a str>) -> Arg<'a> {
+    match default {
+        Some(default) => option.default_value(default),
+        None => option,
+    }
+}
+
+/// An argument that goes by its place.
+fn argument_of<'a>(alloc: Global, row: &ArgumentRow) -> Arg<'a> {
+    let argument = Arg::new(alloc, row.name).help(row.help);
+    match row.given {
+        Given::Text => argument.required(true),
+        Given::Number(range) => argument.required(true).value_parser(number_in(range)),
+        Given::Some => argument.required(true).num_args(1..),
+        Given::Any => argument.num_args(0..),
+    }
+}
+
+/// The numbers of a range.
+fn number_in<'a>(range: NumberRange) -> ValueParser<'a> {
+    match range {
+        NumberRange::U16(least, most) => {
+            value_parser!(u16).range(i64::from(least)..=i64::from(most))
+        }
+        NumberRange::U32(least, most) => {
+            value_parser!(u32).range(i64::from(least)..=i64::from(most))
+        }
+    }
+}
