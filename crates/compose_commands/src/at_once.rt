@@ -1,7 +1,7 @@
 //! `serve --at-once`: many connections to one service.
-use crate::report::{no_memory, refused, written};
 use compose_arguments::ServeArguments;
 use compose_hub::{Limits, Report, serve_at_once};
+use compose_report::{no_memory, refused, written};
 use compose_serve::{Answer, Ended as ConnectionEnded, ServeFault};
 use compose_serving::connection_line;
 use compose_tool::{Ended, Shown};

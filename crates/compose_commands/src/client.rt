@@ -1,15 +1,12 @@
 //! `load` and `session`: a client of a running service. An error is the end of a run whose refusal was told.
-ghost use Rattle.std.specs.Prelude.{◌≡◌};
-ghost use Rattle.compose_commands.specs.Ends.{exchange_end};
-
 use crate::files::{NameFiles, TableFiles, read_file};
-use crate::report::{no_memory, refused, report_given, written};
 use compose_arguments::{LoadArguments, SessionArguments};
 use compose_bundle::BundleFault;
 use compose_client::{ReplyFeeder, RequestFault, put_request};
 use compose_details::Given;
 use compose_migration::Named;
-use compose_session::{Asked, End, Report, load_request, report_replies, session_requests};
+use compose_report::{no_memory, refused, report_exchange, report_given};
+use compose_session::{Asked, load_request, report_replies, session_requests};
 use compose_tool::{Ended, Refusal, Shown};
 use compose_tree::ComposeTable;
 use compose_wire::{Answer, Reply, Request};
@@ -170,27 +167,4 @@ fn receive(
         }
     }
     Ok(None)
-}
-
-/// Prints what is told of an exchange, and why it has no end where it has none.
-fn report_exchange(rt: &(impl Print + Eprint), told: &Report) -> Ended {
-    let ended = written(rt, print!(rt; "{}", told.text), end_of_exchange(told.end));
-    match told.end {
-        End::Answered | End::Refused => ended,
-        End::Closed => refused(eprintln!(rt; "refused: connection: closed before the reply")),
-        End::Unexpected => {
-            refused(eprintln!(rt; "refused: connection: not the reply that was asked for"))
-        }
-    }
-}
-
-/// How a run ends after an exchange.
-fn end_of_exchange(end: End) -> Ended
-    ensures { result ≡ exchange_end end }
-{
-    match end {
-        End::Answered => Ended::Yes,
-        End::Refused => Ended::No,
-        End::Closed | End::Unexpected => Ended::Refused,
-    }
 }

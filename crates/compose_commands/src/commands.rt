@@ -4,11 +4,11 @@ use crate::client::{load_files, session_files};
 use crate::differing::diff_files;
 use crate::files::{MoveFiles, NameFiles, TableFiles, read_file};
 use crate::manifest::manifest_files;
-use crate::report::{report_given, report_into};
 use crate::serving::serve_files;
 use compose_arguments::{CommandLine, Request, TablePaths};
 use compose_check::CheckInput;
 use compose_details::{Given, GivenTable};
+use compose_report::{report_given, report_into};
 use compose_tool::{
     Answer, Ended, Refusal, check_allowed, check_migration, explain_all_migration,
     explain_migration, make_all_migration, make_migration, type_keys,

@@ -1,8 +1,4 @@
 //! Files, and what they hold. An error is the end of a run whose refusal was told.
-ghost use Rattle.std.specs.Prelude.{◌≡◌, ◌++◌, OnOk};
-ghost use Rattle.compose_commands.specs.Headers.{ended};
-
-use crate::report::{no_memory, refused, tell_about};
 use builtin_names::builtin_names;
 use compose_arguments::TablePaths;
 use compose_details::{Given, GivenTable, Header, line_count, manifest_details};
@@ -11,6 +7,7 @@ use compose_messages::{open_words, source_words};
 use compose_migration::{MigrationInput, TableInput};
 use compose_model::Rule;
 use compose_read::{SourceFault, Sources};
+use compose_report::{add_names, no_memory, refused, tell_about};
 use compose_tool::{Ended, Manifest, ManifestFault, Shown, read_manifest};
 use std::alloc::AllocError;
 use std::rt::Files;
@@ -97,17 +94,6 @@ impl<'n> NameFiles<'n> {
         })?;
         add_names(&mut self.lines, lines)
     }
-}
-
-/// Adds the lines of a file of names to those of the files before it. A newline ends each file, so that no line runs on.
-fn add_names(header: &mut Vec<u8>, lines: &[u8]) -> Result<(), AllocError>
-    ensures { OnOk result (header.new.items ≡ header.old.items ++ ended lines.now) }
-{
-    header.extend_from_slice(lines)?;
-    if !lines.ends_with(b"\n") {
-        header.push(b'\n')?;
-    }
-    Ok(())
 }
 
 /// The sources of a table, the paths of their files, and what is done with its overlaps.

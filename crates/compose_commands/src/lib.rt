@@ -1,5 +1,6 @@
-//! The commands of `composecheck` over any form of a table: files, printing and exit statuses. The arguments of the command line stand in
-//! `compose_arguments`, what a command answers on the bytes that it is given in `compose_tool`.
+//! The commands of `composecheck` over any form of a table: files, sockets and exit statuses. The arguments of the command line stand in
+//! `compose_arguments`, what a command answers on the bytes that it is given in `compose_tool`, and what it prints of that in
+//! `compose_report`.
 //!
 //! ```text
 //! fn main(rt: HostRuntime) -> ExitCode {
@@ -16,7 +17,6 @@ mod files;
 mod found;
 mod manifest;
 mod program;
-mod report;
 mod serving;
 
 pub use program::run;

@@ -1,11 +1,11 @@
 //! `manifest`: finds the sources of a Compose file on the system. An error is the end of a run whose refusal was told.
 use crate::files::tell_unread;
-use crate::report::{no_memory, refused, written};
 use compose_arguments::ManifestArguments;
 use compose_details::find_message;
 use compose_find::{FindFault, FoundSource, Meanings, beside, find_sources, locale_file};
 use compose_manifest::{WriteFault, manifest_text};
 use compose_messages::{FileMessage, Message, open_words};
+use compose_report::{no_memory, refused, written};
 use compose_tool::{Ended, Shown};
 use std::alloc::{AllocError, Global};
 use std::env::VarError;

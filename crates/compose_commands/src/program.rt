@@ -3,8 +3,8 @@ ghost use Rattle.std.specs.Prelude.{◌≤◌};
 ghost use Rattle.std.specs.Process.{exit_status};
 
 use crate::commands::answer;
-use crate::report::{no_memory, refused, report_arguments};
 use compose_arguments::read_command_line;
+use compose_report::{no_memory, refused, report_arguments};
 use compose_tool::Ended;
 use compose_tree::ComposeTable;
 use std::net::Net;

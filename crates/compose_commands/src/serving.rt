@@ -1,9 +1,9 @@
 //! `serve`: a service on a socket. An error is the end of a run whose refusal was told.
 use crate::at_once::{print_end, serve_many};
 use crate::files::{NameFiles, TableFiles, read_file};
-use crate::report::{no_memory, refused, report, report_given, written};
 use compose_arguments::ServeArguments;
 use compose_details::Given;
+use compose_report::{no_memory, refused, report, report_given, written};
 use compose_serve::{Device, serve};
 use compose_service::Service;
 use compose_serving::{BeginFault, BeginInput, begin};
