@@ -1,9 +1,13 @@
 //! Streams of requests and the bytes of replies, written out.
+ghost use Rattle.std.specs.Prelude.{◌≤◌};
+
+use crate::helpers::expect_text;
 use arrayvec::{ArrayString, ArrayVec};
 use compose_model::Status;
 use compose_wire::{Answer, Body, Feeder, Reply, Request, WireFault, put_reply};
 use keysym_core::Keysym;
 use std::alloc::{AllocError, Global};
+use std::fmt::Write;
 use std::process::Abort;
 use std::test::Fail;
 
@@ -12,10 +16,16 @@ const OPEN_AND_KEY: [u8; 22] = [
     1, 0, 0, 0, 7, 0, 0, 0, 0, 2, 0, 0, 0, 7, 0, 0, 0, 4, 0, 0, 0xfe, 0x50,
 ];
 
-/// What came out of a stream: the requests, the fault behind them, and how many bytes are still held.
-#[derive(Debug, PartialEq, Eq, Drop)]
-struct Outcome {
-    requests: Vec<Request>,
+/// How each of these requests is printed, and how both are.
+const OPEN: &str = "Request { session: 7, body: Open };";
+
+const KEY: &str = "Request { session: 7, body: Key(65104) };";
+
+const BOTH: &str = "Request { session: 7, body: Open };Request { session: 7, body: Key(65104) };";
+
+/// How a stream ends: the fault behind its requests, and how many bytes are still held.
+#[derive(Clone, Copy)]
+struct End {
     fault: Option<WireFault>,
     held: usize,
 }
@@ -28,15 +38,20 @@ fn next(feeder: &mut Feeder, alloc: Global) -> Result<Option<Request>, WireFault
     feeder.next_request(alloc)
 }
 
-/// Gives out every request that stands.
+fn push_request(text: &mut String, request: &Request) -> Result<(), AllocError> {
+    write!(text, "{request:?};")?;
+    Ok(())
+}
+
+/// Prints every request that stands, and gives the fault behind them.
 fn take_all(
     alloc: Global,
     feeder: &mut Feeder,
-    requests: &mut Vec<Request>,
-) -> Result<Option<WireFault>, Fail> {
+    requests: &mut String,
+) -> Result<Option<WireFault>, AllocError> {
     for _ in 0..=feeder.held() {
         match next(feeder, alloc) {
-            Ok(Some(request)) => requests.push(request)?,
+            Ok(Some(request)) => push_request(requests, &request)?,
             Ok(None) => return Ok(None),
             Err(fault) => return Ok(Some(fault)),
         }
@@ -44,150 +59,189 @@ fn take_all(
     Ok(None)
 }
 
-/// Reads a stream that comes in two parts, each cut into pieces of some size.
-fn read_stream(alloc: Global, parts: [&[u8]; 2], size: usize) -> Result<Outcome, Fail> {
-    let mut feeder = Feeder::new(alloc);
-    let mut requests = Vec::new(alloc);
+/// Feeds bytes in pieces of some size, prints the requests, and gives the end.
+fn feed_pieces(
+    alloc: Global,
+    feeder: &mut Feeder,
+    bytes: &[u8],
+    size: usize,
+    requests: &mut String,
+) -> Result<End, WireFault> {
     let mut fault = None;
-    for part in parts {
-        for piece in part.chunks(size.max(1)) {
-            feed(&mut feeder, piece)?;
-            fault = take_all(alloc, &mut feeder, &mut requests)?;
-        }
+    for piece in bytes.chunks(size.max(1)) {
+        feed(feeder, piece)?;
+        fault = take_all(alloc, feeder, requests)?;
     }
-    Ok(Outcome {
-        requests,
-        fault,
-        held: feeder.held(),
-    })
+    let held = feeder.held();
+    Ok(End { fault, held })
 }
 
-/// Expects the parts of the stream of an open and a key to give both.
-fn expect_both(
+fn expect_end(rt: &impl Abort, row: &str, found: End, wanted: End) {
+    assert_eq!(rt; found.fault, wanted.fault, "{row}");
+    assert_eq!(rt; found.held, wanted.held, "{row}");
+}
+
+/// Expects bytes in pieces of some size to give these requests, and this end.
+fn expect_pieces(
     rt: &impl Abort,
     alloc: Global,
-    before: &[u8],
-    after: &[u8],
+    feeder: &mut Feeder,
+    bytes: &[u8],
     size: usize,
-) -> Result<(), Fail> {
-    let all = read_stream(alloc, [before, after], size)?;
-    let open = Request {
-        session: 7,
-        body: Body::Open,
-    };
-    let key = Request {
-        session: 7,
-        body: Body::Key(0xfe50),
-    };
-    let both = Outcome {
-        requests: vec![in alloc; open, key]?,
-        fault: None,
-        held: 0,
-    };
-    assert_eq!(rt; all, both, "cut behind {before:?}");
+    requests: &str,
+    end: End,
+) -> Result<(), WireFault> {
+    let mut text = String::new(alloc);
+    let found = feed_pieces(alloc, feeder, bytes, size, &mut text)?;
+    expect_text(rt, requests, &text, requests);
+    expect_end(rt, requests, found, end);
     Ok(())
 }
 
-/// Expects the prefix of that stream to give so many requests, and so many bytes to be held.
-fn expect_prefix(
-    rt: &impl Abort,
-    alloc: Global,
-    prefix: &[u8],
-    size: usize,
-    wanted: (usize, usize),
-) -> Result<(), Fail> {
-    let some = read_stream(alloc, [prefix, &[]], size)?;
-    assert_eq!(rt; (some.requests.len(), some.held), wanted);
-    Ok(())
+/// What the stream of an open and a key gives where it is cut: the requests of the first part, how many bytes are held behind them, and the
+/// requests that the other part gives.
+#[derive(Clone, Copy)]
+struct Cut {
+    before: &'static str,
+    held: usize,
+    after: &'static str,
 }
 
-/// How many requests stand in so many bytes of that stream, and how many bytes are left.
-fn prefix_of(index: usize) -> (usize, usize) {
-    if index < 9 {
-        (0, index)
+fn cut_at(index: usize) -> Cut {
+    let (before, held, after) = if index < 9 {
+        ("", index, BOTH)
     } else if index < 22 {
-        (1, index - 9)
+        (OPEN, index - 9, KEY)
     } else {
-        (2, 0)
+        (BOTH, 0, "")
+    };
+    Cut {
+        before,
+        held,
+        after,
     }
+}
+
+/// Expects what the stream gives where it is cut, each part in pieces of some size.
+fn expect_cut(rt: &impl Abort, alloc: Global, index: usize, size: usize) -> Result<(), WireFault>
+    requires { index ≤ 22 }
+{
+    let (before, after) = (&OPEN_AND_KEY[..index], &OPEN_AND_KEY[index..]);
+    let cut = cut_at(index);
+    let fault = None;
+    let between = End {
+        fault,
+        held: cut.held,
+    };
+    let end = End { fault, held: 0 };
+    let mut feeder = Feeder::new(alloc);
+    expect_pieces(rt, alloc, &mut feeder, before, size, cut.before, between)?;
+    expect_pieces(rt, alloc, &mut feeder, after, size, cut.after, end)
 }
 
 #[test]
-fn cut_anywhere(rt: HostRuntime) -> Result<(), Fail> {
-    let stream = OPEN_AND_KEY.as_slice();
-    for index in 0..=stream.len() {
-        let (before, after) = stream.split_at(index);
-        for size in [1, 22] {
-            expect_both(&rt, rt.alloc(), before, after, size)?;
-            expect_prefix(&rt, rt.alloc(), before, size, prefix_of(index))?;
-        }
+fn cut_anywhere(rt: HostRuntime) -> Result<(), WireFault> {
+    for index in 0..=22 {
+        expect_cut(&rt, rt.alloc(), index, 1)?;
+        expect_cut(&rt, rt.alloc(), index, 22)?;
     }
     Ok(())
 }
 
 /// What follows an open and a key, and its fault.
-static FAULTS: [(&[u8], Option<WireFault>); 12] = [
-    (&[5, 0, 0, 0, 0, 0, 0x80, 0, 1], Some(WireFault::TooLong)),
-    (&[7, 0, 0, 0, 0, 0, 0x80, 0, 1], Some(WireFault::TooLong)),
-    (&[5, 0, 0, 0, 0, 0, 0x80, 0, 0], None),
-    (&[7, 0, 0, 0, 0, 0, 0x80, 0, 0], None),
-    (&[9], Some(WireFault::UnknownKind)),
-    (&[8], Some(WireFault::UnknownKind)),
-    (&[0], Some(WireFault::UnknownKind)),
-    (&[2, 0, 0, 0, 7, 0, 0, 0, 3], Some(WireFault::BadLength)),
-    (&[2, 0, 0, 0, 7, 0, 0, 0, 5], Some(WireFault::BadLength)),
-    (&[2, 0, 0, 0, 7, 0, 0, 0], None),
-    (&[6, 0, 0, 0, 7, 0, 0, 0, 1], Some(WireFault::BadLength)),
-    (&[2, 0, 0, 0, 7, 0, 0, 0, 4, 0xff], None),
-];
-
-/// A feeder that holds an open, a key and what follows them.
-fn fed(alloc: Global, behind: &[u8]) -> Result<Feeder, Fail> {
-    let mut feeder = Feeder::new(alloc);
-    feed(&mut feeder, &OPEN_AND_KEY)?;
-    feed(&mut feeder, behind)?;
-    Ok(feeder)
+struct FaultRow {
+    name: &'static str,
+    bytes: &'static [u8],
+    fault: Option<WireFault>,
 }
 
-/// Expects so many requests and then this fault, and so many bytes to be held.
-fn expect_end(
+#[rattlefmt::skip]
+static FAULTS: [FaultRow; 12] = [
+    FaultRow { name: "a load of one byte too many", bytes: &[5, 0, 0, 0, 0, 0, 0x80, 0, 1], fault: Some(WireFault::TooLong) },
+    FaultRow { name: "a load by the longest sequences of one byte too many", bytes: &[7, 0, 0, 0, 0, 0, 0x80, 0, 1], fault: Some(WireFault::TooLong) },
+    FaultRow { name: "a load as large as may be", bytes: &[5, 0, 0, 0, 0, 0, 0x80, 0, 0], fault: None },
+    FaultRow { name: "a load by the longest sequences as large as may be", bytes: &[7, 0, 0, 0, 0, 0, 0x80, 0, 0], fault: None },
+    FaultRow { name: "the kind behind the last one", bytes: &[9], fault: Some(WireFault::UnknownKind) },
+    FaultRow { name: "the kind of no request", bytes: &[8], fault: Some(WireFault::UnknownKind) },
+    FaultRow { name: "kind 0", bytes: &[0], fault: Some(WireFault::UnknownKind) },
+    FaultRow { name: "a key of three bytes", bytes: &[2, 0, 0, 0, 7, 0, 0, 0, 3], fault: Some(WireFault::BadLength) },
+    FaultRow { name: "a key of five bytes", bytes: &[2, 0, 0, 0, 7, 0, 0, 0, 5], fault: Some(WireFault::BadLength) },
+    FaultRow { name: "a head that is cut", bytes: &[2, 0, 0, 0, 7, 0, 0, 0], fault: None },
+    FaultRow { name: "a question with a payload", bytes: &[6, 0, 0, 0, 7, 0, 0, 0, 1], fault: Some(WireFault::BadLength) },
+    FaultRow { name: "a key that is cut", bytes: &[2, 0, 0, 0, 7, 0, 0, 0, 4, 0xff], fault: None },
+];
+
+/// Expects these requests and then the fault of the row, and so many bytes to be held.
+fn expect_fault(
     rt: &impl Abort,
     alloc: Global,
+    row: &FaultRow,
     feeder: &mut Feeder,
-    fault: Option<WireFault>,
-    wanted: (usize, usize),
-) -> Result<(), Fail> {
-    let mut requests = Vec::new(alloc);
-    assert_eq!(rt; take_all(alloc, feeder, &mut requests)?, fault);
-    assert_eq!(rt; (requests.len(), feeder.held()), wanted);
+    requests: &str,
+    held: usize,
+) -> Result<(), AllocError> {
+    let mut text = String::new(alloc);
+    let fault = take_all(alloc, feeder, &mut text)?;
+    expect_text(rt, row.name, &text, requests);
+    let found = End {
+        fault,
+        held: feeder.held(),
+    };
+    let wanted = End {
+        fault: row.fault,
+        held,
+    };
+    expect_end(rt, row.name, found, wanted);
     Ok(())
 }
 
-#[test]
-fn faults(rt: HostRuntime) -> Result<(), Fail> {
-    for (bytes, fault) in &FAULTS {
-        let mut feeder = fed(rt.alloc(), bytes)?;
-        expect_end(&rt, rt.alloc(), &mut feeder, *fault, (2, bytes.len()))?;
-        if fault.is_some() {
-            feed(&mut feeder, &OPEN_AND_KEY)?;
-            let held = bytes.len().saturating_add(22);
-            expect_end(&rt, rt.alloc(), &mut feeder, *fault, (0, held))?;
-        }
+/// Expects the fault of a row behind an open and a key; and that it stays, whatever follows.
+fn expect_lasting_fault(rt: &impl Abort, alloc: Global, row: &FaultRow) -> Result<(), WireFault> {
+    let mut feeder = Feeder::new(alloc);
+    feed(&mut feeder, &OPEN_AND_KEY)?;
+    feed(&mut feeder, row.bytes)?;
+    expect_fault(rt, alloc, row, &mut feeder, BOTH, row.bytes.len())?;
+    if row.fault.is_some() {
+        feed(&mut feeder, &OPEN_AND_KEY)?;
+        let held = row.bytes.len().saturating_add(22);
+        expect_fault(rt, alloc, row, &mut feeder, "", held)?;
     }
     Ok(())
 }
 
 #[test]
-fn fault_texts(rt: HostRuntime) -> Result<(), Fail> {
-    let faults = [
-        WireFault::UnknownKind,
-        WireFault::BadLength,
-        WireFault::TooLong,
-        WireFault::NoMemory,
-    ];
-    let texts = ["1 UnknownKind", "2 BadLength", "3 TooLong", "4 NoMemory"];
-    for (fault, text) in faults.iter().zip(texts.iter()) {
-        assert_eq!(rt; format!(in rt.alloc(); "{fault}")?.as_str(), *text);
+fn faults(rt: HostRuntime) -> Result<(), WireFault> {
+    for row in &FAULTS {
+        expect_lasting_fault(&rt, rt.alloc(), row)?;
+    }
+    Ok(())
+}
+
+/// A fault, and how it is printed.
+struct PrintedRow {
+    fault: WireFault,
+    prints: &'static str,
+}
+
+#[rattlefmt::skip]
+static PRINTED: [PrintedRow; 4] = [
+    PrintedRow { fault: WireFault::UnknownKind, prints: "1 UnknownKind" },
+    PrintedRow { fault: WireFault::BadLength, prints: "2 BadLength" },
+    PrintedRow { fault: WireFault::TooLong, prints: "3 TooLong" },
+    PrintedRow { fault: WireFault::NoMemory, prints: "4 NoMemory" },
+];
+
+fn expect_printed(rt: &impl Abort, alloc: Global, row: &PrintedRow) -> Result<(), AllocError> {
+    let mut text = String::new(alloc);
+    write!(text, "{}", row.fault)?;
+    expect_text(rt, row.prints, &text, row.prints);
+    Ok(())
+}
+
+#[test]
+fn fault_texts(rt: HostRuntime) -> Result<(), AllocError> {
+    for row in &PRINTED {
+        expect_printed(&rt, rt.alloc(), row)?;
     }
     Ok(())
 }
@@ -198,29 +252,50 @@ fn feed_load(rt: &impl Abort, alloc: Global, feeder: &mut Feeder) -> Result<(), 
         feed(feeder, &[byte])?;
     }
     for count in 0..8_388_608u32 {
-        assert_eq!(rt; next(feeder, alloc)?, None);
+        assert!(rt;
+            next(feeder, alloc)?.is_none(),
+            "a request before byte {count}"
+        );
         feed(feeder, &[(count % 251) as u8])?;
     }
     Ok(())
 }
 
 /// The payload of a load by the longest sequences.
-fn longest_of(body: Body) -> Result<Vec<u8>, Fail> {
-    match body {
-        Body::LoadLongest(payload) => Ok(payload.into_vec()),
-        _ => Err(Fail::from("not the longest")),
+fn longest_of(request: &Request) -> Option<&[u8]> {
+    match &request.body {
+        Body::LoadLongest(payload) => Some(payload.as_slice()),
+        _ => None,
     }
 }
 
 /// Expects the bytes of the greatest load.
 fn expect_load(rt: &impl Abort, bytes: &[u8]) {
     assert_eq!(rt; bytes.len(), 8_388_608);
-    assert!(rt;
-        bytes
-            .iter()
-            .enumerate()
-            .all(|(index, byte)| index % 251 == *byte as usize)
-    );
+    for (index, byte) in bytes.iter().enumerate() {
+        assert!(rt; index % 251 == *byte as usize, "byte {index}");
+    }
+}
+
+/// Expects the greatest load, and then a request that is printed so.
+fn expect_load_and_close(rt: &impl Abort, alloc: Global, feeder: &mut Feeder) -> Result<(), Fail> {
+    let load = next(feeder, alloc)?.ok_or("no load")?;
+    assert_eq!(rt; feeder.held(), 9);
+    expect_load(rt, longest_of(&load).ok_or("not the longest")?);
+    let close = "Request { session: 3, body: Close };";
+    let mut text = String::new(alloc);
+    let fault = take_all(alloc, feeder, &mut text)?;
+    expect_text(rt, close, &text, close);
+    let found = End {
+        fault,
+        held: feeder.held(),
+    };
+    let wanted = End {
+        fault: None,
+        held: 0,
+    };
+    expect_end(rt, close, found, wanted);
+    Ok(())
 }
 
 /// The greatest load comes byte by byte, and a close behind it.
@@ -230,16 +305,7 @@ fn greatest_load(rt: HostRuntime) -> Result<(), Fail> {
     let mut feeder = Feeder::new(alloc);
     feed_load(&rt, alloc, &mut feeder)?;
     feed(&mut feeder, &[4, 0, 0, 0, 3, 0, 0, 0, 0])?;
-    let load = next(&mut feeder, alloc)?.ok_or("no load")?;
-    assert_eq!(rt; feeder.held(), 9);
-    expect_load(&rt, &longest_of(load.body)?);
-    let close = Request {
-        session: 3,
-        body: Body::Close,
-    };
-    assert_eq!(rt; next(&mut feeder, alloc)?, Some(close));
-    assert_eq!(rt; feeder.held(), 0);
-    Ok(())
+    expect_load_and_close(&rt, alloc, &mut feeder)
 }
 
 /// The next number by chance.
@@ -274,19 +340,33 @@ fn push_by_chance(stream: &mut Vec<u8>, seed: u32) -> Result<(), AllocError> {
     Ok(())
 }
 
+/// Expects a stream in pieces of some size to give the same as in one piece.
+fn expect_same(
+    rt: &impl Abort,
+    alloc: Global,
+    stream: &[u8],
+    size: usize,
+    whole: &str,
+    end: End,
+) -> Result<(), WireFault> {
+    let mut feeder = Feeder::new(alloc);
+    expect_pieces(rt, alloc, &mut feeder, stream, size, whole, end)
+}
+
 /// Expects a stream to give the same whole and in pieces of each size.
-fn expect_same(rt: &impl Abort, alloc: Global, stream: &[u8]) -> Result<(), Fail> {
-    let whole = read_stream(alloc, [stream, &[]], stream.len())?;
+fn expect_same_in_pieces(rt: &impl Abort, alloc: Global, stream: &[u8]) -> Result<(), WireFault> {
+    let mut feeder = Feeder::new(alloc);
+    let mut whole = String::new(alloc);
+    let end = feed_pieces(alloc, &mut feeder, stream, stream.len(), &mut whole)?;
     for size in [1, 2, 7, 30] {
-        let pieces = read_stream(alloc, [stream, &[]], size)?;
-        assert_eq!(rt; pieces, whole, "{stream:?}, pieces of {size}");
+        expect_same(rt, alloc, stream, size, &whole, end)?;
     }
     Ok(())
 }
 
 /// Bytes by chance, mostly frames: what they give does not depend on the pieces.
 #[test]
-fn by_chance(rt: HostRuntime) -> Result<(), Fail> {
+fn by_chance(rt: HostRuntime) -> Result<(), WireFault> {
     let mut seed = 0x2545_f491u32;
     for _ in 0..200u32 {
         let mut stream = Vec::new(rt.alloc());
@@ -294,7 +374,7 @@ fn by_chance(rt: HostRuntime) -> Result<(), Fail> {
             seed = by_chance_behind(seed);
             push_by_chance(&mut stream, seed)?;
         }
-        expect_same(&rt, rt.alloc(), &stream)?;
+        expect_same_in_pieces(&rt, rt.alloc(), &stream)?;
     }
     Ok(())
 }

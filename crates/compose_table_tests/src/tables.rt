@@ -2,8 +2,9 @@
 ghost use Rattle.std.specs.Prelude.{◌<◌, length};
 ghost use Rattle.compose_model.specs.Nodes.{nodes};
 
+use crate::helpers::{add, core, expect_text, numbered, repeated, two_sources};
 use compose_model::Rule;
-use compose_read::Sources;
+use compose_read::{SourceFault, Sources};
 use compose_tree::{
     BuildFault, ComposeTable, LeafId, ListTable, NodeId, PackedTable, TableFault, Target,
     read_table,
@@ -12,84 +13,116 @@ use keysym_core::{Keysym, Names};
 use std::alloc::{AllocError, Global};
 use std::fmt::Write;
 use std::process::Abort;
-use std::test::Fail;
 
-/// The root's lines, those of the source `%L`, whether the longest sequences stay, and what is printed: the edges of each node behind its depth, and the texts.
-static TABLES: [(&str, &str, bool, &str); 9] = [
-    (
-        "<Multi_key> <apostrophe> <e> : \"é\" eacute # e acute\n<dead_acute> <e> : \"é\"\n<Multi_key> <apostrophe> <a> : \"á\"\n",
-        "",
-        false,
-        "0[fe51=n1,ff20=n2,]1[65=l0,]1[27=n3,]2[61=l1,65=l2,] é|á|é|",
-    ),
-    (
-        "<Multi_key> <apostrophe> <e> : \"é\" eacute # e acute\n<dead_acute> <e> : \"é\"\n",
-        "",
-        false,
-        "0[fe51=n1,ff20=n2,]1[65=l0,]1[27=n3,]2[65=l1,] é|é|",
-    ),
-    (
-        "<a> <b> : \"x\"\n<a> <c> : \"yz\"\n<d> : \"w\"\n",
-        "",
-        false,
-        "0[61=n1,64=l2,]1[62=l0,63=l1,] x|yz|w|",
-    ),
-    (
-        "<a> <b> : \"x\"\n<a> : \"y\"\n",
-        "",
-        false,
-        "2 Settle: 1 Overlap short=0x61 long=0x61,0x62",
-    ),
-    (
-        "<a> <b> : \"x\"\ninclude \"%L\"\n",
-        "<a> <b> : \"z\"\n",
-        false,
-        "0[61=n1,]1[62=l0,] z|",
-    ),
-    (
-        "<a> <b> : \"x\"\n<a> : \"y\"\n",
-        "",
-        true,
-        "0[61=n1,]1[62=l0,] x|",
-    ),
-    (
-        "<a> : \"1\"\n<a> <b> <c> : \"2\"\n<a> <b> : \"3\"\n<a> <b> <c> : \"4\"\n",
-        "",
-        true,
-        "0[61=n1,]1[62=n2,]2[63=l0,] 4|",
-    ),
-    ("", "", false, "0[] "),
-    (
-        "<nosuch> : \"x\"\n",
-        "",
-        false,
-        "1 Read: 4 UnknownKeysym source=0 line=1 index=0",
-    ),
+/// The root's lines, those of the source `%L`, what is done where sequences overlap, and what is printed: the edges of each node behind its depth,
+/// and the texts; or the first fault.
+struct TableRow {
+    root: &'static str,
+    included: &'static str,
+    rule: Rule,
+    prints: &'static str,
+}
+
+#[rattlefmt::skip]
+static TABLES: [TableRow; 9] = [
+    TableRow { root: "<Multi_key> <apostrophe> <e> : \"é\" eacute # e acute\n<dead_acute> <e> : \"é\"\n<Multi_key> <apostrophe> <a> : \"á\"\n", included: "", rule: Rule::Refuse, prints: "0[fe51=n1,ff20=n2,]1[65=l0,]1[27=n3,]2[61=l1,65=l2,] é|á|é|" },
+    TableRow { root: "<Multi_key> <apostrophe> <e> : \"é\" eacute # e acute\n<dead_acute> <e> : \"é\"\n", included: "", rule: Rule::Refuse, prints: "0[fe51=n1,ff20=n2,]1[65=l0,]1[27=n3,]2[65=l1,] é|é|" },
+    TableRow { root: "<a> <b> : \"x\"\n<a> <c> : \"yz\"\n<d> : \"w\"\n", included: "", rule: Rule::Refuse, prints: "0[61=n1,64=l2,]1[62=l0,63=l1,] x|yz|w|" },
+    TableRow { root: "<a> <b> : \"x\"\n<a> : \"y\"\n", included: "", rule: Rule::Refuse, prints: "2 Settle: 1 Overlap short=0x61 long=0x61,0x62" },
+    TableRow { root: "<a> <b> : \"x\"\ninclude \"%L\"\n", included: "<a> <b> : \"z\"\n", rule: Rule::Refuse, prints: "0[61=n1,]1[62=l0,] z|" },
+    TableRow { root: "<a> <b> : \"x\"\n<a> : \"y\"\n", included: "", rule: Rule::Longest, prints: "0[61=n1,]1[62=l0,] x|" },
+    TableRow { root: "<a> : \"1\"\n<a> <b> <c> : \"2\"\n<a> <b> : \"3\"\n<a> <b> <c> : \"4\"\n", included: "", rule: Rule::Longest, prints: "0[61=n1,]1[62=n2,]2[63=l0,] 4|" },
+    TableRow { root: "", included: "", rule: Rule::Refuse, prints: "0[] " },
+    TableRow { root: "<nosuch> : \"x\"\n", included: "", rule: Rule::Refuse, prints: "1 Read: 4 UnknownKeysym source=0 line=1 index=0" },
 ];
 
-/// A line, how often the root has it, and what is printed.
-static MANY_LINES: [(&str, usize, &str); 4] = [
-    ("\n", 1_000_000, "0[] "),
-    (
-        "\n",
-        1_000_001,
-        "1 Read: 8 TooManyLines source=0 line=1000001",
-    ),
-    ("<a> : \"x\"\n", 100_000, "0[61=l0,] x|"),
-    (
-        "<a> : \"x\"\n",
-        100_001,
-        "1 Read: 9 TooManyDefinitions source=0 line=100001",
-    ),
-];
+/// Some lines, and how often they stand in a source.
+struct Lines {
+    line: &'static str,
+    times: usize,
+}
 
-/// How many sources include the next one, and what is printed.
-static CHAINS: [(usize, &str); 2] = [(8, "0[] "), (9, "1 Read: 7 IncludeDepth source=8 line=1")];
+/// The sources `s0`, which is the root, `s1` and so on, and what is printed.
+struct ListedRow {
+    name: &'static str,
+    sources: &'static [Lines],
+    prints: &'static str,
+}
+
+/// The limits of reading.
+#[rattlefmt::skip]
+static LIMITS: [ListedRow; 6] = [
+    ListedRow {
+        name: "as many lines as may be",
+        sources: &[
+            Lines { line: "\n", times: 1_000_000 },
+        ],
+        prints: "0[] ",
+    },
+    ListedRow {
+        name: "one line more",
+        sources: &[
+            Lines { line: "\n", times: 1_000_001 },
+        ],
+        prints: "1 Read: 8 TooManyLines source=0 line=1000001",
+    },
+    ListedRow {
+        name: "as many definitions as may be",
+        sources: &[
+            Lines { line: "<a> : \"x\"\n", times: 100_000 },
+        ],
+        prints: "0[61=l0,] x|",
+    },
+    ListedRow {
+        name: "one definition more",
+        sources: &[
+            Lines { line: "<a> : \"x\"\n", times: 100_001 },
+        ],
+        prints: "1 Read: 9 TooManyDefinitions source=0 line=100001",
+    },
+    ListedRow {
+        name: "a chain of eight includes",
+        sources: &[
+            Lines { line: "include \"s1\"\n", times: 1 },
+            Lines { line: "include \"s2\"\n", times: 1 },
+            Lines { line: "include \"s3\"\n", times: 1 },
+            Lines { line: "include \"s4\"\n", times: 1 },
+            Lines { line: "include \"s5\"\n", times: 1 },
+            Lines { line: "include \"s6\"\n", times: 1 },
+            Lines { line: "include \"s7\"\n", times: 1 },
+            Lines { line: "include \"s8\"\n", times: 1 },
+            Lines { line: "", times: 0 },
+        ],
+        prints: "0[] ",
+    },
+    ListedRow {
+        name: "a chain of nine includes",
+        sources: &[
+            Lines { line: "include \"s1\"\n", times: 1 },
+            Lines { line: "include \"s2\"\n", times: 1 },
+            Lines { line: "include \"s3\"\n", times: 1 },
+            Lines { line: "include \"s4\"\n", times: 1 },
+            Lines { line: "include \"s5\"\n", times: 1 },
+            Lines { line: "include \"s6\"\n", times: 1 },
+            Lines { line: "include \"s7\"\n", times: 1 },
+            Lines { line: "include \"s8\"\n", times: 1 },
+            Lines { line: "include \"s9\"\n", times: 1 },
+            Lines { line: "", times: 0 },
+        ],
+        prints: "1 Read: 7 IncludeDepth source=8 line=1",
+    },
+];
 
 /// How many sequences of 32 keysyms, and how many nodes and leaves they have, or the fault.
-static MANY_NODES: [(u32, &str); 2] = [
-    (33_825, "1048576 33825"),
-    (33_826, "3 Build: 1 TooManyNodes"),
+struct NodesRow {
+    sequences: u32,
+    prints: &'static str,
+}
+
+#[rattlefmt::skip]
+static MANY_NODES: [NodesRow; 2] = [
+    NodesRow { sequences: 33_825, prints: "1048576 33825" },
+    NodesRow { sequences: 33_826, prints: "3 Build: 1 TooManyNodes" },
 ];
 
 /// What follows the first keysym of each of these: 31 keysyms and a text.
@@ -129,210 +162,238 @@ fn print_node<T: ComposeTable>(text: &mut String, table: &T, node: NodeId) -> Re
     Ok(())
 }
 
-/// What a table says of itself.
-fn print_table<T: ComposeTable>(alloc: Global, table: &T) -> Result<String, AllocError> {
-    let mut text = String::new(alloc);
+/// Prints what a table says of itself.
+fn push_whole<T: ComposeTable>(text: &mut String, table: &T) -> Result<(), AllocError> {
     for number in 0..table.node_count() {
-        print_node(&mut text, table, NodeId(number))?;
+        print_node(text, table, NodeId(number))?;
     }
     text.push_str(" ")?;
     for number in 0..table.leaf_count() {
         text.push_str(table.text(LeafId(number)))?;
         text.push_str("|")?;
     }
-    Ok(text)
+    Ok(())
 }
 
-/// How many nodes and leaves a table has.
-fn print_counts<T: ComposeTable>(alloc: Global, table: &T) -> Result<String, AllocError> {
-    let nodes = table.node_count();
-    let leaves = table.leaf_count();
-    format!(in alloc; "{nodes} {leaves}")
+/// Prints how many nodes and leaves a table has.
+fn push_counts<T: ComposeTable>(text: &mut String, table: &T) -> Result<(), AllocError> {
+    let (nodes, leaves) = (table.node_count(), table.leaf_count());
+    write!(text, "{nodes} {leaves}")?;
+    Ok(())
 }
 
-/// The table of the root.
 fn read<T: ComposeTable>(
     alloc: Global,
     names: &Names,
     sources: &Sources,
+    root: &str,
     rule: Rule,
 ) -> Result<T, TableFault> {
-    read_table(alloc, names, sources, "r", rule)
+    read_table(alloc, names, sources, root, rule)
 }
 
-/// What is read from the root, printed whole or by its counts, or its fault.
-fn print_read<T: ComposeTable>(
-    alloc: Global,
-    sources: &Sources,
-    rule: Rule,
-    whole: bool,
-) -> Result<String, Fail> {
-    let names = Names::core(alloc)?;
-    match read::<T>(alloc, &names, sources, rule) {
-        Err(fault) => Ok(fault.to_string(alloc)?),
-        Ok(table) => {
-            if whole {
-                Ok(print_table(alloc, &table)?)
-            } else {
-                Ok(print_counts(alloc, &table)?)
-            }
-        }
-    }
-}
-
-/// Both forms say the same.
-fn both_say(
-    rt: &impl Abort,
-    alloc: Global,
-    sources: &Sources,
-    rule: Rule,
-    expected: &str,
-) -> Result<(), Fail> {
-    let listed = print_read::<ListTable>(alloc, sources, rule, true)?;
-    assert_eq!(rt; listed.as_str(), expected);
-    let packed = print_read::<PackedTable>(alloc, sources, rule, true)?;
-    assert_eq!(rt; packed.as_str(), expected);
+fn push_fault(text: &mut String, fault: &TableFault) -> Result<(), AllocError> {
+    write!(text, "{fault}")?;
     Ok(())
 }
 
-/// This line so many times.
-fn repeated(alloc: Global, line: &str, times: usize) -> Result<Vec<u8>, AllocError> {
-    let mut bytes = Vec::new(alloc);
-    for _ in 0..times {
-        bytes.extend_from_slice(line.as_bytes())?;
+/// Expects what a table says of itself, or its fault.
+fn expect_whole<T: ComposeTable>(
+    rt: &impl Abort,
+    alloc: Global,
+    read: &Result<T, TableFault>,
+    prints: &str,
+) -> Result<(), AllocError> {
+    let mut text = String::new(alloc);
+    match read {
+        Ok(table) => push_whole(&mut text, table)?,
+        Err(fault) => push_fault(&mut text, fault)?,
     }
-    Ok(bytes)
+    expect_text(rt, prints, &text, prints);
+    Ok(())
 }
 
-/// Adds a source that has this line so many times.
-fn add_lines(
+/// Expects how many nodes and leaves a table has, or its fault.
+fn expect_counts<T: ComposeTable>(
+    rt: &impl Abort,
+    alloc: Global,
+    read: &Result<T, TableFault>,
+    prints: &str,
+) -> Result<(), AllocError> {
+    let mut text = String::new(alloc);
+    match read {
+        Ok(table) => push_counts(&mut text, table)?,
+        Err(fault) => push_fault(&mut text, fault)?,
+    }
+    expect_text(rt, prints, &text, prints);
+    Ok(())
+}
+
+/// Expects the same of both forms of a table.
+fn expect_both(
+    rt: &impl Abort,
+    alloc: Global,
+    names: &Names,
+    sources: &Sources,
+    root: &str,
+    rule: Rule,
+    prints: &str,
+) -> Result<(), AllocError> {
+    expect_whole::<ListTable>(rt, alloc, &read(alloc, names, sources, root, rule), prints)?;
+    expect_whole::<PackedTable>(rt, alloc, &read(alloc, names, sources, root, rule), prints)
+}
+
+fn expect_table(
+    rt: &impl Abort,
+    alloc: Global,
+    names: &Names,
+    row: &TableRow,
+) -> Result<(), SourceFault> {
+    let sources = two_sources(alloc, row.root, row.included)?;
+    expect_both(rt, alloc, names, &sources, "r", row.rule, row.prints)?;
+    Ok(())
+}
+
+fn expect_tables(rt: &impl Abort, alloc: Global, names: &Names) -> Result<(), SourceFault> {
+    for row in &TABLES {
+        expect_table(rt, alloc, names, row)?;
+    }
+    Ok(())
+}
+
+#[test]
+fn reads_worked_tables(rt: HostRuntime) -> Result<(), SourceFault> {
+    let names = core(rt.alloc())?;
+    expect_tables(&rt, rt.alloc(), &names)
+}
+
+fn expect_no_root(rt: &impl Abort, alloc: Global, names: &Names) -> Result<(), AllocError> {
+    let sources = Sources::new(alloc);
+    expect_both(
+        rt,
+        alloc,
+        names,
+        &sources,
+        "r",
+        Rule::Refuse,
+        "1 Read: 1 MissingRoot",
+    )
+}
+
+/// There is no table where no source has the root's name.
+#[test]
+fn reads_no_table_without_a_root(rt: HostRuntime) -> Result<(), AllocError> {
+    let names = core(rt.alloc())?;
+    expect_no_root(&rt, rt.alloc(), &names)
+}
+
+/// Adds the source of this number, which has these lines so many times.
+fn add_numbered(
     sources: &mut Sources,
     alloc: Global,
-    name: &str,
-    line: &str,
-    times: usize,
-) -> Result<(), Fail> {
-    sources.add(name, repeated(alloc, line, times)?)?;
-    Ok(())
+    number: usize,
+    lines: &Lines,
+) -> Result<(), SourceFault> {
+    let name = numbered(alloc, "s", number, "")?;
+    let text = repeated(alloc, lines.line, lines.times)?;
+    add(sources, alloc, &name, text.as_bytes())
 }
 
-/// So many lines of 32 keysyms, each with its own first keysym.
-fn long_sequences(alloc: Global, lines: u32) -> Result<Vec<u8>, AllocError> {
-    let mut bytes = Vec::new(alloc);
-    for line in 0..lines {
-        let first = line.wrapping_add(0x100_0100);
-        let event = format!(in alloc; "<0x{first:x}>")?;
-        bytes.extend_from_slice(event.as_bytes())?;
-        bytes.extend_from_slice(TAIL.as_bytes())?;
-    }
-    Ok(bytes)
-}
-
-fn check_tables(
-    rt: &impl Abort,
-    alloc: Global,
-    tables: &[(&str, &str, bool, &str)],
-) -> Result<(), Fail> {
-    for (root, included, longest, expected) in tables {
-        let mut sources = Sources::new(alloc);
-        add_lines(&mut sources, alloc, "r", root, 1)?;
-        add_lines(&mut sources, alloc, "%L", included, 1)?;
-        let rule = if *longest {
-            Rule::Longest
-        } else {
-            Rule::Refuse
-        };
-        both_say(rt, alloc, &sources, rule, expected)?;
+/// Adds the sources `s0`, `s1` and so on.
+fn add_listed(sources: &mut Sources, alloc: Global, listed: &[Lines]) -> Result<(), SourceFault> {
+    for (number, lines) in listed.iter().enumerate() {
+        add_numbered(sources, alloc, number, lines)?;
     }
     Ok(())
 }
 
-fn check_lines(rt: &impl Abort, alloc: Global, tables: &[(&str, usize, &str)]) -> Result<(), Fail> {
-    for (line, times, expected) in tables {
-        let mut sources = Sources::new(alloc);
-        add_lines(&mut sources, alloc, "r", line, *times)?;
-        both_say(rt, alloc, &sources, Rule::Refuse, expected)?;
-    }
-    Ok(())
-}
-
-/// Adds the source behind which so many stand, which includes the next one.
-fn add_link(sources: &mut Sources, alloc: Global, index: usize) -> Result<(), Fail> {
-    let before = index.saturating_sub(1);
-    let name = format!(in alloc; "s{before}")?;
-    let line = format!(in alloc; "include \"s{index}\"\n")?;
-    add_lines(sources, alloc, &name, &line, 1)
-}
-
-/// A root that includes a source, which includes the next one, so many times; the last one is empty.
-fn chain(alloc: Global, includes: usize) -> Result<Sources, Fail> {
+fn listed_sources(alloc: Global, listed: &[Lines]) -> Result<Sources, SourceFault> {
     let mut sources = Sources::new(alloc);
-    add_lines(&mut sources, alloc, "r", "include \"s0\"\n", 1)?;
-    for index in 1..includes {
-        add_link(&mut sources, alloc, index)?;
-    }
-    let last = includes.saturating_sub(1);
-    let name = format!(in alloc; "s{last}")?;
-    add_lines(&mut sources, alloc, &name, "", 0)?;
+    add_listed(&mut sources, alloc, listed)?;
     Ok(sources)
 }
 
-fn check_chains(rt: &impl Abort, alloc: Global, chains: &[(usize, &str)]) -> Result<(), Fail> {
-    for (includes, expected) in chains {
-        let sources = chain(alloc, *includes)?;
-        both_say(rt, alloc, &sources, Rule::Refuse, expected)?;
-    }
-    Ok(())
-}
-
-fn check_nodes<T: ComposeTable>(
+fn expect_listed(
     rt: &impl Abort,
     alloc: Global,
-    tables: &[(u32, &str)],
-) -> Result<(), Fail> {
-    for (lines, expected) in tables {
-        let mut sources = Sources::new(alloc);
-        sources.add("r", long_sequences(alloc, *lines)?)?;
-        let text = print_read::<T>(alloc, &sources, Rule::Refuse, false)?;
-        assert_eq!(rt; text.as_str(), *expected);
+    names: &Names,
+    row: &ListedRow,
+) -> Result<(), SourceFault> {
+    let sources = listed_sources(alloc, row.sources)?;
+    expect_both(rt, alloc, names, &sources, "s0", Rule::Refuse, row.prints)?;
+    Ok(())
+}
+
+fn expect_limits(rt: &impl Abort, alloc: Global, names: &Names) -> Result<(), SourceFault> {
+    for row in &LIMITS {
+        expect_listed(rt, alloc, names, row)?;
     }
     Ok(())
 }
 
 #[test]
-fn reads_worked_tables(rt: HostRuntime) -> Result<(), Fail> {
-    let alloc = rt.alloc();
-    check_tables(&rt, alloc, &TABLES)?;
-    let none = Sources::new(alloc);
-    both_say(&rt, alloc, &none, Rule::Refuse, "1 Read: 1 MissingRoot")
+fn keeps_the_limits_of_reading(rt: HostRuntime) -> Result<(), SourceFault> {
+    let names = core(rt.alloc())?;
+    expect_limits(&rt, rt.alloc(), &names)
+}
+
+/// So many lines of 32 keysyms, each with its own first keysym.
+fn long_sequences(alloc: Global, lines: u32) -> Result<String, AllocError> {
+    let mut text = String::new(alloc);
+    for line in 0..lines {
+        let first = line.wrapping_add(0x100_0100);
+        write!(text, "<0x{first:x}>{TAIL}")?;
+    }
+    Ok(text)
+}
+
+/// The source `r` of so many sequences.
+fn long_source(alloc: Global, lines: u32) -> Result<Sources, SourceFault> {
+    let text = long_sequences(alloc, lines)?;
+    let mut sources = Sources::new(alloc);
+    add(&mut sources, alloc, "r", text.as_bytes())?;
+    Ok(sources)
+}
+
+fn expect_nodes<T: ComposeTable>(
+    rt: &impl Abort,
+    alloc: Global,
+    names: &Names,
+    row: &NodesRow,
+) -> Result<(), SourceFault> {
+    let sources = long_source(alloc, row.sequences)?;
+    let read = read::<T>(alloc, names, &sources, "r", Rule::Refuse);
+    expect_counts(rt, alloc, &read, row.prints)?;
+    Ok(())
+}
+
+fn expect_many_nodes<T: ComposeTable>(
+    rt: &impl Abort,
+    alloc: Global,
+    names: &Names,
+) -> Result<(), SourceFault> {
+    for row in &MANY_NODES {
+        expect_nodes::<T>(rt, alloc, names, row)?;
+    }
+    Ok(())
 }
 
 #[test]
-fn keeps_the_limits_of_reading(rt: HostRuntime) -> Result<(), Fail> {
-    check_chains(&rt, rt.alloc(), &CHAINS)?;
-    check_lines(&rt, rt.alloc(), &MANY_LINES)
+fn lists_as_many_nodes_as_may_be(rt: HostRuntime) -> Result<(), SourceFault> {
+    let names = core(rt.alloc())?;
+    expect_many_nodes::<ListTable>(&rt, rt.alloc(), &names)
 }
 
 #[test]
-fn lists_as_many_nodes_as_may_be(rt: HostRuntime) -> Result<(), Fail> {
-    check_nodes::<ListTable>(&rt, rt.alloc(), &MANY_NODES)
+fn packs_as_many_nodes_as_may_be(rt: HostRuntime) -> Result<(), SourceFault> {
+    let names = core(rt.alloc())?;
+    expect_many_nodes::<PackedTable>(&rt, rt.alloc(), &names)
 }
 
 #[test]
-fn packs_as_many_nodes_as_may_be(rt: HostRuntime) -> Result<(), Fail> {
-    check_nodes::<PackedTable>(&rt, rt.alloc(), &MANY_NODES)
-}
-
-#[test]
-fn prints_want_of_memory(rt: HostRuntime) -> Result<(), Fail> {
-    let alloc = rt.alloc();
-    assert_eq!(rt;
-        format!(in alloc; "{}", TableFault::NoMemory)?.as_str(),
-        "4 NoMemory"
-    );
-    assert_eq!(rt;
-        format!(in alloc; "{}", BuildFault::NoMemory)?.as_str(),
-        "2 NoMemory"
-    );
+fn prints_want_of_memory(rt: HostRuntime) -> Result<(), AllocError> {
+    let (table, build) = (TableFault::NoMemory, BuildFault::NoMemory);
+    let text = format!(in rt.alloc(); "{table}, {build}")?;
+    expect_text(&rt, "both faults", &text, "4 NoMemory, 2 NoMemory");
     Ok(())
 }

@@ -1,9 +1,9 @@
 //! Certificates and repertoires as texts, worked out.
+use crate::helpers::expect_text;
 use compose_cert::{CertFault, Certificate, Repertoire, RepertoireFault, Typing};
 use keysym_core::Keysym;
 use std::alloc::{AllocError, Global};
 use std::process::Abort;
-use std::test::Fail;
 
 const TYPED: &[u8; 97] =
     b"compose-certificate 1\nbound 2\npairs 4\n0 0\n1 1\n2 2\n3 3\ntypings 2\nU+00E1 ff20 27 61\nU+00E9 fe51 65\n";
@@ -11,158 +11,202 @@ const TYPED: &[u8; 97] =
 const FRESH: &[u8] =
     b"compose-certificate 2\nbound 2\npairs 3\n0 0\n1 2\n2 3\ntypings 0\nfresh 1\nfe5a\n";
 
-/// Whether the text is refused, or read as a certificate with this very text. False where memory ran out.
-fn is_refused_or_spells(alloc: Global, bytes: &[u8]) -> bool {
-    match Certificate::read(alloc, bytes) {
-        Ok(certificate) => match certificate.write_text(alloc) {
-            Ok(text) => text.as_bytes() == bytes,
-            Err(_) => false,
-        },
-        Err(fault) => fault != CertFault::NoMemory,
-    }
+fn read(alloc: Global, text: &[u8]) -> Result<Certificate, CertFault> {
+    Certificate::read(alloc, text)
 }
 
-fn assert_fault(rt: &impl Abort, alloc: Global, bytes: &[u8], fault: CertFault) {
-    match Certificate::read(alloc, bytes) {
-        Ok(_) => assert!(rt; false, "read, not {fault}"),
-        Err(found) => assert_eq!(rt; found, fault),
-    }
+fn written(alloc: Global, certificate: &Certificate) -> Result<String, CertFault> {
+    certificate.write_text(alloc)
 }
 
-fn assert_refused(rt: &impl Abort, alloc: Global, bytes: &[u8], fault: &RepertoireFault) {
-    match Repertoire::read(alloc, bytes) {
-        Ok(_) => assert!(rt; false, "read, not {fault}"),
-        Err(found) => assert_eq!(rt; &found, fault),
-    }
-}
-
-fn assert_text(
+/// Expects the text of a certificate.
+fn expect_written(
     rt: &impl Abort,
     alloc: Global,
     certificate: &Certificate,
     text: &[u8],
 ) -> Result<(), CertFault> {
-    assert_eq!(rt; certificate.write_text(alloc)?.as_bytes(), text);
+    assert_eq!(rt; written(alloc, certificate)?.as_bytes(), text);
     Ok(())
 }
 
-/// Asserts what `TYPED` says.
-fn assert_typed(rt: &impl Abort, typed: &Certificate) {
-    assert_eq!(rt; typed.bound(), 2);
-    assert_eq!(rt; typed.pair_count(), 4);
-    assert_eq!(rt; typed.typing_count(), 2);
-    assert_eq!(rt; typed.fresh_count(), 0);
-    assert_eq!(rt; typed.pair(3), (3, 3));
-    assert_eq!(rt; typed.typing(0).character(), 'á');
-    assert_eq!(rt; typed.typing(0).keys().len(), 3);
+/// The bound of a certificate, and how many pairs, typings and fresh keysyms it has.
+fn counts(certificate: &Certificate) -> [usize; 4] {
+    [
+        certificate.bound() as usize,
+        certificate.pair_count(),
+        certificate.typing_count(),
+        certificate.fresh_count(),
+    ]
 }
 
-/// Asserts the fresh keysyms of `FRESH`.
-fn assert_fresh(rt: &impl Abort, fresh: &Certificate) {
-    assert_eq!(rt; fresh.fresh_count(), 1);
-    assert_eq!(rt; fresh.fresh(0).value(), 0xfe5a);
+fn pair_at(certificate: &Certificate, index: usize) -> Option<(u32, u32)> {
+    if index < certificate.pair_count() {
+        Some(certificate.pair(index))
+    } else {
+        None
+    }
+}
+
+fn typing_at(certificate: &Certificate, index: usize) -> Option<&Typing> {
+    if index < certificate.typing_count() {
+        Some(certificate.typing(index))
+    } else {
+        None
+    }
+}
+
+fn fresh_at(certificate: &Certificate, index: usize) -> Option<Keysym> {
+    if index < certificate.fresh_count() {
+        Some(certificate.fresh(index))
+    } else {
+        None
+    }
+}
+
+/// The character of a typing and how many keys it has.
+fn typed(typing: Option<&Typing>) -> Option<(char, usize)> {
+    match typing {
+        Some(typing) => Some((typing.character(), typing.keys().len())),
+        None => None,
+    }
+}
+
+/// Expects what `TYPED` says.
+fn expect_typed(rt: &impl Abort, certificate: &Certificate) {
+    assert_eq!(rt; counts(certificate), [2, 4, 2, 0]);
+    assert_eq!(rt; pair_at(certificate, 3), Some((3, 3)));
+    assert_eq!(rt; typed(typing_at(certificate, 0)), Some(('á', 3)));
+}
+
+/// Expects the fresh keysyms of `FRESH`.
+fn expect_fresh(rt: &impl Abort, certificate: &Certificate) {
+    assert_eq!(rt; counts(certificate)[3], 1);
+    assert_eq!(rt; fresh_at(certificate, 0), Keysym::new(0xfe5a));
 }
 
 #[test]
-fn a_text_is_read_and_written_back(rt: HostRuntime) -> Result<(), Fail> {
-    let typed = Certificate::read(rt.alloc(), TYPED)?;
-    assert_typed(&rt, &typed);
-    assert_text(&rt, rt.alloc(), &typed, TYPED)?;
-    Ok(())
+fn a_text_is_read_and_written_back(rt: HostRuntime) -> Result<(), CertFault> {
+    let typed = read(rt.alloc(), TYPED)?;
+    expect_typed(&rt, &typed);
+    expect_written(&rt, rt.alloc(), &typed, TYPED)
 }
 
 #[test]
-fn a_text_with_fresh_keysyms_is_read_and_written_back(rt: HostRuntime) -> Result<(), Fail> {
-    let fresh = Certificate::read(rt.alloc(), FRESH)?;
-    assert_fresh(&rt, &fresh);
-    assert_text(&rt, rt.alloc(), &fresh, FRESH)?;
-    Ok(())
+fn a_text_with_fresh_keysyms_is_read_and_written_back(rt: HostRuntime) -> Result<(), CertFault> {
+    let fresh = read(rt.alloc(), FRESH)?;
+    expect_fresh(&rt, &fresh);
+    expect_written(&rt, rt.alloc(), &fresh, FRESH)
 }
 
-/// A certificate of one pair and one typing, with one fresh keysym.
-fn made(alloc: Global) -> Result<Certificate, Fail> {
-    let key = Keysym::new(0x61).ok_or("a keysym")?;
-    let typing = Typing::new('a', vec![in alloc; key]?);
-    let made = Certificate::new(1, vec![in alloc; (0, 0)]?, vec![in alloc; typing]?);
-    let made = made.ok_or("a certificate")?;
-    Ok(made.with_fresh(vec![in alloc; key]?).ok_or("fresh")?)
+/// A certificate of these pairs and one typing of these keys, if there can be one.
+fn of_one_typing(
+    alloc: Global,
+    pairs: Vec<(u32, u32)>,
+    keys: Vec<Keysym>,
+) -> Result<Option<Certificate>, AllocError> {
+    let typings = vec![in alloc; Typing::new('a', keys)]?;
+    Ok(Certificate::new(1, pairs, typings))
 }
 
-/// A certificate with a typing of no key, if there could be one.
-fn made_of_no_key(alloc: Global) -> Result<Option<Certificate>, AllocError> {
-    let empty = Typing::new('a', Vec::new(alloc));
-    Ok(Certificate::new(1, Vec::new(alloc), vec![in alloc; empty]?))
+fn with_fresh(certificate: Certificate, fresh: Vec<Keysym>) -> Option<Certificate> {
+    certificate.with_fresh(fresh)
+}
+
+/// Expects the text of a certificate with one fresh keysym.
+fn expect_with_fresh(
+    rt: &impl Abort,
+    alloc: Global,
+    certificate: Certificate,
+    fresh: Vec<Keysym>,
+) -> Result<(), CertFault> {
+    let text = b"compose-certificate 2\nbound 1\npairs 1\n0 0\ntypings 1\nU+0061 61\nfresh 1\n61\n";
+    match with_fresh(certificate, fresh) {
+        Some(certificate) => expect_written(rt, alloc, &certificate, text),
+        None => rt.panic("no certificate with fresh keysyms"),
+    }
 }
 
 #[test]
-fn parts_make_a_certificate(rt: HostRuntime) -> Result<(), Fail> {
-    let made = made(rt.alloc())?;
-    let wanted =
-        "compose-certificate 2\nbound 1\npairs 1\n0 0\ntypings 1\nU+0061 61\nfresh 1\n61\n";
-    assert_text(&rt, rt.alloc(), &made, wanted.as_bytes())?;
-    assert!(rt; made_of_no_key(rt.alloc())?.is_none());
+fn parts_make_a_certificate(rt: HostRuntime) -> Result<(), CertFault> {
+    let alloc = rt.alloc();
+    let key = Keysym::new(0x61).unwrap_or_default();
+    let (keys, fresh) = (vec![in alloc; key]?, vec![in alloc; key]?);
+    match of_one_typing(alloc, vec![in alloc; (0, 0)]?, keys)? {
+        Some(certificate) => expect_with_fresh(&rt, alloc, certificate, fresh),
+        None => rt.panic("no certificate"),
+    }
+}
+
+/// A typing has a key.
+#[test]
+fn a_typing_of_no_key_makes_no_certificate(rt: HostRuntime) -> Result<(), AllocError> {
+    let alloc = rt.alloc();
+    let certificate = of_one_typing(alloc, Vec::new(alloc), Vec::new(alloc))?;
+    assert!(rt; certificate.is_none());
     Ok(())
 }
 
-/// Texts, and the line that is told of each.
-static NO_TEXTS: [(&[u8], usize); 13] = [
-    (b"compose-certificate 1\nbound 02\n", 2),
-    (b"compose-certificate 1\nbound 4294967296\n", 2),
-    (b"compose-certificate 1\nbound 1\npairs 1048577", 3),
-    (b"compose-certificate 1\nbound 1\npairs 0\ntypings 0\n\n", 5),
-    (
-        b"compose-certificate 1\nbound 1\npairs 0\ntypings 0\ntypings 0\n",
-        5,
-    ),
-    (
-        b"compose-certificate 1\nbound 1\npairs 0\ntypings 0\nfresh 1\nfe5a\n",
-        5,
-    ),
-    (
-        b"compose-certificate 2\nbound 1\npairs 0\ntypings 0\nfresh 0\n",
-        5,
-    ),
-    (b"compose-certificate 2\nbound 1\npairs 0\ntypings 0\n", 5),
-    (
-        b"compose-certificate 1\nbound 1\npairs 0\ntypings 1\nU+00061 61\n",
-        5,
-    ),
-    (
-        b"compose-certificate 1\nbound 1\npairs 0\ntypings 1\nU+00e1 61\n",
-        5,
-    ),
-    (
-        b"compose-certificate 1\nbound 1\npairs 0\ntypings 1\nU+D800 61\n",
-        5,
-    ),
-    (
-        b"compose-certificate 1\nbound 1\npairs 0\ntypings 1\nU+0061\n",
-        5,
-    ),
-    (
-        b"compose-certificate 1\nbound 1\npairs 0\ntypings 1\nU+0061 20000000\n",
-        5,
-    ),
+/// A text that is no certificate, and its fault.
+struct CertificateRow {
+    text: &'static [u8],
+    fault: CertFault,
+}
+
+#[rattlefmt::skip]
+static NO_CERTIFICATES: [CertificateRow; 14] = [
+    CertificateRow { text: b"compose-certificate 1\nbound 02\n", fault: CertFault::NotText { line: 2 } },
+    CertificateRow { text: b"compose-certificate 1\nbound 4294967296\n", fault: CertFault::NotText { line: 2 } },
+    CertificateRow { text: b"compose-certificate 1\nbound 1\npairs 1048577", fault: CertFault::NotText { line: 3 } },
+    CertificateRow { text: b"compose-certificate 1\nbound 1\npairs 0\ntypings 0\n\n", fault: CertFault::NotText { line: 5 } },
+    CertificateRow { text: b"compose-certificate 1\nbound 1\npairs 0\ntypings 0\ntypings 0\n", fault: CertFault::NotText { line: 5 } },
+    CertificateRow { text: b"compose-certificate 1\nbound 1\npairs 0\ntypings 0\nfresh 1\nfe5a\n", fault: CertFault::NotText { line: 5 } },
+    CertificateRow { text: b"compose-certificate 2\nbound 1\npairs 0\ntypings 0\nfresh 0\n", fault: CertFault::NotText { line: 5 } },
+    CertificateRow { text: b"compose-certificate 2\nbound 1\npairs 0\ntypings 0\n", fault: CertFault::NotText { line: 5 } },
+    CertificateRow { text: b"compose-certificate 1\nbound 1\npairs 0\ntypings 1\nU+00061 61\n", fault: CertFault::NotText { line: 5 } },
+    CertificateRow { text: b"compose-certificate 1\nbound 1\npairs 0\ntypings 1\nU+00e1 61\n", fault: CertFault::NotText { line: 5 } },
+    CertificateRow { text: b"compose-certificate 1\nbound 1\npairs 0\ntypings 1\nU+D800 61\n", fault: CertFault::NotText { line: 5 } },
+    CertificateRow { text: b"compose-certificate 1\nbound 1\npairs 0\ntypings 1\nU+0061\n", fault: CertFault::NotText { line: 5 } },
+    CertificateRow { text: b"compose-certificate 1\nbound 1\npairs 0\ntypings 1\nU+0061 20000000\n", fault: CertFault::NotText { line: 5 } },
+    CertificateRow { text: b"compose-certificate 1\nbound 1\npairs 1048577\n", fault: CertFault::TooLarge },
 ];
+
+/// The fault of a text, if it is no certificate.
+fn fault_of(alloc: Global, text: &[u8]) -> Option<CertFault> {
+    read(alloc, text).err()
+}
+
+fn expect_fault(rt: &impl Abort, alloc: Global, text: &[u8], fault: &CertFault) {
+    assert_eq!(rt; fault_of(alloc, text).as_ref(), Some(fault), "{text:?}");
+}
 
 #[test]
 fn faults_have_their_lines(rt: HostRuntime) {
-    let alloc = rt.alloc();
-    for (bytes, line) in &NO_TEXTS {
-        assert_fault(&rt, alloc, bytes, CertFault::NotText { line: *line });
+    for row in &NO_CERTIFICATES {
+        expect_fault(&rt, rt.alloc(), row.text, &row.fault);
     }
-    assert_fault(
-        &rt,
-        alloc,
-        b"compose-certificate 1\nbound 1\npairs 1048577\n",
-        CertFault::TooLarge,
-    );
-    assert!(rt;
-        is_refused_or_spells(
-            alloc,
-            b"compose-certificate 1\nbound 4294967295\npairs 0\ntypings 1\nU+0000 0 1fffffff\n"
-        )
-    );
+}
+
+/// Whether this is the text of this certificate. False where memory ran out.
+fn spells(alloc: Global, certificate: &Certificate, text: &[u8]) -> bool {
+    match written(alloc, certificate) {
+        Ok(written) => written.as_bytes() == text,
+        Err(_) => false,
+    }
+}
+
+/// Whether the text is refused, or read as a certificate with this very text. False where memory ran out.
+fn is_refused_or_spells(alloc: Global, text: &[u8]) -> bool {
+    match read(alloc, text) {
+        Ok(certificate) => spells(alloc, &certificate, text),
+        Err(fault) => fault != CertFault::NoMemory,
+    }
+}
+
+#[test]
+fn the_greatest_numbers_are_read(rt: HostRuntime) {
+    let text = b"compose-certificate 1\nbound 4294967295\npairs 0\ntypings 1\nU+0000 0 1fffffff\n";
+    assert!(rt; is_refused_or_spells(rt.alloc(), text));
 }
 
 #[test]
@@ -179,53 +223,66 @@ fn a_changed_byte_is_refused_or_another_text(rt: HostRuntime) {
 
 #[test]
 fn a_cut_text_is_refused_at_its_line(rt: HostRuntime) {
-    let alloc = rt.alloc();
+    let mut line = 1usize;
     for length in 0..TYPED.len() {
-        let cut = &TYPED[..length];
-        let line = 1 + cut.iter().filter(|byte| **byte == b'\n').count();
-        assert_fault(&rt, alloc, cut, CertFault::NotText { line });
+        expect_fault(
+            &rt,
+            rt.alloc(),
+            &TYPED[..length],
+            &CertFault::NotText { line },
+        );
+        if TYPED[length] == b'\n' {
+            line = line.wrapping_add(1);
+        }
     }
 }
 
-/// Repertoires, and what is told of each.
-static NO_REPERTOIRES: [(&[u8], RepertoireFault); 6] = [
-    (b"U+00E9\nU+00E1\n", RepertoireFault::NotRising { line: 2 }),
-    (b"U+D800", RepertoireFault::BadLine { line: 1 }),
-    (
-        b"U+00E1\nkeys 0x61 0x7a\n",
-        RepertoireFault::BadLine { line: 2 },
-    ),
-    (b"keys 0x7a 0x61", RepertoireFault::BadLine { line: 1 }),
-    (
-        b"keys 0x61 0x7a\nkeys 0x7a 0x7b\n",
-        RepertoireFault::NotRising { line: 2 },
-    ),
-    (b"# \xff\n", RepertoireFault::BadLine { line: 1 }),
-];
-
-/// Numbers, and whether the worked repertoire has a key of each.
-static KEYS: [(u32, bool); 8] = [
-    (0x20, true),
-    (0x61, true),
-    (0x7e, true),
-    (0xfe51, true),
-    (0x1f, false),
-    (0x7f, false),
-    (0xfe50, false),
-    (0xfe52, false),
-];
-
-fn assert_keys(rt: &impl Abort, repertoire: &Repertoire) {
-    for (number, is_key) in &KEYS {
-        let key = Keysym::new(*number).unwrap_or_default();
-        assert_eq!(rt; repertoire.is_key(key), *is_key, "{number}");
-    }
+/// A text that is no repertoire, and its fault.
+struct RepertoireRow {
+    text: &'static [u8],
+    fault: RepertoireFault,
 }
 
-fn assert_characters(rt: &impl Abort, repertoire: &Repertoire) {
-    assert_eq!(rt; repertoire.count(), 2);
-    assert_eq!(rt; char_at(repertoire, 0), Some('á'));
-    assert_eq!(rt; char_at(repertoire, 1), Some('é'));
+#[rattlefmt::skip]
+static NO_REPERTOIRES: [RepertoireRow; 6] = [
+    RepertoireRow { text: b"U+00E9\nU+00E1\n", fault: RepertoireFault::NotRising { line: 2 } },
+    RepertoireRow { text: b"U+D800", fault: RepertoireFault::BadLine { line: 1 } },
+    RepertoireRow { text: b"U+00E1\nkeys 0x61 0x7a\n", fault: RepertoireFault::BadLine { line: 2 } },
+    RepertoireRow { text: b"keys 0x7a 0x61", fault: RepertoireFault::BadLine { line: 1 } },
+    RepertoireRow { text: b"keys 0x61 0x7a\nkeys 0x7a 0x7b\n", fault: RepertoireFault::NotRising { line: 2 } },
+    RepertoireRow { text: b"# \xff\n", fault: RepertoireFault::BadLine { line: 1 } },
+];
+
+/// A keysym, and whether the worked repertoire has a key of it.
+struct KeyRow {
+    number: u32,
+    is_key: bool,
+}
+
+#[rattlefmt::skip]
+static KEYS: [KeyRow; 8] = [
+    KeyRow { number: 0x20, is_key: true },
+    KeyRow { number: 0x61, is_key: true },
+    KeyRow { number: 0x7e, is_key: true },
+    KeyRow { number: 0xfe51, is_key: true },
+    KeyRow { number: 0x1f, is_key: false },
+    KeyRow { number: 0x7f, is_key: false },
+    KeyRow { number: 0xfe50, is_key: false },
+    KeyRow { number: 0xfe52, is_key: false },
+];
+
+/// The worked repertoire.
+const REPERTOIRE: &str = " keys\t0x20 0x7E # ASCII\n#\n\nkeys 0xfe51 0xfe51\r\nU+00e1\n  U+00E9";
+
+fn read_repertoire(alloc: Global, text: &[u8]) -> Result<Repertoire, RepertoireFault> {
+    Repertoire::read(alloc, text)
+}
+
+fn expect_keys(rt: &impl Abort, repertoire: &Repertoire) {
+    for row in &KEYS {
+        let key = Keysym::new(row.number).unwrap_or_default();
+        assert_eq!(rt; repertoire.is_key(key), row.is_key, "{}", row.number);
+    }
 }
 
 /// The character at this index, if there is one.
@@ -237,38 +294,52 @@ fn char_at(repertoire: &Repertoire, index: usize) -> Option<char> {
     }
 }
 
+fn expect_characters(rt: &impl Abort, repertoire: &Repertoire) {
+    assert_eq!(rt; repertoire.count(), 2);
+    assert_eq!(rt; char_at(repertoire, 0), Some('á'));
+    assert_eq!(rt; char_at(repertoire, 1), Some('é'));
+}
+
 #[test]
-fn repertoires_are_read(rt: HostRuntime) -> Result<(), Fail> {
-    let text = " keys\t0x20 0x7E # ASCII\n#\n\nkeys 0xfe51 0xfe51\r\nU+00e1\n  U+00E9";
-    let repertoire = Repertoire::read(rt.alloc(), text.as_bytes())?;
-    assert_characters(&rt, &repertoire);
-    assert_keys(&rt, &repertoire);
+fn repertoires_are_read(rt: HostRuntime) -> Result<(), RepertoireFault> {
+    let repertoire = read_repertoire(rt.alloc(), REPERTOIRE.as_bytes())?;
+    expect_characters(&rt, &repertoire);
+    expect_keys(&rt, &repertoire);
     Ok(())
 }
 
 #[test]
-fn an_empty_repertoire_is_read(rt: HostRuntime) -> Result<(), Fail> {
-    assert_eq!(rt; Repertoire::read(rt.alloc(), b"")?.count(), 0);
+fn an_empty_repertoire_is_read(rt: HostRuntime) -> Result<(), RepertoireFault> {
+    assert_eq!(rt; read_repertoire(rt.alloc(), b"")?.count(), 0);
     Ok(())
+}
+
+/// The fault of a text, if it is no repertoire.
+fn repertoire_fault_of(alloc: Global, text: &[u8]) -> Option<RepertoireFault> {
+    read_repertoire(alloc, text).err()
+}
+
+fn expect_refused(rt: &impl Abort, alloc: Global, text: &[u8], fault: &RepertoireFault) {
+    assert_eq!(rt;
+        repertoire_fault_of(alloc, text).as_ref(),
+        Some(fault),
+        "{text:?}"
+    );
 }
 
 #[test]
 fn repertoires_are_refused(rt: HostRuntime) {
-    for (bytes, fault) in &NO_REPERTOIRES {
-        assert_refused(&rt, rt.alloc(), bytes, fault);
+    for row in &NO_REPERTOIRES {
+        expect_refused(&rt, rt.alloc(), row.text, &row.fault);
     }
 }
 
 #[test]
-fn faults_are_printed(rt: HostRuntime) -> Result<(), Fail> {
-    let alloc = rt.alloc();
-    let fault = CertFault::NotText { line: 2 };
-    assert_eq!(rt; fault.to_string(alloc)?.as_str(), "1 NotText line=2");
-    assert_eq!(rt;
-        CertFault::TooLarge.to_string(alloc)?.as_str(),
-        "2 TooLarge"
-    );
-    let fault = RepertoireFault::NotRising { line: 7 };
-    assert_eq!(rt; fault.to_string(alloc)?.as_str(), "2 NotRising line=7");
+fn faults_are_printed(rt: HostRuntime) -> Result<(), AllocError> {
+    let (no_text, large) = (CertFault::NotText { line: 2 }, CertFault::TooLarge);
+    let not_rising = RepertoireFault::NotRising { line: 7 };
+    let text = format!(in rt.alloc(); "{no_text}, {large}, {not_rising}")?;
+    let prints = "1 NotText line=2, 2 TooLarge, 2 NotRising line=7";
+    expect_text(&rt, prints, &text, prints);
     Ok(())
 }

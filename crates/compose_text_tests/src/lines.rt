@@ -1,211 +1,72 @@
-//! Worked lines and texts, and the printed faults.
+//! Worked lines and texts: what is read from them, or the printed fault.
+use crate::helpers::{expect_text, push_all, repeated};
 use arrayvec::ArrayVec;
 use compose_lex::{LexFault, Line, Said, lex_line, lex_line_into, push_text, quote, unescape};
 use std::alloc::{AllocError, Global};
+use std::fmt::Write;
 use std::process::Abort;
-use std::test::Fail;
 
-/// The printed fault of a line.
-fn line_fault(alloc: Global, line: &str) -> Result<String, AllocError> {
-    match lex_line(line) {
-        Ok(_) => String::from_str(alloc, "none"),
-        Err(fault) => format!(in alloc; "{fault}"),
-    }
+/// A line, and what is read from it: the shortest line that says the same, which is empty for a blank line; or the printed fault.
+struct LineRow {
+    line: &'static str,
+    reads: &'static str,
 }
 
-/// The printed fault of a raw text.
-fn text_fault(alloc: Global, raw: &str) -> Result<String, AllocError> {
-    match unescape(alloc, raw) {
-        Ok(_) => String::from_str(alloc, "none"),
-        Err(fault) => format!(in alloc; "{fault}"),
-    }
-}
-
-/// So many events, and a result.
-fn events(alloc: Global, count: usize) -> Result<String, AllocError> {
-    let mut line = String::new(alloc);
-    for _ in 0..count {
-        line.push_str("<a>")?;
-    }
-    line.push_str(":b")?;
-    Ok(line)
-}
-
-/// Expects what is read from a line.
-fn expect_line(rt: &impl Abort, line: &str, said: Line) {
-    assert_eq!(rt; lex_line(line), Ok(said), "{line}");
-}
-
-#[test]
-fn reads_lines(rt: HostRuntime) {
-    let mut events = ArrayVec::new();
-    events.push("Multi_key");
-    events.push("apostrophe");
-    events.push("e");
-    let said = Line::Production {
-        events,
-        raw_text: Some("é"),
-        result_name: Some("eacute"),
-    };
-    expect_line(
-        &rt,
-        "<Multi_key> <apostrophe> <e> : \"é\" eacute # e acute",
-        said,
-    );
-    expect_line(&rt, " \t# <a>", Line::Blank);
-    expect_line(&rt, "include \"%L\"\r", Line::Include("%L"));
-}
-
-/// Expects what is read from a line, or none where it is faulty, and the events that the list has then.
-fn expect_said<'a>(
-    rt: &impl Abort,
-    line: &'a str,
-    events: &mut ArrayVec<&'a str, 32>,
-    said: Option<Said<'a>>,
-    wanted: &[&str],
-) {
-    assert_eq!(rt; lex_line_into(line, events).ok(), said, "{line}");
-    assert_eq!(rt; events.as_slice(), wanted, "{line}");
-}
-
-#[test]
-fn reads_lines_into_one_list(rt: HostRuntime) {
-    let mut events = ArrayVec::new();
-    let said = Said::Production {
-        raw_text: Some("é"),
-        result_name: Some("eacute"),
-    };
-    let line = "<Multi_key> <apostrophe> <e> : \"é\" eacute # e acute";
-    let wanted = ["Multi_key", "apostrophe", "e"];
-    expect_said(&rt, line, &mut events, Some(said), &wanted);
-    let said = Said::Production {
-        raw_text: None,
-        result_name: Some("b"),
-    };
-    expect_said(&rt, "<a>:b", &mut events, Some(said), &["a"]);
-    let said = Said::Include("%L");
-    expect_said(&rt, "include \"%L\"", &mut events, Some(said), &[]);
-    expect_said(&rt, "# <a>", &mut events, Some(Said::Blank), &[]);
-    expect_said(&rt, "<a> <b> :", &mut events, None, &[]);
-}
-
-/// Lines, and the printed fault of each.
-static LINE_FAULTS: [(&str, &str); 9] = [
-    ("Ctrl<a> : \"x\"", "2 ModifierList at=0"),
-    ("<a> :", "6 NoResult"),
-    ("<a> : \"x", "3 UnclosedString at=6"),
-    ("<a> \"x\"", "1 BadToken at=4"),
-    ("include<a>", "1 BadToken at=7"),
-    ("includes \"x\"", "2 ModifierList at=0"),
-    ("<a", "1 BadToken at=2"),
-    ("<a> <b> ~<c> : \"x\"", "2 ModifierList at=8"),
-    ("<a> : b # c", "none"),
+#[rattlefmt::skip]
+static LINES: [LineRow; 12] = [
+    LineRow { line: "<Multi_key> <apostrophe> <e> : \"é\" eacute # e acute", reads: "<Multi_key><apostrophe><e>:\"é\"eacute" },
+    LineRow { line: " \t# <a>", reads: "" },
+    LineRow { line: "include \"%L\"\r", reads: "include\"%L\"" },
+    LineRow { line: "<a> : b # c", reads: "<a>:b" },
+    LineRow { line: "Ctrl<a> : \"x\"", reads: "2 ModifierList at=0" },
+    LineRow { line: "<a> :", reads: "6 NoResult" },
+    LineRow { line: "<a> : \"x", reads: "3 UnclosedString at=6" },
+    LineRow { line: "<a> \"x\"", reads: "1 BadToken at=4" },
+    LineRow { line: "include<a>", reads: "1 BadToken at=7" },
+    LineRow { line: "includes \"x\"", reads: "2 ModifierList at=0" },
+    LineRow { line: "<a", reads: "1 BadToken at=2" },
+    LineRow { line: "<a> <b> ~<c> : \"x\"", reads: "2 ModifierList at=8" },
 ];
 
-/// Expects the printed fault of a line.
-fn expect_fault(rt: &impl Abort, alloc: Global, line: &str, fault: &str) -> Result<(), AllocError> {
-    assert_eq!(rt; line_fault(alloc, line)?.as_str(), fault, "{line}");
-    Ok(())
-}
-
-#[test]
-fn finds_line_faults(rt: HostRuntime) -> Result<(), Fail> {
-    for (line, fault) in &LINE_FAULTS {
-        expect_fault(&rt, rt.alloc(), line, fault)?;
-    }
-    let full = events(rt.alloc(), 32)?;
-    expect_fault(&rt, rt.alloc(), &full, "none")?;
-    let over = events(rt.alloc(), 33)?;
-    expect_fault(&rt, rt.alloc(), &over, "7 TooManyKeysyms")?;
-    Ok(())
-}
-
-/// Raw texts, and the text of each.
-static TEXTS: [(&str, &str); 7] = [
-    ("\\303\\251", "é"),
-    ("\\xc3\\xa9", "é"),
-    ("é", "é"),
-    ("\\1234", "S4"),
-    ("\\x414", "A4"),
-    ("a\\n", "a\n"),
-    ("\\\\\\\"", "\\\""),
+/// Lines that are read into one list of events, one after another: no line leaves an event to the next one, and the faulty one leaves none.
+#[rattlefmt::skip]
+static LINES_INTO: [LineRow; 5] = [
+    LineRow { line: "<Multi_key> <apostrophe> <e> : \"é\" eacute # e acute", reads: "<Multi_key><apostrophe><e>:\"é\"eacute" },
+    LineRow { line: "<a>:b", reads: "<a>:b" },
+    LineRow { line: "include \"%L\"", reads: "include\"%L\"" },
+    LineRow { line: "# <a>", reads: "" },
+    LineRow { line: "<a> <b> :", reads: "6 NoResult" },
 ];
 
-fn expect_text(rt: &impl Abort, alloc: Global, raw: &str, text: &str) -> Result<(), LexFault> {
-    assert_eq!(rt; unescape(alloc, raw)?.as_str(), text);
-    Ok(())
+/// Lines of each length up to 40 of these pieces, which come in turn. In `line` and `reads`, `*` stands for the pieces, `$` for what may stand at the
+/// end of a line, and `+` for the place that is four bytes behind the pieces.
+struct GrownRow {
+    least: usize,
+    pieces: [&'static str; 4],
+    line: &'static str,
+    reads: &'static str,
 }
 
-fn expect_quoted(rt: &impl Abort, alloc: Global, text: &str, quoted: &str) -> Result<(), LexFault> {
-    assert_eq!(rt; quote(alloc, text)?.as_str(), quoted);
-    Ok(())
-}
-
-#[test]
-fn reads_texts(rt: HostRuntime) -> Result<(), Fail> {
-    for (raw, text) in &TEXTS {
-        expect_text(&rt, rt.alloc(), raw, text)?;
-    }
-    expect_quoted(
-        &rt,
-        rt.alloc(),
-        "a\"b\\\n\u{7f}é",
-        "\"a\\\"b\\\\\\012\\177é\"",
-    )?;
-    Ok(())
-}
-
-/// Whether the text behind is refused, and nothing of it is pushed.
-fn is_refused_whole(text: &mut String, raw: &str) -> bool {
-    push_text(text, raw).is_err() && text.as_str() == "aéé\n"
-}
-
-#[test]
-fn pushes_texts(rt: HostRuntime) -> Result<(), Fail> {
-    let mut text = String::from_str(rt.alloc(), "a")?;
-    push_text(&mut text, "é")?;
-    push_text(&mut text, "\\303\\251\\n")?;
-    assert_eq!(rt; text.as_str(), "aéé\n");
-    for raw in ["", "\\q", "b\\0", "\\xff"] {
-        assert!(rt; is_refused_whole(&mut text, raw), "{raw}");
-    }
-    Ok(())
-}
-
-/// Raw texts, and the printed fault of each.
-static TEXT_FAULTS: [(&str, &str); 7] = [
-    ("\\xff", "10 TextNotUtf8"),
-    ("\\400", "5 BadCode at=0"),
-    ("\\0", "5 BadCode at=0"),
-    ("a\\q", "4 UnknownEscape at=1"),
-    ("a\\", "4 UnknownEscape at=1"),
-    ("\\x", "5 BadCode at=0"),
-    ("", "8 EmptyText"),
+/// Names of each length; names that a byte ends which begins no token; blanks at each place, and nothing else; strings, and one without its last quote;
+/// and escapes behind each number of bytes.
+#[rattlefmt::skip]
+static GROWN: [GrownRow; 15] = [
+    GrownRow { least: 1, pieces: ["q", "Z", "7", "_"], line: "<*>:*$", reads: "<*>:*" },
+    GrownRow { least: 0, pieces: ["z", "A", "0", "9"], line: "<a>:*/$", reads: "1 BadToken at=+" },
+    GrownRow { least: 0, pieces: ["z", "A", "0", "9"], line: "<a>:*:$", reads: "1 BadToken at=+" },
+    GrownRow { least: 0, pieces: ["z", "A", "0", "9"], line: "<a>:*@$", reads: "1 BadToken at=+" },
+    GrownRow { least: 0, pieces: ["z", "A", "0", "9"], line: "<a>:*[$", reads: "1 BadToken at=+" },
+    GrownRow { least: 0, pieces: ["z", "A", "0", "9"], line: "<a>:*`$", reads: "1 BadToken at=+" },
+    GrownRow { least: 0, pieces: ["z", "A", "0", "9"], line: "<a>:*{$", reads: "1 BadToken at=+" },
+    GrownRow { least: 0, pieces: ["z", "A", "0", "9"], line: "<a>:*é$", reads: "1 BadToken at=+" },
+    GrownRow { least: 0, pieces: [" ", "\t", "\t", "\r"], line: "*<*a*>*:*b*$", reads: "<a>:b" },
+    GrownRow { least: 0, pieces: [" ", "\t", "\t", "\r"], line: "*$", reads: "" },
+    GrownRow { least: 0, pieces: ["x", " ", "#", ">"], line: "<a>:\"*\"$", reads: "<a>:\"*\"" },
+    GrownRow { least: 0, pieces: ["x", " ", "#", ">"], line: "<a>:\"*$", reads: "3 UnclosedString at=4" },
+    GrownRow { least: 0, pieces: ["x", " ", "é", ">"], line: "<a>:\"*\\\"$\"b$", reads: "<a>:\"*\\\"$\"b" },
+    GrownRow { least: 0, pieces: ["x", " ", "é", ">"], line: "<a>:\"*\\\\$\"b$", reads: "<a>:\"*\\\\$\"b" },
+    GrownRow { least: 0, pieces: ["x", " ", "é", ">"], line: "<a>:\"*\\\\\\\"$\"b$", reads: "<a>:\"*\\\\\\\"$\"b" },
 ];
-
-fn expect_text_fault(
-    rt: &impl Abort,
-    alloc: Global,
-    raw: &str,
-    fault: &str,
-) -> Result<(), AllocError> {
-    assert_eq!(rt; text_fault(alloc, raw)?.as_str(), fault, "{raw}");
-    Ok(())
-}
-
-#[test]
-fn finds_text_faults(rt: HostRuntime) -> Result<(), Fail> {
-    for (raw, fault) in &TEXT_FAULTS {
-        expect_text_fault(&rt, rt.alloc(), raw, fault)?;
-    }
-    let most = repeated(rt.alloc(), ["a"; 4], 255)?;
-    expect_text_fault(&rt, rt.alloc(), &most, "none")?;
-    let more = repeated(rt.alloc(), ["a"; 4], 256)?;
-    expect_text_fault(&rt, rt.alloc(), &more, "9 TextTooLong")?;
-    let no_memory = format!(in rt.alloc(); "{}", LexFault::NoMemory)?;
-    assert_eq!(rt; no_memory.as_str(), "11 NoMemory");
-    Ok(())
-}
 
 /// What may stand at the end of a line: nothing, or a comment longer than any one step of the scans.
 const ENDS: [&str; 2] = [
@@ -213,133 +74,327 @@ const ENDS: [&str; 2] = [
     " # so much that no step of a scan goes past the end of it",
 ];
 
-/// So many of these pieces, from the first one on and again and again.
-fn repeated(alloc: Global, pieces: [&str; 4], count: usize) -> Result<String, AllocError> {
-    let mut text = String::new(alloc);
-    for at in 0..count {
-        text.push_str(pieces[at % 4])?;
-    }
-    Ok(text)
+/// The raw text of a string, and its text or the printed fault.
+struct TextRow {
+    raw: &'static str,
+    reads: &'static str,
 }
 
-/// The raw text and the result name of a production.
-fn result_of(line: &str) -> (Option<&str>, Option<&str>) {
-    match lex_line(line) {
+#[rattlefmt::skip]
+static TEXTS: [TextRow; 14] = [
+    TextRow { raw: "\\303\\251", reads: "é" },
+    TextRow { raw: "\\xc3\\xa9", reads: "é" },
+    TextRow { raw: "é", reads: "é" },
+    TextRow { raw: "\\1234", reads: "S4" },
+    TextRow { raw: "\\x414", reads: "A4" },
+    TextRow { raw: "a\\n", reads: "a\n" },
+    TextRow { raw: "\\\\\\\"", reads: "\\\"" },
+    TextRow { raw: "\\xff", reads: "10 TextNotUtf8" },
+    TextRow { raw: "\\400", reads: "5 BadCode at=0" },
+    TextRow { raw: "\\0", reads: "5 BadCode at=0" },
+    TextRow { raw: "a\\q", reads: "4 UnknownEscape at=1" },
+    TextRow { raw: "a\\", reads: "4 UnknownEscape at=1" },
+    TextRow { raw: "\\x", reads: "5 BadCode at=0" },
+    TextRow { raw: "", reads: "8 EmptyText" },
+];
+
+/// A raw text whose text is put behind what stands there, whether that can be done, and what stands there then.
+struct PushedRow {
+    raw: &'static str,
+    pushed: bool,
+    whole: &'static str,
+}
+
+/// What is put behind the text `a`, one after another: of a text that is refused nothing is pushed.
+#[rattlefmt::skip]
+static PUSHED: [PushedRow; 6] = [
+    PushedRow { raw: "é", pushed: true, whole: "aé" },
+    PushedRow { raw: "\\303\\251\\n", pushed: true, whole: "aéé\n" },
+    PushedRow { raw: "", pushed: false, whole: "aéé\n" },
+    PushedRow { raw: "\\q", pushed: false, whole: "aéé\n" },
+    PushedRow { raw: "b\\0", pushed: false, whole: "aéé\n" },
+    PushedRow { raw: "\\xff", pushed: false, whole: "aéé\n" },
+];
+
+fn read(line: &str) -> Result<Line<'_>, LexFault> {
+    lex_line(line)
+}
+
+fn read_into<'a>(line: &'a str, events: &mut ArrayVec<&'a str, 32>) -> Result<Said<'a>, LexFault> {
+    lex_line_into(line, events)
+}
+
+fn text_of(alloc: Global, raw: &str) -> Result<String, LexFault> {
+    unescape(alloc, raw)
+}
+
+fn push_fault(text: &mut String, fault: &LexFault) -> Result<(), AllocError> {
+    write!(text, "{fault}")?;
+    Ok(())
+}
+
+fn push_events(text: &mut String, events: &[&str]) -> Result<(), AllocError> {
+    for event in events {
+        push_all(text, &["<", event, ">"])?;
+    }
+    Ok(())
+}
+
+/// The end of a production: a colon, the string if it has one, and the result name if it has one.
+fn push_result(
+    text: &mut String,
+    raw_text: Option<&str>,
+    result_name: Option<&str>,
+) -> Result<(), AllocError> {
+    text.push_str(":")?;
+    if let Some(raw) = raw_text {
+        push_all(text, &["\"", raw, "\""])?;
+    }
+    text.push_str(result_name.unwrap_or(""))
+}
+
+/// The shortest line that says the same, or the printed fault.
+fn push_line(text: &mut String, said: &Result<Line, LexFault>) -> Result<(), AllocError> {
+    match said {
+        Ok(Line::Blank) => Ok(()),
+        Ok(Line::Include(raw)) => push_all(text, &["include\"", raw, "\""]),
         Ok(
             Line::Production {
+                events,
                 raw_text,
                 result_name,
-                ..
             },
-        ) => (raw_text, result_name),
-        _ => (None, None),
+        ) => {
+            push_events(text, events)?;
+            push_result(text, *raw_text, *result_name)
+        }
+        Err(fault) => push_fault(text, fault),
     }
 }
 
-/// Expects the raw text and the result name of a production.
-fn expect_result(rt: &impl Abort, line: &str, raw_text: Option<&str>, result_name: Option<&str>) {
-    assert_eq!(rt; result_of(line), (raw_text, result_name), "{line}");
+/// The same of what a line says beside the names of its events.
+fn push_said(text: &mut String, said: &Result<Said, LexFault>) -> Result<(), AllocError> {
+    match said {
+        Ok(Said::Blank) => Ok(()),
+        Ok(Said::Include(raw)) => push_all(text, &["include\"", raw, "\""]),
+        Ok(
+            Said::Production {
+                raw_text,
+                result_name,
+            },
+        ) => push_result(text, *raw_text, *result_name),
+        Err(fault) => push_fault(text, fault),
+    }
+}
+
+/// Expects what is read from a line.
+fn expect_line(rt: &impl Abort, alloc: Global, line: &str, reads: &str) -> Result<(), AllocError> {
+    let mut text = String::new(alloc);
+    push_line(&mut text, &read(line))?;
+    expect_text(rt, line, &text, reads);
+    Ok(())
 }
 
 #[test]
-fn reads_names_of_each_length(rt: HostRuntime) -> Result<(), Fail> {
-    for len in 1..=40 {
-        let name = repeated(rt.alloc(), ["q", "Z", "7", "_"], len)?;
-        for end in ENDS {
-            let line = format!(in rt.alloc(); "<{name}>:{name}{end}")?;
-            expect_result(&rt, &line, None, Some(&name));
-        }
+fn reads_lines(rt: HostRuntime) -> Result<(), AllocError> {
+    let alloc = rt.alloc();
+    for row in &LINES {
+        expect_line(&rt, alloc, row.line, row.reads)?;
     }
     Ok(())
 }
 
-/// Expects a name that this byte ends to be named as no token, whatever follows.
-fn expect_end(rt: &impl Abort, alloc: Global, name: &str, byte: &str) -> Result<(), AllocError> {
-    let fault = format!(in alloc; "1 BadToken at={}", name.len().saturating_add(4))?;
-    for end in ENDS {
-        let line = format!(in alloc; "<a>:{name}{byte}{end}")?;
-        expect_fault(rt, alloc, &line, &fault)?;
-    }
-    Ok(())
-}
-
-#[test]
-fn ends_names_at_each_place(rt: HostRuntime) -> Result<(), Fail> {
-    for len in 0..=40 {
-        let name = repeated(rt.alloc(), ["z", "A", "0", "9"], len)?;
-        for byte in ["/", ":", "@", "[", "`", "{", "é"] {
-            expect_end(&rt, rt.alloc(), &name, byte)?;
-        }
-    }
-    Ok(())
-}
-
-/// Expects a line with these blanks at each place to be read, and one with nothing else to be blank.
-fn expect_blanks(
+/// Expects how a line of so many events is read; it is itself the shortest line that says the same.
+fn expect_events(
     rt: &impl Abort,
     alloc: Global,
-    blanks: &str,
-    end: &str,
+    count: usize,
+    fault: Option<&str>,
 ) -> Result<(), AllocError> {
-    let line = format!(in alloc; "{blanks}<{blanks}a{blanks}>{blanks}:{blanks}b{blanks}{end}")?;
-    expect_result(rt, &line, None, Some("b"));
-    let line = format!(in alloc; "{blanks}{end}")?;
-    assert_eq!(rt; lex_line(&line), Ok(Line::Blank), "{line}");
-    Ok(())
+    let mut line = repeated(alloc, "<a>", count)?;
+    line.push_str(":b")?;
+    expect_line(rt, alloc, &line, fault.unwrap_or(&line))
 }
 
+/// A line has 32 events at most.
 #[test]
-fn passes_blanks_of_each_length(rt: HostRuntime) -> Result<(), Fail> {
-    for len in 0..=40 {
-        let blanks = repeated(rt.alloc(), [" ", "\t", "\t", "\r"], len)?;
-        for end in ENDS {
-            expect_blanks(&rt, rt.alloc(), &blanks, end)?;
-        }
-    }
-    Ok(())
+fn reads_as_many_events_as_may_be(rt: HostRuntime) -> Result<(), AllocError> {
+    expect_events(&rt, rt.alloc(), 32, None)?;
+    expect_events(&rt, rt.alloc(), 33, Some("7 TooManyKeysyms"))
 }
 
-/// Expects a string with this raw text to be read, and one without its last quote to be unclosed.
-fn expect_string(rt: &impl Abort, alloc: Global, raw: &str, end: &str) -> Result<(), AllocError> {
-    let line = format!(in alloc; "<a>:\"{raw}\"{end}")?;
-    expect_result(rt, &line, Some(raw), None);
-    let line = format!(in alloc; "<a>:\"{raw}{end}")?;
-    expect_fault(rt, alloc, &line, "3 UnclosedString at=4")
-}
-
-#[test]
-fn reads_strings_of_each_length(rt: HostRuntime) -> Result<(), Fail> {
-    for len in 0..=40 {
-        let raw = repeated(rt.alloc(), ["x", " ", "#", ">"], len)?;
-        for end in ENDS {
-            expect_string(&rt, rt.alloc(), &raw, end)?;
-        }
-    }
-    Ok(())
-}
-
-/// Expects a string with this escape after this prefix to be read, whatever follows.
-fn expect_escape(
+/// Expects what is read from a line into a list, with the events that the list has then before it.
+fn expect_line_into(
     rt: &impl Abort,
     alloc: Global,
-    prefix: &str,
-    escape: &str,
+    row: &LineRow,
+    events: &mut ArrayVec<&'static str, 32>,
+) -> Result<(), AllocError> {
+    let said = read_into(row.line, events);
+    let mut text = String::new(alloc);
+    push_events(&mut text, events)?;
+    push_said(&mut text, &said)?;
+    expect_text(rt, row.line, &text, row.reads);
+    Ok(())
+}
+
+#[test]
+fn reads_lines_into_one_list(rt: HostRuntime) -> Result<(), AllocError> {
+    let alloc = rt.alloc();
+    let mut events = ArrayVec::new();
+    for row in &LINES_INTO {
+        expect_line_into(&rt, alloc, row, &mut events)?;
+    }
+    Ok(())
+}
+
+/// A line of so many pieces, written out.
+fn written(alloc: Global, form: &str, pieces: &str, end: &str) -> Result<String, AllocError> {
+    let mut line = String::new(alloc);
+    for mark in form.chars() {
+        match mark {
+            '*' => line.push_str(pieces)?,
+            '$' => line.push_str(end)?,
+            '+' => push_place(&mut line, pieces.len().wrapping_add(4))?,
+            _ => line.push(mark)?,
+        }
+    }
+    Ok(line)
+}
+
+fn push_place(line: &mut String, place: usize) -> Result<(), AllocError> {
+    write!(line, "{place}")?;
+    Ok(())
+}
+
+/// Expects what is read from the line of a row that has these pieces, at each end.
+fn expect_grown(
+    rt: &impl Abort,
+    alloc: Global,
+    row: &GrownRow,
+    pieces: &str,
 ) -> Result<(), AllocError> {
     for end in ENDS {
-        let raw = format!(in alloc; "{prefix}{escape}{end}")?;
-        let line = format!(in alloc; "<a>:\"{raw}\"b{end}")?;
-        expect_result(rt, &line, Some(&raw), Some("b"));
+        let line = written(alloc, row.line, pieces, end)?;
+        let reads = written(alloc, row.reads, pieces, end)?;
+        expect_line(rt, alloc, &line, &reads)?;
+    }
+    Ok(())
+}
+
+/// Expects what is read from the lines of a row, of each length.
+fn expect_each_length(rt: &impl Abort, alloc: Global, row: &GrownRow) -> Result<(), AllocError> {
+    let mut pieces = String::new(alloc);
+    for len in 0..=40usize {
+        if row.least <= len {
+            expect_grown(rt, alloc, row, &pieces)?;
+        }
+        pieces.push_str(row.pieces[len % 4])?;
     }
     Ok(())
 }
 
 #[test]
-fn reads_escapes_at_each_place(rt: HostRuntime) -> Result<(), Fail> {
-    for len in 0..=40 {
-        let prefix = repeated(rt.alloc(), ["x", " ", "é", ">"], len)?;
-        for escape in ["\\\"", "\\\\", "\\\\\\\""] {
-            expect_escape(&rt, rt.alloc(), &prefix, escape)?;
-        }
+fn reads_lines_of_each_length(rt: HostRuntime) -> Result<(), AllocError> {
+    let alloc = rt.alloc();
+    for row in &GROWN {
+        expect_each_length(&rt, alloc, row)?;
+    }
+    Ok(())
+}
+
+/// Expects the text of a string, or the printed fault.
+fn expect_unescaped(
+    rt: &impl Abort,
+    alloc: Global,
+    raw: &str,
+    reads: &str,
+) -> Result<(), AllocError> {
+    match text_of(alloc, raw) {
+        Ok(text) => expect_text(rt, raw, &text, reads),
+        Err(fault) => expect_fault(rt, alloc, raw, &fault, reads)?,
+    }
+    Ok(())
+}
+
+/// Expects how a fault is printed.
+fn expect_fault(
+    rt: &impl Abort,
+    alloc: Global,
+    row: &str,
+    fault: &LexFault,
+    prints: &str,
+) -> Result<(), AllocError> {
+    let mut text = String::new(alloc);
+    push_fault(&mut text, fault)?;
+    expect_text(rt, row, &text, prints);
+    Ok(())
+}
+
+#[test]
+fn reads_texts(rt: HostRuntime) -> Result<(), AllocError> {
+    let alloc = rt.alloc();
+    for row in &TEXTS {
+        expect_unescaped(&rt, alloc, row.raw, row.reads)?;
+    }
+    Ok(())
+}
+
+/// Expects how a text of so many letters is read.
+fn expect_letters(
+    rt: &impl Abort,
+    alloc: Global,
+    count: usize,
+    fault: Option<&str>,
+) -> Result<(), AllocError> {
+    let raw = repeated(alloc, "a", count)?;
+    expect_unescaped(rt, alloc, &raw, fault.unwrap_or(&raw))
+}
+
+/// A text has 255 bytes at most.
+#[test]
+fn reads_texts_as_long_as_may_be(rt: HostRuntime) -> Result<(), AllocError> {
+    expect_letters(&rt, rt.alloc(), 255, None)?;
+    expect_letters(&rt, rt.alloc(), 256, Some("9 TextTooLong"))
+}
+
+#[test]
+fn want_of_memory_is_printed(rt: HostRuntime) -> Result<(), AllocError> {
+    let fault = LexFault::NoMemory;
+    expect_fault(&rt, rt.alloc(), "no memory", &fault, "11 NoMemory")
+}
+
+fn quoted(alloc: Global, text: &str) -> Result<String, LexFault> {
+    quote(alloc, text)
+}
+
+#[test]
+fn quotes_texts(rt: HostRuntime) -> Result<(), LexFault> {
+    let text = "a\"b\\\n\u{7f}é";
+    expect_text(
+        &rt,
+        text,
+        &quoted(rt.alloc(), text)?,
+        "\"a\\\"b\\\\\\012\\177é\"",
+    );
+    Ok(())
+}
+
+fn is_pushed(text: &mut String, raw: &str) -> bool {
+    push_text(text, raw).is_ok()
+}
+
+/// Expects whether a text is pushed, and what stands there then.
+fn expect_pushed(rt: &impl Abort, text: &mut String, row: &PushedRow) {
+    assert!(rt; is_pushed(text, row.raw) == row.pushed, "{}", row.raw);
+    expect_text(rt, row.raw, text, row.whole);
+}
+
+#[test]
+fn pushes_texts(rt: HostRuntime) -> Result<(), AllocError> {
+    let mut text = String::from_str(rt.alloc(), "a")?;
+    for row in &PUSHED {
+        expect_pushed(&rt, &mut text, row);
     }
     Ok(())
 }

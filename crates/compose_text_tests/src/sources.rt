@@ -1,253 +1,262 @@
 //! Worked tables: what they settle to, or their first fault.
+use crate::helpers::{add, core, expect_text, repeated, two_sources};
 use compose_model::Rule;
 use compose_read::{
-    Definitions, ReadFault, Sequences, SourceFault, Sources, read_definitions, settle,
+    Definitions, ReadFault, Sequences, SettleFault, SourceFault, Sources, read_definitions, settle,
 };
 use keysym_core::{Keysym, Names};
 use std::alloc::{AllocError, Global};
 use std::fmt::Write;
 use std::process::Abort;
-use std::test::Fail;
 
-/// The root's lines, those of the source `%L`, whether the longest sequences stay, and what is printed.
-static TABLES: [(&str, &str, bool, &str); 19] = [
-    (
-        "<a> <b> : \"x\"\ninclude \"%L\"\n",
-        "<a> <b> : \"z\"\n",
-        false,
-        "0x61,0x62=z;",
-    ),
-    (
-        "<a> <b> : \"x\"\n<a> : \"y\"\n",
-        "",
-        false,
-        "1 Overlap short=0x61 long=0x61,0x62",
-    ),
-    ("<a> <b> : \"x\"\n<a> : \"y\"\n", "", true, "0x61,0x62=x;"),
-    (
-        "<a> : \"1\"\n<a> <b> <c> : \"2\"\n<a> <b> : \"3\"\n<a> <b> <c> : \"4\"\n",
-        "",
-        true,
-        "0x61,0x62,0x63=4;",
-    ),
-    (
-        "<b> <c> : \"1\"\n<a> <b> <d> : \"2\"\n<a> <b> <c> : \"3\"\n<b> : \"4\"\n<a> <b> : \"5\"\n",
-        "",
-        false,
-        "1 Overlap short=0x61,0x62 long=0x61,0x62,0x63",
-    ),
-    (
-        "\u{feff}<c> : \"w\"\n# none\n\n<b> : eacute\r\n<c> : \"y\"",
-        "",
-        false,
-        "0x62=é;0x63=y;",
-    ),
-    ("", "", false, ""),
-    ("include \"r\"", "", false, "7 IncludeDepth source=0 line=1"),
-    (
-        "include \"%L\"",
-        "include \"%L\"\ninclude \"r\"",
-        false,
-        "7 IncludeDepth source=1 line=1",
-    ),
-    (
-        "include \"%L\"",
-        "\ninclude \"r\"\ninclude \"%L\"",
-        false,
-        "7 IncludeDepth source=0 line=1",
-    ),
-    (
-        "include \"none\"",
-        "",
-        false,
-        "6 MissingInclude source=0 line=1",
-    ),
-    (
-        "<Shift_L> : \"x\"",
-        "",
-        false,
-        "5 IgnoredKeysym source=0 line=1 index=0",
-    ),
-    (
-        "<nosuch> : \"x\"\nCtrl<a> : \"x\"",
-        "",
-        false,
-        "4 UnknownKeysym source=0 line=1 index=0",
-    ),
-    (
-        "<a> <b> : \"x\" nosuch",
-        "",
-        false,
-        "4 UnknownKeysym source=0 line=1 index=2",
-    ),
-    (
-        "\n<a> : \"\\q\" nosuch",
-        "",
-        false,
-        "3 Lex source=0 line=2: 4 UnknownEscape at=0",
-    ),
-    (
-        "Ctrl<a> : \"x\"",
-        "",
-        false,
-        "3 Lex source=0 line=1: 2 ModifierList at=0",
-    ),
-    ("<a> :", "", false, "3 Lex source=0 line=1: 6 NoResult"),
-    (
-        "<a> : \"x",
-        "",
-        false,
-        "3 Lex source=0 line=1: 3 UnclosedString at=6",
-    ),
-    (
-        "<a> \"x\"",
-        "",
-        false,
-        "3 Lex source=0 line=1: 1 BadToken at=4",
-    ),
+/// The root's lines, those of the source `%L`, what is done where sequences overlap, and what is printed: of each sequence its keysyms and its text;
+/// or the first fault.
+struct TableRow {
+    root: &'static str,
+    included: &'static str,
+    rule: Rule,
+    prints: &'static str,
+}
+
+#[rattlefmt::skip]
+static TABLES: [TableRow; 19] = [
+    TableRow { root: "<a> <b> : \"x\"\ninclude \"%L\"\n", included: "<a> <b> : \"z\"\n", rule: Rule::Refuse, prints: "0x61,0x62=z;" },
+    TableRow { root: "<a> <b> : \"x\"\n<a> : \"y\"\n", included: "", rule: Rule::Refuse, prints: "1 Overlap short=0x61 long=0x61,0x62" },
+    TableRow { root: "<a> <b> : \"x\"\n<a> : \"y\"\n", included: "", rule: Rule::Longest, prints: "0x61,0x62=x;" },
+    TableRow { root: "<a> : \"1\"\n<a> <b> <c> : \"2\"\n<a> <b> : \"3\"\n<a> <b> <c> : \"4\"\n", included: "", rule: Rule::Longest, prints: "0x61,0x62,0x63=4;" },
+    TableRow { root: "<b> <c> : \"1\"\n<a> <b> <d> : \"2\"\n<a> <b> <c> : \"3\"\n<b> : \"4\"\n<a> <b> : \"5\"\n", included: "", rule: Rule::Refuse, prints: "1 Overlap short=0x61,0x62 long=0x61,0x62,0x63" },
+    TableRow { root: "\u{feff}<c> : \"w\"\n# none\n\n<b> : eacute\r\n<c> : \"y\"", included: "", rule: Rule::Refuse, prints: "0x62=é;0x63=y;" },
+    TableRow { root: "", included: "", rule: Rule::Refuse, prints: "" },
+    TableRow { root: "include \"r\"", included: "", rule: Rule::Refuse, prints: "7 IncludeDepth source=0 line=1" },
+    TableRow { root: "include \"%L\"", included: "include \"%L\"\ninclude \"r\"", rule: Rule::Refuse, prints: "7 IncludeDepth source=1 line=1" },
+    TableRow { root: "include \"%L\"", included: "\ninclude \"r\"\ninclude \"%L\"", rule: Rule::Refuse, prints: "7 IncludeDepth source=0 line=1" },
+    TableRow { root: "include \"none\"", included: "", rule: Rule::Refuse, prints: "6 MissingInclude source=0 line=1" },
+    TableRow { root: "<Shift_L> : \"x\"", included: "", rule: Rule::Refuse, prints: "5 IgnoredKeysym source=0 line=1 index=0" },
+    TableRow { root: "<nosuch> : \"x\"\nCtrl<a> : \"x\"", included: "", rule: Rule::Refuse, prints: "4 UnknownKeysym source=0 line=1 index=0" },
+    TableRow { root: "<a> <b> : \"x\" nosuch", included: "", rule: Rule::Refuse, prints: "4 UnknownKeysym source=0 line=1 index=2" },
+    TableRow { root: "\n<a> : \"\\q\" nosuch", included: "", rule: Rule::Refuse, prints: "3 Lex source=0 line=2: 4 UnknownEscape at=0" },
+    TableRow { root: "Ctrl<a> : \"x\"", included: "", rule: Rule::Refuse, prints: "3 Lex source=0 line=1: 2 ModifierList at=0" },
+    TableRow { root: "<a> :", included: "", rule: Rule::Refuse, prints: "3 Lex source=0 line=1: 6 NoResult" },
+    TableRow { root: "<a> : \"x", included: "", rule: Rule::Refuse, prints: "3 Lex source=0 line=1: 3 UnclosedString at=6" },
+    TableRow { root: "<a> \"x\"", included: "", rule: Rule::Refuse, prints: "3 Lex source=0 line=1: 1 BadToken at=4" },
 ];
 
-/// A line, the byte of the next one, which is no UTF-8, and what is printed.
-static NOT_UTF8: [(&str, u8, &str); 3] = [
-    ("<a> : \"é\"", 0xff, "2 NotUtf8 source=0 line=2"),
-    (
-        "<nosuch> : \"é\"",
-        0xc3,
-        "4 UnknownKeysym source=0 line=1 index=0",
-    ),
-    ("include \"%L\"", 0xa9, "6 MissingInclude source=0 line=1"),
+/// Tables whose order the first three keysyms do not tell.
+#[rattlefmt::skip]
+static HINTED: [TableRow; 8] = [
+    TableRow { root: "<a> <a> <a> <a> <a> <c> : \"1\"\n<a> <a> <a> <a> <a> <b> <z> : \"2\"\n<a> <a> <a> <a> <a> <b> <y> : \"3\"\n", included: "", rule: Rule::Refuse, prints: "0x61,0x61,0x61,0x61,0x61,0x62,0x79=3;0x61,0x61,0x61,0x61,0x61,0x62,0x7a=2;0x61,0x61,0x61,0x61,0x61,0x63=1;" },
+    TableRow { root: "<0x1008ff11> <a> : \"1\"\n<U10FFFF> <b> : \"2\"\n<U70000> <c> : \"3\"\n<U6FFFF> <d> : \"4\"\n<U6FFFE> <e> : \"5\"\n", included: "", rule: Rule::Refuse, prints: "0x106fffe,0x65=5;0x106ffff,0x64=4;0x1070000,0x63=3;0x110ffff,0x62=2;0x1008ff11,0x61=1;" },
+    TableRow { root: "<U0100> <a> : \"1\"\n<0xffffff> <b> : \"2\"\n<0x10001> <c> : \"3\"\n<0x10000> <d> : \"4\"\n<0xffff> <e> : \"5\"\n", included: "", rule: Rule::Refuse, prints: "0xffff,0x65=5;0x10000,0x64=4;0x10001,0x63=3;0xffffff,0x62=2;0x1000100,0x61=1;" },
+    TableRow { root: "<b> : \"1\"\n<a> <a> <a> <a> <a> <a> : \"2\"\n<b> : \"3\"\n<a> <a> <a> <a> <a> <a> : \"4\"\n<b> : \"5\"\n", included: "", rule: Rule::Refuse, prints: "0x61,0x61,0x61,0x61,0x61,0x61=4;0x62=5;" },
+    TableRow { root: "<a> <a> <a> <d> : \"1\"\n<a> <a> <a> <c> : \"2\"\n<a> <a> <a> <b> : \"3\"\n<a> <a> <a> <c> : \"4\"\n", included: "", rule: Rule::Refuse, prints: "0x61,0x61,0x61,0x62=3;0x61,0x61,0x61,0x63=4;0x61,0x61,0x61,0x64=1;" },
+    TableRow { root: "<b> <a> <a> <c> : \"1\"\n<a> <a> <a> <c> : \"2\"\n<c> : \"3\"\n<b> <a> <a> <b> : \"4\"\n<a> <a> <a> <b> : \"5\"\n<b> <a> <a> <c> : \"6\"\n", included: "", rule: Rule::Refuse, prints: "0x61,0x61,0x61,0x62=5;0x61,0x61,0x61,0x63=2;0x62,0x61,0x61,0x62=4;0x62,0x61,0x61,0x63=6;0x63=3;" },
+    TableRow { root: "<U5D01> <a> : \"1\"\n<U5D00> <b> : \"2\"\n<U5CFF> <c> : \"3\"\n<U5CFE> <d> : \"4\"\n<0x10000> <e> : \"5\"\n<0xffff> <f> : \"6\"\n", included: "", rule: Rule::Refuse, prints: "0xffff,0x66=6;0x10000,0x65=5;0x1005cfe,0x64=4;0x1005cff,0x63=3;0x1005d00,0x62=2;0x1005d01,0x61=1;" },
+    TableRow { root: "<0xfe00> <a> : \"1\"\n<0xfdff> <b> : \"2\"\n<0x2101> <c> : \"3\"\n<0x2100> <d> : \"4\"\n<0x20ff> <e> : \"5\"\n", included: "", rule: Rule::Refuse, prints: "0x20ff,0x65=5;0x2100,0x64=4;0x2101,0x63=3;0xfdff,0x62=2;0xfe00,0x61=1;" },
 ];
 
-/// A line, how often a source has it, and what is printed.
-static MANY_LINES: [(&str, usize, &str); 2] = [
-    ("\n", 1_000_000, ""),
-    ("\n", 1_000_001, "8 TooManyLines source=0 line=1000001"),
+/// The root's bytes, of which the second line is no UTF-8, and what is printed.
+struct BytesRow {
+    root: &'static [u8],
+    prints: &'static str,
+}
+
+#[rattlefmt::skip]
+static NOT_UTF8: [BytesRow; 3] = [
+    BytesRow { root: b"<a> : \"\xc3\xa9\"\n\xff", prints: "2 NotUtf8 source=0 line=2" },
+    BytesRow { root: b"<nosuch> : \"\xc3\xa9\"\n\xc3", prints: "4 UnknownKeysym source=0 line=1 index=0" },
+    BytesRow { root: b"include \"%L\"\n\xa9", prints: "6 MissingInclude source=0 line=1" },
 ];
 
-static MANY_DEFINITIONS: [(&str, usize, &str); 2] = [
-    ("<a> : \"x\"\n", 100_000, "0x61=x;"),
-    (
-        "<a> : \"x\"\n",
-        100_001,
-        "9 TooManyDefinitions source=0 line=100001",
-    ),
-];
+/// Some lines, and how often they stand in a source.
+struct Lines {
+    line: &'static str,
+    times: usize,
+}
 
-/// Tables whose order the first three keysyms do not tell, and what is printed.
-static HINTED: [(&str, &str, bool, &str); 8] = [
-    (
-        "<a> <a> <a> <a> <a> <c> : \"1\"\n<a> <a> <a> <a> <a> <b> <z> : \"2\"\n<a> <a> <a> <a> <a> <b> <y> : \"3\"\n",
-        "",
-        false,
-        "0x61,0x61,0x61,0x61,0x61,0x62,0x79=3;0x61,0x61,0x61,0x61,0x61,0x62,0x7a=2;0x61,0x61,0x61,0x61,0x61,0x63=1;",
-    ),
-    (
-        "<0x1008ff11> <a> : \"1\"\n<U10FFFF> <b> : \"2\"\n<U70000> <c> : \"3\"\n<U6FFFF> <d> : \"4\"\n<U6FFFE> <e> : \"5\"\n",
-        "",
-        false,
-        "0x106fffe,0x65=5;0x106ffff,0x64=4;0x1070000,0x63=3;0x110ffff,0x62=2;0x1008ff11,0x61=1;",
-    ),
-    (
-        "<U0100> <a> : \"1\"\n<0xffffff> <b> : \"2\"\n<0x10001> <c> : \"3\"\n<0x10000> <d> : \"4\"\n<0xffff> <e> : \"5\"\n",
-        "",
-        false,
-        "0xffff,0x65=5;0x10000,0x64=4;0x10001,0x63=3;0xffffff,0x62=2;0x1000100,0x61=1;",
-    ),
-    (
-        "<b> : \"1\"\n<a> <a> <a> <a> <a> <a> : \"2\"\n<b> : \"3\"\n<a> <a> <a> <a> <a> <a> : \"4\"\n<b> : \"5\"\n",
-        "",
-        false,
-        "0x61,0x61,0x61,0x61,0x61,0x61=4;0x62=5;",
-    ),
-    (
-        "<a> <a> <a> <d> : \"1\"\n<a> <a> <a> <c> : \"2\"\n<a> <a> <a> <b> : \"3\"\n<a> <a> <a> <c> : \"4\"\n",
-        "",
-        false,
-        "0x61,0x61,0x61,0x62=3;0x61,0x61,0x61,0x63=4;0x61,0x61,0x61,0x64=1;",
-    ),
-    (
-        "<b> <a> <a> <c> : \"1\"\n<a> <a> <a> <c> : \"2\"\n<c> : \"3\"\n<b> <a> <a> <b> : \"4\"\n<a> <a> <a> <b> : \"5\"\n<b> <a> <a> <c> : \"6\"\n",
-        "",
-        false,
-        "0x61,0x61,0x61,0x62=5;0x61,0x61,0x61,0x63=2;0x62,0x61,0x61,0x62=4;0x62,0x61,0x61,0x63=6;0x63=3;",
-    ),
-    (
-        "<U5D01> <a> : \"1\"\n<U5D00> <b> : \"2\"\n<U5CFF> <c> : \"3\"\n<U5CFE> <d> : \"4\"\n<0x10000> <e> : \"5\"\n<0xffff> <f> : \"6\"\n",
-        "",
-        false,
-        "0xffff,0x66=6;0x10000,0x65=5;0x1005cfe,0x64=4;0x1005cff,0x63=3;0x1005d00,0x62=2;0x1005d01,0x61=1;",
-    ),
-    (
-        "<0xfe00> <a> : \"1\"\n<0xfdff> <b> : \"2\"\n<0x2101> <c> : \"3\"\n<0x2100> <d> : \"4\"\n<0x20ff> <e> : \"5\"\n",
-        "",
-        false,
-        "0x20ff,0x65=5;0x2100,0x64=4;0x2101,0x63=3;0xfdff,0x62=2;0xfe00,0x61=1;",
-    ),
-];
+/// The sources `s0`, which is the root, `s1` and so on, and what is printed.
+struct ListedRow {
+    name: &'static str,
+    sources: &'static [Lines],
+    prints: &'static str,
+}
 
-/// One line of eight megabytes.
-static LONG_LINES: [(&str, usize, &str); 2] = [
-    ("########", 1_048_576, ""),
-    (
-        "xxxxxxxx",
-        1_048_576,
-        "3 Lex source=0 line=1: 2 ModifierList at=0",
-    ),
-];
-
-/// How many sources include the next one, how often each, and what is printed.
-static CHAINS: [(usize, usize, &str); 3] = [
-    (8, 1, ""),
-    (9, 1, "7 IncludeDepth source=8 line=1"),
-    (8, 8, "8 TooManyLines source=7 line=2"),
-];
-
-/// The lines of `s0`, `s1` and `s2`, how often each stands there, and what is printed. The long ones would take hours if they were gone through at each include.
-static INCLUDED_OFTEN: [(&[(&str, usize)], &str); 7] = [
-    (
-        &[
-            ("include \"s1\"\n", 300),
-            ("include \"s2\"\n", 300),
-            ("########", 524_288),
+/// Large sources.
+#[rattlefmt::skip]
+static LARGE: [ListedRow; 6] = [
+    ListedRow {
+        name: "as many lines as may be",
+        sources: &[
+            Lines { line: "\n", times: 1_000_000 },
         ],
-        "",
-    ),
-    (
-        &[
-            ("include \"s1\"\n", 300),
-            ("include \"s2\"\n", 300),
-            ("<a> : \"x\" #", 349_525),
+        prints: "",
+    },
+    ListedRow {
+        name: "one line more",
+        sources: &[
+            Lines { line: "\n", times: 1_000_001 },
         ],
-        "0x61=x;",
-    ),
-    (
-        &[("include \"s1\"\n", 100), ("<a> : \"x\"\n", 1_000), ("", 1)],
-        "0x61=x;",
-    ),
-    (
-        &[
-            ("<a> : \"x\"\ninclude \"s1\"\n", 100),
-            ("<b> : \"x\"\n", 1_000),
-            ("", 1),
+        prints: "8 TooManyLines source=0 line=1000001",
+    },
+    ListedRow {
+        name: "as many definitions as may be",
+        sources: &[
+            Lines { line: "<a> : \"x\"\n", times: 100_000 },
         ],
-        "9 TooManyDefinitions source=1 line=901",
-    ),
-    (&[("include \"s1\"\n", 1_000), ("\n", 999), ("", 1)], ""),
-    (
-        &[("include \"s1\"\n", 1_000), ("\n", 1_000), ("", 1)],
-        "8 TooManyLines source=1 line=1",
-    ),
-    (
-        &[
-            ("include \"s1\"\n<b> : \"y\"\ninclude \"s2\"\n", 2),
-            ("include \"s2\"\n<a> : \"1\"\n", 1),
-            ("<b> : \"2\"\n<c> : \"3\"\n", 1),
+        prints: "0x61=x;",
+    },
+    ListedRow {
+        name: "one definition more",
+        sources: &[
+            Lines { line: "<a> : \"x\"\n", times: 100_001 },
         ],
-        "0x61=1;0x62=2;0x63=3;",
-    ),
+        prints: "9 TooManyDefinitions source=0 line=100001",
+    },
+    ListedRow {
+        name: "a comment of eight megabytes",
+        sources: &[
+            Lines { line: "########", times: 1_048_576 },
+        ],
+        prints: "",
+    },
+    ListedRow {
+        name: "a faulty line of eight megabytes",
+        sources: &[
+            Lines { line: "xxxxxxxx", times: 1_048_576 },
+        ],
+        prints: "3 Lex source=0 line=1: 2 ModifierList at=0",
+    },
 ];
 
-/// What is read from the root, or the first fault.
+/// Chains of includes, and sources that are included often. The long ones of these would take hours if they were gone through at each include.
+#[rattlefmt::skip]
+static INCLUDING: [ListedRow; 11] = [
+    ListedRow {
+        name: "a chain of eight includes",
+        sources: &[
+            Lines { line: "include \"s1\"\n", times: 1 },
+            Lines { line: "include \"s2\"\n", times: 1 },
+            Lines { line: "include \"s3\"\n", times: 1 },
+            Lines { line: "include \"s4\"\n", times: 1 },
+            Lines { line: "include \"s5\"\n", times: 1 },
+            Lines { line: "include \"s6\"\n", times: 1 },
+            Lines { line: "include \"s7\"\n", times: 1 },
+            Lines { line: "include \"s8\"\n", times: 1 },
+            Lines { line: "\n", times: 1 },
+        ],
+        prints: "",
+    },
+    ListedRow {
+        name: "a chain of nine includes",
+        sources: &[
+            Lines { line: "include \"s1\"\n", times: 1 },
+            Lines { line: "include \"s2\"\n", times: 1 },
+            Lines { line: "include \"s3\"\n", times: 1 },
+            Lines { line: "include \"s4\"\n", times: 1 },
+            Lines { line: "include \"s5\"\n", times: 1 },
+            Lines { line: "include \"s6\"\n", times: 1 },
+            Lines { line: "include \"s7\"\n", times: 1 },
+            Lines { line: "include \"s8\"\n", times: 1 },
+            Lines { line: "include \"s9\"\n", times: 1 },
+            Lines { line: "\n", times: 1 },
+        ],
+        prints: "7 IncludeDepth source=8 line=1",
+    },
+    ListedRow {
+        name: "a chain of eight includes, each eight times",
+        sources: &[
+            Lines { line: "include \"s1\"\n", times: 8 },
+            Lines { line: "include \"s2\"\n", times: 8 },
+            Lines { line: "include \"s3\"\n", times: 8 },
+            Lines { line: "include \"s4\"\n", times: 8 },
+            Lines { line: "include \"s5\"\n", times: 8 },
+            Lines { line: "include \"s6\"\n", times: 8 },
+            Lines { line: "include \"s7\"\n", times: 8 },
+            Lines { line: "include \"s8\"\n", times: 8 },
+            Lines { line: "\n", times: 1 },
+        ],
+        prints: "8 TooManyLines source=7 line=2",
+    },
+    ListedRow {
+        name: "a chain that is read where a level is left below it, and then where none is",
+        sources: &[
+            Lines { line: "include \"s8\"\ninclude \"s1\"\n", times: 1 },
+            Lines { line: "include \"s2\"\n", times: 1 },
+            Lines { line: "include \"s3\"\n", times: 1 },
+            Lines { line: "include \"s4\"\n", times: 1 },
+            Lines { line: "include \"s5\"\n", times: 1 },
+            Lines { line: "include \"s6\"\n", times: 1 },
+            Lines { line: "include \"s7\"\n", times: 1 },
+            Lines { line: "include \"s8\"\n", times: 1 },
+            Lines { line: "include \"s9\"\n", times: 1 },
+            Lines { line: "", times: 0 },
+        ],
+        prints: "7 IncludeDepth source=8 line=1",
+    },
+    ListedRow {
+        name: "a long comment included 90,000 times",
+        sources: &[
+            Lines { line: "include \"s1\"\n", times: 300 },
+            Lines { line: "include \"s2\"\n", times: 300 },
+            Lines { line: "########", times: 524_288 },
+        ],
+        prints: "",
+    },
+    ListedRow {
+        name: "a definition with a long comment included 90,000 times",
+        sources: &[
+            Lines { line: "include \"s1\"\n", times: 300 },
+            Lines { line: "include \"s2\"\n", times: 300 },
+            Lines { line: "<a> : \"x\" #", times: 349_525 },
+        ],
+        prints: "0x61=x;",
+    },
+    ListedRow {
+        name: "1,000 definitions included 100 times",
+        sources: &[
+            Lines { line: "include \"s1\"\n", times: 100 },
+            Lines { line: "<a> : \"x\"\n", times: 1_000 },
+            Lines { line: "", times: 1 },
+        ],
+        prints: "0x61=x;",
+    },
+    ListedRow {
+        name: "1,000 definitions included 100 times beside others",
+        sources: &[
+            Lines { line: "<a> : \"x\"\ninclude \"s1\"\n", times: 100 },
+            Lines { line: "<b> : \"x\"\n", times: 1_000 },
+            Lines { line: "", times: 1 },
+        ],
+        prints: "9 TooManyDefinitions source=1 line=901",
+    },
+    ListedRow {
+        name: "999 lines included 1,000 times",
+        sources: &[
+            Lines { line: "include \"s1\"\n", times: 1_000 },
+            Lines { line: "\n", times: 999 },
+            Lines { line: "", times: 1 },
+        ],
+        prints: "",
+    },
+    ListedRow {
+        name: "1,000 lines included 1,000 times",
+        sources: &[
+            Lines { line: "include \"s1\"\n", times: 1_000 },
+            Lines { line: "\n", times: 1_000 },
+            Lines { line: "", times: 1 },
+        ],
+        prints: "8 TooManyLines source=1 line=1",
+    },
+    ListedRow {
+        name: "a source that is included by two others",
+        sources: &[
+            Lines { line: "include \"s1\"\n<b> : \"y\"\ninclude \"s2\"\n", times: 2 },
+            Lines { line: "include \"s2\"\n<a> : \"1\"\n", times: 1 },
+            Lines { line: "<b> : \"2\"\n<c> : \"3\"\n", times: 1 },
+        ],
+        prints: "0x61=1;0x62=2;0x63=3;",
+    },
+];
+
 fn read(
     alloc: Global,
     names: &Names,
@@ -257,47 +266,12 @@ fn read(
     read_definitions(alloc, names, sources, root)
 }
 
-/// The settled sequences, or why there are none.
-fn printed_settled(alloc: Global, definitions: Definitions, rule: Rule) -> Result<String, Fail> {
-    match settle(alloc, definitions, rule) {
-        Err(fault) => Ok(fault.to_string(alloc)?),
-        Ok(sequences) => Ok(printed_rows(alloc, &sequences)?),
-    }
+fn settled(alloc: Global, definitions: Definitions, rule: Rule) -> Result<Sequences, SettleFault> {
+    settle(alloc, definitions, rule)
 }
 
-/// The settled sequences, or the first fault.
-fn printed(alloc: Global, sources: &Sources, root: &str, rule: Rule) -> Result<String, Fail> {
-    let names = Names::core(alloc)?;
-    printed_by(alloc, &names, sources, root, rule)
-}
-
-/// The settled sequences by these names, or the first fault.
-fn printed_by(
-    alloc: Global,
-    names: &Names,
-    sources: &Sources,
-    root: &str,
-    rule: Rule,
-) -> Result<String, Fail> {
-    match read(alloc, names, sources, root) {
-        Err(fault) => Ok(fault.to_string(alloc)?),
-        Ok(definitions) => printed_settled(alloc, definitions, rule),
-    }
-}
-
-/// The keysyms of each sequence and its text.
-fn printed_rows(alloc: Global, sequences: &Sequences) -> Result<String, AllocError> {
-    let mut text = String::new(alloc);
-    for index in 0..sequences.len() {
-        print_keys(&mut text, sequences.sequence(index))?;
-        let said = sequences.text(index);
-        write!(text, "={said};")?;
-    }
-    Ok(text)
-}
-
-/// The keysyms with commas between them.
-fn print_keys(text: &mut String, keys: &[Keysym]) -> Result<(), AllocError> {
+/// Prints the keysyms with commas between them.
+fn push_keys(text: &mut String, keys: &[Keysym]) -> Result<(), AllocError> {
     for (index, key) in keys.iter().enumerate() {
         let comma = if index > 0 { "," } else { "" };
         let number = key.value();
@@ -306,182 +280,263 @@ fn print_keys(text: &mut String, keys: &[Keysym]) -> Result<(), AllocError> {
     Ok(())
 }
 
-/// This line so many times.
-fn repeated(alloc: Global, line: &str, times: usize) -> Result<Vec<u8>, AllocError> {
-    let mut bytes = Vec::new(alloc);
-    for _ in 0..times {
-        bytes.extend_from_slice(line.as_bytes())?;
+/// Prints the keysyms of each sequence and its text.
+fn push_rows(text: &mut String, sequences: &Sequences) -> Result<(), AllocError> {
+    for index in 0..sequences.len() {
+        push_keys(text, sequences.sequence(index))?;
+        let said = sequences.text(index);
+        write!(text, "={said};")?;
     }
-    Ok(bytes)
+    Ok(())
 }
 
-fn check_tables(
+fn push_settle_fault(text: &mut String, fault: &SettleFault) -> Result<(), AllocError> {
+    write!(text, "{fault}")?;
+    Ok(())
+}
+
+fn push_read_fault(text: &mut String, fault: &ReadFault) -> Result<(), AllocError> {
+    write!(text, "{fault}")?;
+    Ok(())
+}
+
+/// Prints the settled sequences, or why there are none.
+fn push_settled(
+    text: &mut String,
+    settled: &Result<Sequences, SettleFault>,
+) -> Result<(), AllocError> {
+    match settled {
+        Ok(sequences) => push_rows(text, sequences),
+        Err(fault) => push_settle_fault(text, fault),
+    }
+}
+
+/// Prints what a root settles to, or the first fault.
+fn push_table(
+    text: &mut String,
+    alloc: Global,
+    read: Result<Definitions, ReadFault>,
+    rule: Rule,
+) -> Result<(), AllocError> {
+    match read {
+        Ok(definitions) => push_settled(text, &settled(alloc, definitions, rule)),
+        Err(fault) => push_read_fault(text, &fault),
+    }
+}
+
+/// Expects what is printed of what was read.
+fn expect_printed(
     rt: &impl Abort,
     alloc: Global,
-    tables: &[(&str, &str, bool, &str)],
-) -> Result<(), Fail> {
-    for (root, included, longest, expected) in tables {
-        let mut sources = Sources::new(alloc);
-        sources.add("r", repeated(alloc, root, 1)?)?;
-        sources.add("%L", repeated(alloc, included, 1)?)?;
-        let rule = if *longest {
-            Rule::Longest
-        } else {
-            Rule::Refuse
-        };
-        let text = printed(alloc, &sources, "r", rule)?;
-        assert_eq!(rt; text.as_str(), *expected);
-    }
+    row: &str,
+    read: Result<Definitions, ReadFault>,
+    rule: Rule,
+    prints: &str,
+) -> Result<(), AllocError> {
+    let mut text = String::new(alloc);
+    push_table(&mut text, alloc, read, rule)?;
+    expect_text(rt, row, &text, prints);
     Ok(())
 }
 
-#[test]
-fn tables(rt: HostRuntime) -> Result<(), Fail> {
-    check_tables(&rt, rt.alloc(), &TABLES)
-}
-
-#[test]
-fn hinted_orders(rt: HostRuntime) -> Result<(), Fail> {
-    check_tables(&rt, rt.alloc(), &HINTED)
-}
-
-#[test]
-fn lines_before_one_that_is_not_utf8(rt: HostRuntime) -> Result<(), Fail> {
-    let alloc = rt.alloc();
-    for (line, byte, expected) in &NOT_UTF8 {
-        let mut bytes = repeated(alloc, line, 1)?;
-        bytes.extend_from_slice(&[b'\n', *byte])?;
-        let mut sources = Sources::new(alloc);
-        sources.add("r", bytes)?;
-        let text = printed(alloc, &sources, "r", Rule::Refuse)?;
-        assert_eq!(rt; text.as_str(), *expected);
-    }
-    Ok(())
-}
-
-fn check_large(rt: &impl Abort, alloc: Global, large: &[(&str, usize, &str)]) -> Result<(), Fail> {
-    for (line, times, expected) in large {
-        let mut sources = Sources::new(alloc);
-        sources.add("r", repeated(alloc, line, *times)?)?;
-        let text = printed(alloc, &sources, "r", Rule::Refuse)?;
-        assert_eq!(rt; text.as_str(), *expected);
-    }
-    Ok(())
-}
-
-#[test]
-fn many_lines(rt: HostRuntime) -> Result<(), Fail> {
-    check_large(&rt, rt.alloc(), &MANY_LINES)
-}
-
-#[test]
-fn many_definitions(rt: HostRuntime) -> Result<(), Fail> {
-    check_large(&rt, rt.alloc(), &MANY_DEFINITIONS)
-}
-
-#[test]
-fn long_lines(rt: HostRuntime) -> Result<(), Fail> {
-    check_large(&rt, rt.alloc(), &LONG_LINES)
-}
-
-/// Adds the source of this number, which has this line so many times.
-fn add_lines(
-    sources: &mut Sources,
+fn expect_table(
+    rt: &impl Abort,
     alloc: Global,
-    number: usize,
-    line: &str,
-    times: usize,
-) -> Result<(), Fail> {
-    let name = format!(in alloc; "s{number}")?;
-    sources.add(name.as_str(), repeated(alloc, line, times)?)?;
+    names: &Names,
+    row: &TableRow,
+) -> Result<(), SourceFault> {
+    let sources = two_sources(alloc, row.root.as_bytes(), row.included)?;
+    let read = read(alloc, names, &sources, "r");
+    expect_printed(rt, alloc, row.root, read, row.rule, row.prints)?;
     Ok(())
 }
 
-/// Adds the source of this number, which includes the next one so many times.
-fn add_link(sources: &mut Sources, alloc: Global, number: usize, times: usize) -> Result<(), Fail> {
-    let next = number.wrapping_add(1);
-    let line = format!(in alloc; "include \"s{next}\"\n")?;
-    add_lines(sources, alloc, number, line.as_str(), times)
+fn expect_tables(rt: &impl Abort, alloc: Global, names: &Names) -> Result<(), SourceFault> {
+    for row in &TABLES {
+        expect_table(rt, alloc, names, row)?;
+    }
+    Ok(())
 }
 
-/// So many sources, each of which includes the next one so many times, and behind them one with an empty line.
-fn chain(alloc: Global, includers: usize, times: usize) -> Result<Sources, Fail> {
-    let mut sources = Sources::new(alloc);
-    for number in 0..includers {
-        add_link(&mut sources, alloc, number, times)?;
+#[test]
+fn tables(rt: HostRuntime) -> Result<(), SourceFault> {
+    let names = core(rt.alloc())?;
+    expect_tables(&rt, rt.alloc(), &names)
+}
+
+fn expect_hinted(rt: &impl Abort, alloc: Global, names: &Names) -> Result<(), SourceFault> {
+    for row in &HINTED {
+        expect_table(rt, alloc, names, row)?;
     }
-    add_lines(&mut sources, alloc, includers, "\n", 1)?;
+    Ok(())
+}
+
+#[test]
+fn hinted_orders(rt: HostRuntime) -> Result<(), SourceFault> {
+    let names = core(rt.alloc())?;
+    expect_hinted(&rt, rt.alloc(), &names)
+}
+
+/// The source `r` alone.
+fn one_source(alloc: Global, root: &[u8]) -> Result<Sources, SourceFault> {
+    let mut sources = Sources::new(alloc);
+    add(&mut sources, alloc, "r", root)?;
     Ok(sources)
 }
 
-fn check_chains(
+fn expect_bytes(
     rt: &impl Abort,
     alloc: Global,
-    chains: &[(usize, usize, &str)],
-) -> Result<(), Fail> {
-    for (includers, times, expected) in chains {
-        let sources = chain(alloc, *includers, *times)?;
-        let text = printed(alloc, &sources, "s0", Rule::Refuse)?;
-        assert_eq!(rt; text.as_str(), *expected);
+    names: &Names,
+    row: &BytesRow,
+) -> Result<(), SourceFault> {
+    let sources = one_source(alloc, row.root)?;
+    let read = read(alloc, names, &sources, "r");
+    expect_printed(rt, alloc, row.prints, read, Rule::Refuse, row.prints)?;
+    Ok(())
+}
+
+fn expect_each_bytes(rt: &impl Abort, alloc: Global, names: &Names) -> Result<(), SourceFault> {
+    for row in &NOT_UTF8 {
+        expect_bytes(rt, alloc, names, row)?;
     }
     Ok(())
 }
 
 #[test]
-fn chains_of_includes(rt: HostRuntime) -> Result<(), Fail> {
-    check_chains(&rt, rt.alloc(), &CHAINS)
+fn lines_before_one_that_is_not_utf8(rt: HostRuntime) -> Result<(), SourceFault> {
+    let names = core(rt.alloc())?;
+    expect_each_bytes(&rt, rt.alloc(), &names)
 }
 
-#[test]
-fn sources_included_often(rt: HostRuntime) -> Result<(), Fail> {
-    let alloc = rt.alloc();
-    for (lines, expected) in &INCLUDED_OFTEN {
-        let mut sources = Sources::new(alloc);
-        for (number, (line, times)) in lines.iter().enumerate() {
-            add_lines(&mut sources, alloc, number, line, *times)?;
-        }
-        let text = printed(alloc, &sources, "s0", Rule::Refuse)?;
-        assert_eq!(rt; text.as_str(), *expected);
+/// A text with a number in it.
+fn numbered(alloc: Global, before: &str, number: usize, after: &str) -> Result<String, AllocError> {
+    let mut text = String::new(alloc);
+    write!(text, "{before}{number}{after}")?;
+    Ok(text)
+}
+
+/// Adds the source of this number.
+fn add_numbered(
+    sources: &mut Sources,
+    alloc: Global,
+    number: usize,
+    text: &str,
+) -> Result<(), SourceFault> {
+    let name = numbered(alloc, "s", number, "")?;
+    add(sources, alloc, &name, text.as_bytes())
+}
+
+/// Adds the sources `s0`, `s1` and so on.
+fn add_listed(sources: &mut Sources, alloc: Global, listed: &[Lines]) -> Result<(), SourceFault> {
+    for (number, lines) in listed.iter().enumerate() {
+        let text = repeated(alloc, lines.line, lines.times)?;
+        add_numbered(sources, alloc, number, &text)?;
     }
     Ok(())
 }
 
-/// A source that includes another one is read where a level is left below it, and then where none is.
-#[test]
-fn source_included_deeper_again(rt: HostRuntime) -> Result<(), Fail> {
-    let alloc = rt.alloc();
+fn listed_sources(alloc: Global, listed: &[Lines]) -> Result<Sources, SourceFault> {
     let mut sources = Sources::new(alloc);
-    sources.add(
-        "s0",
-        repeated(alloc, "include \"s8\"\ninclude \"s1\"\n", 1)?,
-    )?;
-    for number in 1..9usize {
-        add_link(&mut sources, alloc, number, 1)?;
+    add_listed(&mut sources, alloc, listed)?;
+    Ok(sources)
+}
+
+fn expect_listed(
+    rt: &impl Abort,
+    alloc: Global,
+    names: &Names,
+    row: &ListedRow,
+) -> Result<(), SourceFault> {
+    let sources = listed_sources(alloc, row.sources)?;
+    let read = read(alloc, names, &sources, "s0");
+    expect_printed(rt, alloc, row.name, read, Rule::Refuse, row.prints)?;
+    Ok(())
+}
+
+fn expect_large(rt: &impl Abort, alloc: Global, names: &Names) -> Result<(), SourceFault> {
+    for row in &LARGE {
+        expect_listed(rt, alloc, names, row)?;
     }
-    sources.add("s9", Vec::new(alloc))?;
-    let text = printed(alloc, &sources, "s0", Rule::Refuse)?;
-    assert_eq!(rt; text.as_str(), "7 IncludeDepth source=8 line=1");
     Ok(())
 }
 
 #[test]
-fn sources_are_added(rt: HostRuntime) -> Result<(), Fail> {
-    let alloc = rt.alloc();
-    let mut sources = Sources::new(alloc);
+fn large_sources(rt: HostRuntime) -> Result<(), SourceFault> {
+    let names = core(rt.alloc())?;
+    expect_large(&rt, rt.alloc(), &names)
+}
+
+fn expect_including(rt: &impl Abort, alloc: Global, names: &Names) -> Result<(), SourceFault> {
+    for row in &INCLUDING {
+        expect_listed(rt, alloc, names, row)?;
+    }
+    Ok(())
+}
+
+#[test]
+fn includes(rt: HostRuntime) -> Result<(), SourceFault> {
+    let names = core(rt.alloc())?;
+    expect_including(&rt, rt.alloc(), &names)
+}
+
+/// Adds 64 sources, of which each includes the next one.
+fn add_most(sources: &mut Sources, alloc: Global) -> Result<(), SourceFault> {
     for number in 0..64usize {
-        add_link(&mut sources, alloc, number, 1)?;
+        let text = numbered(alloc, "include \"s", number.wrapping_add(1), "\"\n")?;
+        add_numbered(sources, alloc, number, &text)?;
     }
-    assert_eq!(rt; sources.count(), 64);
-    assert_eq!(rt; sources.name(63), Some("s63"));
-    assert_eq!(rt;
-        sources.add("s7", Vec::new(alloc)),
-        Err(SourceFault::NameTaken)
-    );
-    assert_eq!(rt;
-        sources.add("t", Vec::new(alloc)),
-        Err(SourceFault::TooManySources)
-    );
-    let missing = printed(alloc, &sources, "t", Rule::Refuse)?;
-    assert_eq!(rt; missing.as_str(), "1 MissingRoot");
     Ok(())
+}
+
+/// Expects how many sources there are, and the name of the last one.
+fn expect_last(rt: &impl Abort, sources: &Sources, count: usize, name: &str) {
+    assert_eq!(rt; sources.count(), count);
+    let last = sources.name(count.wrapping_sub(1));
+    expect_text(rt, "the last source", last.unwrap_or("none"), name);
+}
+
+/// Expects a source of this name not to be added.
+fn expect_refused(
+    rt: &impl Abort,
+    alloc: Global,
+    sources: &mut Sources,
+    name: &str,
+    fault: SourceFault,
+) {
+    let refused = add(sources, alloc, name, b"");
+    assert!(rt; refused == Err(fault), "{name}");
+}
+
+/// 64 sources, of which each includes the next one.
+fn most_sources(alloc: Global) -> Result<Sources, SourceFault> {
+    let mut sources = Sources::new(alloc);
+    add_most(&mut sources, alloc)?;
+    Ok(sources)
+}
+
+/// Expects that no further source is added, and that a root which was not added is missing.
+fn expect_most(
+    rt: &impl Abort,
+    alloc: Global,
+    names: &Names,
+    sources: &mut Sources,
+) -> Result<(), AllocError> {
+    expect_last(rt, sources, 64, "s63");
+    expect_refused(rt, alloc, sources, "s7", SourceFault::NameTaken);
+    expect_refused(rt, alloc, sources, "t", SourceFault::TooManySources);
+    let read = read(alloc, names, sources, "t");
+    expect_printed(rt, alloc, "no root", read, Rule::Refuse, "1 MissingRoot")
+}
+
+fn expect_no_more(rt: &impl Abort, alloc: Global, names: &Names) -> Result<(), SourceFault> {
+    let mut sources = most_sources(alloc)?;
+    expect_most(rt, alloc, names, &mut sources)?;
+    Ok(())
+}
+
+#[test]
+fn as_many_sources_are_added_as_may_be(rt: HostRuntime) -> Result<(), SourceFault> {
+    let names = core(rt.alloc())?;
+    expect_no_more(&rt, rt.alloc(), &names)
 }
