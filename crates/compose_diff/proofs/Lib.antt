@@ -7,3 +7,4 @@ pub mod Gone
 pub mod Plain
 pub mod PlainLines
 pub mod FirstRun
+pub mod NothingAccepted

@@ -1,5 +1,5 @@
 //! The changes that are meant.
-ghost use Rattle.std.specs.Prelude.{◌≡◌, ◌<◌, not, length, map, filter, is_some, IfSome, IfOk, string_bytes};
+ghost use Rattle.std.specs.Prelude.{◌≡◌, ◌<◌, ◌==◌, not, length, map, filter, is_some, IfSome, IfOk, string_bytes};
 ghost use Rattle.std.specs.List.{find, list_any};
 ghost use Rattle.std.specs.Option.{option_map};
 ghost use Rattle.compose_text.specs.Lines.{lines_of};
@@ -80,6 +80,13 @@ impl<'a> Accepted<'a> {
             Some(line) => Err(AcceptFault::BadLine { line }),
             None => Ok(Accepted { lines }),
         }
+    }
+
+    /// Whether no change is meant. O(1).
+    pub(crate) fn is_empty(&self) -> bool
+        ensures { result ≡ (length self.now == 0) }
+    {
+        self.lines.is_empty()
     }
 
     /// The rows that no line accepts, in order; or the first line that tells none of the rows. A line accepts a row whose change, keys

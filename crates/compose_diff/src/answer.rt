@@ -22,6 +22,9 @@ pub fn answer_diff(
 ) -> Result<Answer, AcceptFault>
     ensures { Tells folds accepted.now rows.now result }
 {
+    if accepted.is_empty() {
+        return Ok(answer_on(alloc, rows, rows, folds)?);
+    }
     let left = accepted.leave_out(alloc, rows)?;
     Ok(answer_on(alloc, rows, &left, folds)?)
 }

@@ -110,6 +110,7 @@ pub(crate) fn add_kept_rows<'a, T: ComposeTable>(
         × (map told_row kept
         ≡ kept_rows whole names fresh (words.written T.definitions old.now) new)) }
 {
+    rows.reserve(old.table.leaf_count() as usize)?;
     for leaf in 0..old.table.leaf_count() {
         if !is_told(whole, changes[leaf as usize]) {
             rows.push(kept_row(LeafId(leaf), old))?;

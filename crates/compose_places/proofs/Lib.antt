@@ -1,4 +1,5 @@
 pub mod Told
+pub mod FlatSequences
 pub mod LastOnes
 pub mod Walks
 pub mod PlacesSoFar

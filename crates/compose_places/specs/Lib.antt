@@ -1,4 +1,5 @@
 pub mod Places
 pub mod Last
 pub mod Events
+pub mod SequenceList
 pub mod Counting

@@ -13,8 +13,9 @@ ghost use Rattle.compose_places.specs.Counting.{begun_lines, counting_line, defi
 use crate::events::{Events, line_events};
 use crate::last::leaf_of;
 use crate::places::{DefinitionPlace, MAX_LINES};
+use crate::sequence_list::SequenceList;
 use arrayvec::ArrayVec;
-use compose_read::{Definitions, Sources, Visits};
+use compose_read::{Sources, Visits};
 use compose_text::blank_len;
 use compose_tree::{ComposeTable, LeafId};
 use keysym_core::{Keysym, Names};
@@ -63,9 +64,10 @@ impl<'a> CountingLine<'a> {
 }
 
 /// The lines that begin as definitions do among those that are read from the root, of which 1,000,000 are read at most. Where a table is read
-/// without a fault, these are the lines of its definitions. O(bytes of the lines that are read).
+/// without a fault, these are the lines of its definitions. It asks for room for `capacity` lines at once. O(bytes of the lines that are read).
 pub(crate) fn begun_lines<'a>(
     alloc: Global,
+    capacity: usize,
     sources: &'a Sources,
     root: &str,
 ) -> Result<Vec<CountingLine<'a>>, AllocError>
@@ -73,19 +75,23 @@ pub(crate) fn begun_lines<'a>(
         (λ lines. lines.items ≡ map written_line (begun_lines sources.now root.now)) }
 {
     match sources.visits(root) {
-        Some(visits) => begun_in(alloc, visits),
+        Some(visits) => begun_in(alloc, capacity, visits),
         None => Ok(Vec::new(alloc)),
     }
 }
 
-/// Those of these lines that begin as definitions do, of which 1,000,000 are read at most.
-fn begun_in<'a>(alloc: Global, mut visits: Visits<'a>) -> Result<Vec<CountingLine<'a>>, AllocError>
+/// Those of these lines that begin as definitions do, of which 1,000,000 are read at most. It asks for room for `capacity` lines at once.
+fn begun_in<'a>(
+    alloc: Global,
+    capacity: usize,
+    mut visits: Visits<'a>,
+) -> Result<Vec<CountingLine<'a>>, AllocError>
     ensures { IfOk result
         (λ begun. begun.items
         ≡ map written_line
         (filter (λ v. words.begins_definition v.bytes) (take max_lines visits.entry))) }
 {
-    let mut begun = Vec::new(alloc);
+    let mut begun = Vec::with_capacity(alloc, capacity)?;
     let mut lines = 0;
     while lines < MAX_LINES {
         let Some(line) = visits.next() else {
@@ -113,40 +119,15 @@ fn begins_definition(line: &[u8]) -> bool
     line[blank_len(line)..].starts_with(b"<")
 }
 
-/// The sequences of definitions.
-pub(crate) fn sequences_of(
-    alloc: Global,
-    definitions: &Definitions,
-) -> Result<Vec<Sequence>, AllocError>
-    ensures { IfOk result
-        (λ sequences. map (λ s. s.items) sequences.items ≡ map (λ d. d.sequence) definitions.now) }
-{
-    let mut sequences = Vec::with_capacity(alloc, definitions.len())?;
-    for index in 0..definitions.len() {
-        sequences.push(sequence_of(definitions.sequence(index)))?;
-    }
-    Ok(sequences)
-}
-
-/// A copy of at most 32 keysyms.
-fn sequence_of(keysyms: &[Keysym]) -> Sequence
-    requires { length keysyms.now ≤ 32 }
-    ensures { result.items ≡ keysyms.now }
-{
-    let mut sequence = ArrayVec::new();
-    sequence.try_extend_from_slice(keysyms).unwrap();
-    sequence
-}
-
 /// For each leaf of the table, by its number, the line that counts: the last one of these that define these sequences. O(keysyms × log edges of a node).
 pub(crate) fn last_lines<'a, T: ComposeTable>(
     alloc: Global,
     lines: &[CountingLine<'a>],
-    sequences: &[Sequence],
+    sequences: &SequenceList,
     table: &T,
 ) -> Result<Vec<Option<CountingLine<'a>>>, AllocError>
     ensures { (names : KeysymNames) (visits : List Visit) → lines.now ≡ map written_line visits
-        → map (λ s. Some s.items) sequences.now ≡ map (λ v. defined_sequence names v.bytes) visits
+        → map Some sequences.now ≡ map (λ v. defined_sequence names v.bytes) visits
         → IfOk result
         (λ kept. kept.items ≡ map (counting_line names visits) (leaves (T.definitions table.now))) }
 {
@@ -154,7 +135,7 @@ pub(crate) fn last_lines<'a, T: ComposeTable>(
     let _ = table.node_count();
     let mut kept = no_lines(alloc, table.leaf_count())?;
     for index in 0..sequences.len() {
-        if let Some(leaf) = leaf_of(table, sequences[index].as_slice()) {
+        if let Some(leaf) = leaf_of(table, sequences.sequence(index)) {
             kept[leaf.0 as usize] = line_at(lines, index);
         }
     }
@@ -176,7 +157,7 @@ fn line_at<'a>(lines: &[CountingLine<'a>], index: usize) -> Option<CountingLine<
 fn no_lines<'a>(alloc: Global, leaves: u32) -> Result<Vec<Option<CountingLine<'a>>>, AllocError>
     ensures { IfOk result (λ kept. kept.items ≡ replicate leaves None) }
 {
-    let mut kept = Vec::new(alloc);
+    let mut kept = Vec::with_capacity(alloc, leaves as usize)?;
     while kept.len() < leaves as usize {
         kept.push(None)?;
     }

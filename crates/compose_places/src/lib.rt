@@ -29,6 +29,7 @@ mod events;
 mod last;
 mod placed;
 mod places;
+mod sequence_list;
 
 pub use counting::{CountingLine, leaf_named};
 pub use events::{Events, written_events};

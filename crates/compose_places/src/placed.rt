@@ -4,7 +4,8 @@ ghost use Rattle.compose_model.specs.Nodes.{leaves};
 ghost use Rattle.compose_places.specs.Counting.{counting_line, read_lines};
 ghost use Rattle.compose_tree.specs.TableGives.{TableGives, table_of};
 
-use crate::counting::{CountingLine, begun_lines, last_lines, sequences_of};
+use crate::counting::{CountingLine, begun_lines, last_lines};
+use crate::sequence_list::sequences_of;
 use compose_model::Rule;
 use compose_read::{Sources, read_definitions, settle};
 use compose_tree::{ComposeTable, TableFault};
@@ -38,7 +39,7 @@ pub fn read_placed_table<'a, T: ComposeTable>(
         (leaves (T.definitions placed.table))) }
 {
     let definitions = read_definitions(alloc, names, sources, root)?;
-    let Ok(begun) = begun_lines(alloc, sources, root) else {
+    let Ok(begun) = begun_lines(alloc, definitions.len(), sources, root) else {
         return Err(TableFault::NoMemory);
     };
     let Ok(read) = sequences_of(alloc, &definitions) else {

@@ -16,8 +16,8 @@ loop-lines-preserved c =
       read = omega (arith, c.loop-lines-test.true);
     }
 
-pub loop-lines-preserved-in-Continue-1 : goal.loop-lines-preserved-in-Continue-1
-loop-lines-preserved-in-Continue-1 c =
+pub loop-lines-preserved-in-Continue-branch-2 : goal.loop-lines-preserved-in-Continue-branch-2
+loop-lines-preserved-in-Continue-branch-2 c =
     let lines = c.loop-lines.lines in record {
       told =
           one_more (λ (v : Visit). begins_definition v.bytes) written_line c.loop-lines.begun.items _ c.loop-lines.visits (1000000 - lines) c.loop-lines.invariant.told

@@ -1,7 +1,7 @@
-use Rattle.std.proofs.Common.{◌≡◌, ◌∙◌, length, map, set, take, refl, sym, ap, ap₂, arith}
+use Rattle.std.proofs.Common.{◌≡◌, ◌∙◌, ℕ, List, length, map, set, take, sym, ap, ap₂, arith}
 use Rattle.std.specs.Prelude.{Some, None, option_map, slice_get}
 use Rattle.std.proofs.lemmas.List.{length-set, length-replicate, length-map, take_all}
-use Rattle.std.proofs.lemmas.Option.{slice_get-map, slice_get_read}
+use Rattle.std.proofs.lemmas.Option.{slice_get-map}
 use Rattle.std.proofs.lemmas.Simd.{splat_is_map}
 use Rattle.compose_model.specs.Nodes.{leaves}
 use Rattle.compose_read.specs.Lines.{Visit}
@@ -20,17 +20,15 @@ loop-index-init g c =
 
 pub index_mut-requires : goal.index_mut-requires
 index_mut-requires g c =
-    let below = leaf_below (g.T.ComposeTable.definitions c.args.table.now) c.as_slice.result.now c.in-Some.ensures.0 in
+    let below = leaf_below (g.T.ComposeTable.definitions c.args.table.now) c.sequence.result.now c.in-Some.ensures.0 in
     omega (arith, below, c.in-Some.ensures.1, c.loop-index.invariant.fits, c.loop-index.kept.ok)
 
 pub loop-index-preserved : goal.loop-index-preserved
 loop-index-preserved g c =
     let table = g.T.ComposeTable.definitions c.args.table.now in
     let index = c.loop-index.index in
-    let s = c.as_slice.result.now in
-    let read = slice_get_read c.args.sequences.now _ index c.index-sequences-index.result refl (omega (arith, c.loop-index-test.true)) c.index-sequences-index.is in
-    let at : slice_get (map (λ x. Some x.items) c.args.sequences.now) index ≡ Some (Some s) =
-    slice_get-map (λ x. Some x.items) c.args.sequences.now index ∙ ap (option_map (λ x. Some x.items)) read ∙ ap (λ xs. Some (Some xs)) (sym c.as_slice.ensures.value) in
+    let s = c.sequence.result.now in
+    let at : slice_get (map (λ (x : List ℕ). Some x) c.args.sequences.now) index ≡ Some (Some s) = slice_get-map (λ (x : List ℕ). Some x) c.args.sequences.now index ∙ ap (option_map (λ (x : List ℕ). Some x)) c.sequence.ensures in
     elim c.match-leaf_of.branch [
       | in-Some w ↦ record {
         fits = ap (λ v. length v.items) w.kept-is ∙ length-set _ _ _ ∙ c.loop-index.invariant.fits;
@@ -49,6 +47,6 @@ loop-index-preserved g c =
 
 pub returns : goal.returns
 returns g c = λ names visits written defined.
-    (let read = sym (length-map c.args.sequences.now (λ x. Some x.items)) ∙ ap (λ xs. length xs) defined ∙ length-map visits (λ (v : Visit). defined_sequence names v.bytes) in
+    (let read = sym (length-map c.args.sequences.now (λ (x : List ℕ). Some x)) ∙ ap (λ xs. length xs) defined ∙ length-map visits (λ (v : Visit). defined_sequence names v.bytes) in
     c.loop-index.invariant.kept names visits written defined
     ∙ ap (λ vs. map (counting_line names vs) (leaves (g.T.ComposeTable.definitions c.args.table.now))) (take_all c.loop-index.index visits (omega (arith, read, c.loop-index-test.false))))

@@ -10,6 +10,6 @@ use Rattle.compose_places.proofs.counting.last_lines.Given as goal
 abbrev pub invariant-loop-index : goal.invariant-loop-index
 invariant-loop-index g l = record {
   fits : length l.kept.items ≡ length (leaves (g.T.ComposeTable.definitions l.table));
-  kept : (names : KeysymNames) (visits : List Visit) → l.lines ≡ map written_line visits → map (λ s. Some s.items) l.sequences ≡ map (λ v. defined_sequence names v.bytes) visits
+  kept : (names : KeysymNames) (visits : List Visit) → l.lines ≡ map written_line visits → map (λ s. Some s) l.sequences ≡ map (λ v. defined_sequence names v.bytes) visits
       → l.kept.items ≡ map (counting_line names (take l.index visits)) (leaves (g.T.ComposeTable.definitions l.table));
 }

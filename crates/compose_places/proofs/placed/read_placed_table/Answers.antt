@@ -1,4 +1,4 @@
-use Rattle.std.proofs.Common.{◌∙◌, ℕ, List, map, sym, ap}
+use Rattle.std.proofs.Common.{◌∙◌, ℕ, List, map, ap}
 use Rattle.std.specs.Prelude.{Some}
 use Rattle.std.proofs.lemmas.Simd.{map-map}
 use Rattle.compose_model.specs.Table.{Definition}
@@ -15,7 +15,6 @@ returns-clause-lines g c =
     let read = c.in_ok-definitions.ensures.exact in
     let lines = c.deref.ensures.value ∙ c.in-Ok.ensures in
     c.in-Ok-last_lines.ensures names (begun_lines sources root) lines
-    (ap (map (λ s. Some s.items)) c.deref-2.ensures.value ∙ sym (map-map (λ (s : List ℕ). Some s) (λ s. s.items) c.in-Ok-sequences_of.read.items)
-    ∙ ap (map (λ (s : List ℕ). Some s)) c.in-Ok-sequences_of.ensures
+    (ap (map (λ (s : List ℕ). Some s)) c.in-Ok-sequences_of.ensures
     ∙ map-map (λ (s : List ℕ). Some s) (λ (d : Definition). d.sequence) c.in_ok-definitions.definitions ∙ sequences_defined names sources root c.in_ok-definitions.definitions read)
     ∙ begun_count names sources root c.in_ok-definitions.definitions read (leaves (g.T.ComposeTable.definitions c.in_ok-table.table))

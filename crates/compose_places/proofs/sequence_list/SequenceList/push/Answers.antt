@@ -1,0 +1,14 @@
+use Rattle.std.proofs.Common.{◌≡◌, ◌∙◌, ◌++◌, ◌∷◌, [], length, ap, ap₂, arith}
+use Rattle.compose_places.specs.SequenceList.{sequences_at}
+use Rattle.compose_places.proofs.FlatSequences.{pushed}
+use Rattle.compose_places.proofs.sequence_list.SequenceList.push.Goals as goal
+
+pub returns : goal.returns
+returns c =
+    let keysyms = c.self.inside.keysyms.items in
+    let sequence = c.args.sequence.now in
+    let spans = c.self.inside.spans.items in
+    let first : c.len.result ≡ length keysyms = omega (arith, c.len.ensures) in
+    ap₂ sequences_at c.in_ok-extend_from_slice.ensures.items
+    (c.in_ok-push.ensures.items ∙ ap (λ n. spans ++ record { first = n; count = length sequence } ∷ []) first)
+    ∙ pushed keysyms sequence spans c.self.invariant ∙ ap (λ ss. ss ++ sequence ∷ []) c.self.view_is
