@@ -140,7 +140,9 @@ def own_refusal(said, function):
     line = re.search(rf"^fn {re.escape(function)}: (.*)", said, re.M)
     if goal := line and re.search(r"did not prove `([^`]+)`", line[1]):
         return goal[1]
-    folder = re.escape("/".join(function.split("::")[1:]))
+    # (a function that calls itself has its proofs in a folder whose name begins with `+`)
+    *above, name = map(re.escape, function.split("::")[1:])
+    folder = "/".join([*above, rf"\+?{name}"])
     errors = re.findall(rf"^(?:\./)?proofs/{folder}/\w+\.antt:\d+:\d+: error: (`.*(?:\n .*)*)", said, re.M)
     errors = [it for it in errors if "was not admitted" not in it]
     if not errors or not line or not line[1].startswith("not proved"):

@@ -69,14 +69,16 @@ EDITS = {
 SAID = """proofs/weak/Proof.antt:3:7: error: `goal-2`: `total` is not in scope
 proofs/cites/Proof.antt:3:7: error: `goal-3`: `next_spec` was not admitted
 proofs/real/Proof.antt:4:1: error: `goal-4`: the two sides differ
+proofs/+calls_itself/Answers.antt:5:1: error: `goal-5`: the two sides differ
 fn neighbours::own: search did not prove `ensures`
 fn neighbours::caller: no proof: it calls neighbours::own, which is not proved
 fn neighbours::weak: not proved
 fn neighbours::cites: not proved
 fn neighbours::real: not proved
+fn neighbours::calls_itself: not proved
 fn neighbours::fine: proved
 """
-OWN_REFUSALS = {"own": "ensures", "caller": None, "weak": f"goal-2, {edits.WEAK}", "cites": None, "real": "goal-4", "fine": None, "absent": None}
+OWN_REFUSALS = {"own": "ensures", "caller": None, "weak": f"goal-2, {edits.WEAK}", "cites": None, "real": "goal-4", "calls_itself": "goal-5", "fine": None, "absent": None}
 
 
 def lines_of_the_runner():
