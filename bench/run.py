@@ -53,6 +53,8 @@ def process(command, folder):
         child = subprocess.Popen(command, cwd=folder, stdout=output)
         _, status, usage = os.wait4(child.pid, 0)
         child.returncode = os.waitstatus_to_exitcode(status)
+    if child.returncode > 1:
+        sys.exit(f"run.py: {' '.join(command)} was refused")
     return time.perf_counter() - start, usage.ru_maxrss * 1024
 
 
@@ -215,7 +217,7 @@ def many_definitions(first):
 def measure_differences(program, folder):
     """`diff` on two real tables beside `explain --all` on their manifests, in turns; and on two tables of the most definitions."""
     for name, table in {"english": ENGLISH, "finnish": FINNISH}.items():
-        write(folder, name, f"root\t{table}\n")
+        write(folder, name, subprocess.run([program, "manifest", table], capture_output=True, text=True, check=True).stdout)
     explain = [program, "explain", "--all", "--names", "builtin", "english", "finnish"]
     times = least_processes({"diff": [program, "diff", ENGLISH, FINNISH], "explain": explain}, folder, 15)
     print(f"diff of two tables: {times['diff'] * 1000:.2f} ms; explain --all {times['explain'] * 1000:.2f}; ratio {times['diff'] / times['explain']:.2f}")
