@@ -7,7 +7,7 @@ An edit, crates/CRATE/must-fail/NAME.edit, turns the meaning of one function, an
 different functions of a crate share one check, over what the proof of the crate kept. An edit is refused there only if the line of
 its own function says that a goal of that function is not proved: a function that only calls a refused one has another line. What no
 such check can judge is tried alone, by the rule of `rt must-fail`. The crate itself, unedited, is checked over the same kept work
-afterwards, so that bad kept work cannot refuse anything; and before, unless its proof has just been made.
+before and afterwards, so that bad kept work cannot refuse anything.
 
 Run it at the top of the repository, with the kit's `rt` on PATH. What is not proved yet is proved first. Each edit has one line:
 
@@ -160,10 +160,9 @@ def copy_of(kept, into):
 class Trial:
     """The edits of one crate, tried over its kept work: `begin`, then `work` in as many threads as there are, and then `end`."""
 
-    def __init__(self, rt, crate, kept, room, is_asked=lambda name: True, results=None, prepare=lambda: None, said=lambda: None):
-        """`results` finds what earlier runs came to, and keeps what this one does. `prepare` makes the kept work, and `said` gives what the proof printed that it is
-        made of, if this run has made it."""
-        self.rt, self.crate, self.kept, self.room, self.results, self.prepare, self.said = rt, crate, kept, room, results, prepare, said
+    def __init__(self, rt, crate, kept, room, is_asked=lambda name: True, results=None, prepare=lambda: None):
+        """`results` finds what earlier runs came to, and keeps what this one does. `prepare` makes the kept work."""
+        self.rt, self.crate, self.kept, self.room, self.results, self.prepare = rt, crate, kept, room, results, prepare
         self.files = [it for it in rt.edits_of(crate)[0] if is_asked(os.path.basename(it).removesuffix(".edit"))]
         self.left, self.told, self.earlier, self.is_proved = collections.deque(), {}, {}, False
 
@@ -180,7 +179,8 @@ class Trial:
             yield copy_of(self.kept, folder)
 
     def proof(self):
-        """Checks the crate itself over its kept work, or else anew, and returns what the check printed, or None where the crate is not proved."""
+        """Checks the crate itself over its kept work, or else anew, and returns what the check printed, or None where the crate is not proved. The check keeps
+        what its library did not carry, which each check of edits would make again."""
         os.makedirs(self.kept, exist_ok=True)
         ran = self.check(self.kept)
         if ran.returncode:
@@ -199,7 +199,7 @@ class Trial:
         shutil.rmtree(self.room, ignore_errors=True)
         os.makedirs(self.room)
         self.prepare()
-        said = self.said() or self.proof()
+        said = self.proof()
         self.is_proved = said is not None
         if not self.is_proved:
             return

@@ -58,7 +58,7 @@ class Gate:
     """`rt ci` with some of its calls replaced."""
 
     def __init__(self, rt, file):
-        self.rt, self.said = rt, {}
+        self.rt = rt
         self.crate_ci, self.in_lanes = rt.Crate.ci, rt.in_lanes
         measured.measure(rt.rtlib, file)
         rt.Crate.ci = lambda crate, flags, tests: self.prove(crate, flags, tests)
@@ -69,11 +69,7 @@ class Gate:
         if tests or not crate.makes_rlib() or not self.rt.edits_of(crate)[0]:
             return self.crate_ci(crate, flags, tests)
         crate.cuts_libraries = False
-        status = self.crate_ci(crate, flags, tests)
-        if not status:
-            crate.out.seek(0)
-            self.said[crate.name] = crate.out.read()
-        return status
+        return self.crate_ci(crate, flags, tests)
 
     def add_edits(self, tasks, crate, files, first, waits, is_well, kept):
         """Adds the tasks that try a crate's edits, so that several lanes can share them. As rt's, it returns what gives their results, in order, and what gives those of earlier runs."""
@@ -91,7 +87,7 @@ class Gate:
             finally:
                 shutil.rmtree(kept_work, ignore_errors=True)
 
-        trial = edits.Trial(self.rt, crate, kept_work, f"{crate.folder}/out/edits", results=Results(self.rt, kept, crate), prepare=prepare, said=lambda: self.said.get(crate.name))
+        trial = edits.Trial(self.rt, crate, kept_work, f"{crate.folder}/out/edits", results=Results(self.rt, kept, crate), prepare=prepare)
         tasks.update(trial.tasks(waits, measured.seconds_of(crate, "edits"), is_well, end))
         # (an edit that cannot be read fails here)
         return lambda given: [(self.rt.REFUSED if passes else self.rt.MISSED, line) for passes, line in given[crate.name, "edits"]], lambda: trial.earlier
