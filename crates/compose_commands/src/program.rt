@@ -4,7 +4,7 @@ ghost use Rattle.std.specs.Process.{exit_status};
 
 use crate::commands::answer;
 use compose_arguments::read_command_line;
-use compose_report::{no_memory, refused, report_arguments};
+use compose_report::{exit_code, no_memory, refused, report_arguments};
 use compose_tool::Ended;
 use compose_tree::ComposeTable;
 use std::net::Net;
@@ -27,7 +27,7 @@ pub fn run<T: ComposeTable>(
         Ok(arguments) => answer_arguments::<T>(rt, process_id, is_terminal, &arguments),
         Err(ended) => ended,
     };
-    ExitCode::from(ended.status())
+    exit_code(ended)
 }
 
 /// The arguments of the command line, the program's name among them.

@@ -1,11 +1,13 @@
 //! What is printed, and how a run then ends.
-ghost use Rattle.std.specs.Prelude.{◌≡◌};
-ghost use Rattle.compose_tool.specs.Ends.{end_of};
+ghost use Rattle.std.specs.Prelude.{◌≡◌, ◌≤◌};
+ghost use Rattle.std.specs.Process.{exit_status};
+ghost use Rattle.compose_tool.specs.Ends.{end_of, status_of};
 ghost use Rattle.compose_report.specs.Ends.{EndsPrinted, written_end};
 
 use compose_messages::{FileMessage, Message};
 use compose_tool::{Answer, Ended, Refusal, Shown};
 use std::io;
+use std::process::ExitCode;
 
 /// Prints the answer, or why there is none. Of an argument that has no keysym the refusal says the index, and `arguments` has the argument.
 pub fn report(
@@ -84,4 +86,12 @@ pub fn no_memory(rt: &impl Eprint) -> Ended
 {
     let _ = eprintln!(rt; "out of memory");
     Ended::NoMemory
+}
+
+/// The exit code of a run that ends so: 0 for yes, 1 for no, 2 where the input is refused, 3 where memory was. O(1).
+pub fn exit_code(ended: Ended) -> ExitCode
+    ensures status { exit_status result ≡ status_of ended }
+    ensures few { exit_status result ≤ 3 }
+{
+    ExitCode::from(ended.status())
 }
