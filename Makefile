@@ -3,7 +3,7 @@
 # `make dist` and `make deb` pack the proved program for others, in packages/; `make test-packages` looks at what they hold.
 # `make test-whole` is the gate with each must-fail edit in a check of its own, as the kit's `rt ci` tries them: for a release.
 # `make names HEADER=FILE` writes the names that are built in anew from keysymdef.h, and prints what changed.
-# `make real` runs the program on the tables that Debian ships, `make bench` measures it; both prove and build ./compose_bench too.
+# `make real` runs the program on the tables that Debian ships, `make bench` measures it; both prove and build ./compose_trials too.
 PREFIX = /usr/local
 SOURCES = $(shell find crates -name out -prune -o '(' -name '*.rt' -o -name '*.antt' ')' -print) crates.txt
 
@@ -13,9 +13,9 @@ composecheck: $(SOURCES)
 	python3 tests/build.py composecheck --version
 	cp crates/composecheck/out/composecheck composecheck
 
-compose_bench: $(SOURCES)
-	python3 tests/build.py compose_bench names ../../share/composecheck/short-unicode-names.h
-	cp crates/compose_bench/out/compose_bench compose_bench
+compose_trials: $(SOURCES)
+	python3 tests/build.py compose_trials bench names ../../share/composecheck/short-unicode-names.h
+	cp crates/compose_trials/out/compose_trials compose_trials
 
 test:
 	python3 tests/gate.py
@@ -57,17 +57,17 @@ HEADER = /usr/include/X11/keysymdef.h
 names:
 	python3 packaging/names.py $(HEADER) share/composecheck/short-unicode-names.h crates/builtin_names/src/lines.rt
 
-real: composecheck compose_bench
-	python3 tests/real.py ./composecheck ./compose_bench
+real: composecheck compose_trials
+	python3 tests/real.py ./composecheck ./compose_trials
 	python3 tests/real_service.py ./composecheck
 	python3 tests/streams.py ./composecheck 100000
 
-bench: composecheck compose_bench
-	python3 bench/run.py ./composecheck ./compose_bench
+bench: composecheck compose_trials
+	python3 bench/run.py ./composecheck ./compose_trials
 	python3 bench/service.py ./composecheck
 	python3 bench/at_once.py ./composecheck
 
 clean:
-	rm -rf composecheck compose_bench packages crates/*/out
+	rm -rf composecheck compose_trials packages crates/*/out
 
 .PHONY: all test test-anew test-whole install uninstall dist deb test-packages names real bench clean

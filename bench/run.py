@@ -1,7 +1,7 @@
 #!/usr/bin/env python3
-"""run.py PROGRAM BENCH: times of the program and of single calls, and libxkbcommon at the same work, in turns.
+"""run.py PROGRAM TRIALS: times of the program and of single calls, and libxkbcommon at the same work, in turns.
 
-PROGRAM is `composecheck`, BENCH is `compose_bench` (crates/compose_bench). It needs Debian's libx11-data, x11proto-dev
+PROGRAM is `composecheck`, TRIALS is `compose_trials` (crates/compose_trials). It needs Debian's libx11-data, x11proto-dev
 and libxkbcommon-dev, and a C compiler. Each figure is the least of some runs, on the table of en_US.UTF-8;
 those of keys in sessions are medians."""
 import os
@@ -88,9 +88,9 @@ def prepare(folder):
     subprocess.run(["cc", "-O2", "-o", "xkb", os.path.join(TOP, "bench", "xkb.c"), "-lxkbcommon"], cwd=folder, check=True)
 
 
-def compare_compiling(bench, folder):
+def compare_compiling(trials, folder):
     """From bytes to a table."""
-    times = least_figures({"ours": [bench, "compile", "names", ENGLISH], "theirs": ["./xkb", "compile", ENGLISH, "200"]}, folder, 5)
+    times = least_figures({"ours": [trials, "bench", "compile", "names", ENGLISH], "theirs": ["./xkb", "compile", ENGLISH, "200"]}, folder, 5)
     ours, theirs = times["ours"], times["theirs"]
     memory = 8 * (ours["nodes"] + 1) + 12 * ours["edges"] + 4 * (ours["sequences"] + 1) + ours["text bytes"]
     print(f"table: {ours['nodes']} nodes, {ours['edges']} edges, {ours['root edges']} root edges, {ours['sequences']} sequences")
@@ -100,11 +100,11 @@ def compare_compiling(bench, folder):
     print(f"libxkbcommon compiles in {theirs['compile'] / 1e6:.3f} ms; ratio {ours['compile'] / theirs['compile']:.2f}")
 
 
-def compare_typing(bench, folder):
+def compare_typing(trials, folder):
     """Ten million keys."""
     keys = key_streams.stream(key_streams.sequences(ENGLISH, key_streams.header_values()), KEYS, 1)
     key_streams.write(keys, os.path.join(folder, "keys"))
-    times = least_figures({"ours": [bench, "type", "names", ENGLISH, "keys"], "theirs": ["./xkb", "type", ENGLISH, "keys"]}, folder, 5)
+    times = least_figures({"ours": [trials, "bench", "type", "names", ENGLISH, "keys"], "theirs": ["./xkb", "type", ENGLISH, "keys"]}, folder, 5)
     ours, theirs = times["ours"], times["theirs"]
     statuses = ["nothing", "composing", "composed", "cancelled"]
     same = all(ours[status] == theirs[status] for status in statuses)
@@ -112,10 +112,10 @@ def compare_typing(bench, folder):
     print("statuses:", ", ".join(f"{ours[status]} {status}" for status in statuses), "(as libxkbcommon)" if same else f"(libxkbcommon: {theirs})")
 
 
-def measure_calls(bench, folder):
+def measure_calls(trials, folder):
     """Lexing, and reading names."""
-    lexing = least_figures({"lex": [bench, "lex", ENGLISH]}, folder, 3)["lex"]["lex"]
-    names = least_figures({"names": [bench, "names", "names"]}, folder, 3)["names"]["names"]
+    lexing = least_figures({"lex": [trials, "bench", "lex", ENGLISH]}, folder, 3)["lex"]["lex"]
+    names = least_figures({"names": [trials, "bench", "names", "names"]}, folder, 3)["names"]["names"]
     print(f"lexing: {lexing / 1e6:.3f} ms, {lexing / 1e6 / os.path.getsize(ENGLISH) * 100_000:.3f} ms for 100 KB")
     print(f"reading {os.path.getsize(os.path.join(folder, 'names'))} bytes of names: {names / 1e6:.3f} ms")
 
@@ -156,12 +156,12 @@ def measure_migration(program, folder, reading):
         print(f"{name}, {len(characters)} characters: {seconds * 1000:.2f} ms; {seconds / reading:.2f} of reading")
 
 
-def compare_keys(bench, service, folder):
+def compare_keys(trials, service, folder):
     """Keys through a service beside the same keys by a bare `feed`, with the first byte of each text read: the medians of some turns."""
     turns = {sessions: [] for sessions in (1, 100, MOST_SESSIONS)}
     for _ in range(KEY_TURNS):
         for sessions, told in turns.items():
-            times = figures([bench, "keys", *service, "pressed", str(sessions)], folder)
+            times = figures([trials, "bench", "keys", *service, "pressed", str(sessions)], folder)
             told.append([times[name] / times["keys"] for name in ("feed", "key", "whole reply")])
     for sessions, told in turns.items():
         bare = statistics.median(feed for feed, _, _ in told)
@@ -172,7 +172,7 @@ def compare_keys(bench, service, folder):
             print(f"  through a service, {name}: {served:.1f} ns; ratio {statistics.median(ratios):.2f} ({ratios[0]:.2f} to {ratios[-1]:.2f})")
 
 
-def measure_service(program, bench, folder):
+def measure_service(program, trials, folder):
     """Calls of a service: keys beside a bare `feed`, loads beside `check_bytes`, and opening and closing sessions."""
     write(folder, "nobody", "")
     made = subprocess.run([program, "make", "--names", "names", "english", "english", "nobody"], cwd=folder, capture_output=True, text=True, check=True)
@@ -180,17 +180,17 @@ def measure_service(program, bench, folder):
     keys = key_streams.stream(key_streams.sequences(ENGLISH, key_streams.header_values()), KEYS_IN_SESSIONS, 2)
     key_streams.write(keys, os.path.join(folder, "pressed"))
     service = ["names", ENGLISH, "itself"]
-    compare_keys(bench, service, folder)
-    times = least_figures({"load": [bench, "load", *service]}, folder, 5)["load"]
+    compare_keys(trials, service, folder)
+    times = least_figures({"load": [trials, "bench", "load", *service]}, folder, 5)["load"]
     loading, checking = times["load"] / 1e6, times["check"] / 1e6
     print(f"an accepted load of the same table: {loading:.3f} ms; check_bytes on the same bytes {checking:.3f} ms; ratio {loading / checking:.2f}")
-    times = least_figures({"sessions": [bench, "sessions", *service, str(MOST_SESSIONS)]}, folder, 5)["sessions"]
+    times = least_figures({"sessions": [trials, "bench", "sessions", *service, str(MOST_SESSIONS)]}, folder, 5)["sessions"]
     each = times["close the others"] / (MOST_SESSIONS - 1) / 1000
     print(f"opening {MOST_SESSIONS} sessions: {times['open all'] / MOST_SESSIONS / 1000:.2f} us each")
     print(f"closing them, the first one first: {times['close the first'] / 1000:.1f} us for the first, {each:.1f} us each for the others")
 
 
-def measure_limits(program, bench, folder):
+def measure_limits(program, trials, folder):
     """Tables, repertoires and certificates at their limits."""
     write(folder, "deep", "".join(f"<0x{0x1000100 + i:x}>{'<a>' * 31} : \"x\"\n" for i in range((MOST_NODES - 1) // 31)))
     write(folder, "deepest", "root\tdeep\n")
@@ -202,8 +202,8 @@ def measure_limits(program, bench, folder):
     print(f"make, {MOST_NODES} nodes, {MOST_CHARACTERS} characters: {made:.2f} s, at most {memory / 1e6:.0f} MB")
     checked, memory = process([program, "check", "deepest", "deepest", "repertoire", "certificate"], folder)
     print(f"check of its certificate: {checked:.2f} s, at most {memory / 1e6:.0f} MB; {read(os.path.join(folder, 'output')).strip()}")
-    found = figures([bench, "certificate", "certificate"], folder)
-    _, memory = process([bench, "certificate", "certificate"], folder)
+    found = figures([trials, "bench", "certificate", "certificate"], folder)
+    _, memory = process([trials, "bench", "certificate", "certificate"], folder)
     size = os.path.getsize(os.path.join(folder, "certificate"))
     print(f"certificate of {found['pairs']} pairs, {size} bytes: read in {found['read certificate'] / 1e6:.0f} ms, written in {found['write certificate'] / 1e6:.0f} ms, at most {memory / 1e6:.0f} MB with its text twice")
 
@@ -228,17 +228,17 @@ def measure_differences(program, folder):
 
 
 def main():
-    program, bench = (os.path.abspath(path) for path in sys.argv[1:3])
+    program, trials = (os.path.abspath(path) for path in sys.argv[1:3])
     with tempfile.TemporaryDirectory() as folder:
         prepare(folder)
-        compare_compiling(bench, folder)
-        measure_calls(bench, folder)
-        compare_typing(bench, folder)
+        compare_compiling(trials, folder)
+        measure_calls(trials, folder)
+        compare_typing(trials, folder)
         reading = compare_processes(program, folder)
         measure_migration(program, folder, reading)
-        measure_service(program, bench, folder)
+        measure_service(program, trials, folder)
         measure_differences(program, folder)
-        measure_limits(program, bench, folder)
+        measure_limits(program, trials, folder)
 
 
 if __name__ == "__main__":

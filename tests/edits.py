@@ -116,14 +116,15 @@ def located(rt, crate, file, printed):
 
 
 def batches_of(edits):
-    """Returns the edits in batches of about one size, each of different functions and of texts that lie apart."""
-    batches = [[] for _ in range(-(-len(edits) // LARGEST_BATCH))]
+    """Returns the edits in batches, each of different functions and of texts that lie apart, and each edit in the first that has room for it. A check also
+    proves again what it finds between two functions that it edits, so the edits are not spread evenly."""
+    batches = []
     for edit in edits:
         room = [it for it in batches if len(it) < LARGEST_BATCH and all(map(edit.is_apart, it))]
         if not room:
             room = [[]]
             batches += room
-        min(room, key=len).append(edit)
+        room[0].append(edit)
     return batches
 
 

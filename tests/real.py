@@ -1,5 +1,5 @@
 #!/usr/bin/env python3
-"""real.py PROGRAM BENCH: runs the program, and `compose_bench`, on the files that Debian ships (not part of the gate).
+"""real.py PROGRAM TRIALS: runs the program, and `compose_trials`, on the files that Debian ships (not part of the gate).
 
 The names file is keysymdef.h with our header of short names; the tables are the UTF-8 tables of libx11-data, and one of a user
 that includes the table of the locale, each by the manifest that `composecheck manifest` prints for it. Typing is compared with
@@ -142,9 +142,9 @@ def is_whole(first, every):
     return first == differences[0] + "\n" and total == len(differences) == sum(kinds)
 
 
-def check_counts(bench, folder, results):
+def check_counts(trials, folder, results):
     """What the table of en_US.UTF-8 holds."""
-    counts = dict(line.split("\t") for line in run(bench, folder, "compile", "names", ENGLISH).stdout.splitlines())
+    counts = dict(line.split("\t") for line in run(trials, folder, "bench", "compile", "names", ENGLISH).stdout.splitlines())
     for what, count in {"nodes": 948, "edges": 6619, "root edges": 44, "sequences": 5672}.items():
         results.expect(f"{what} of en_US.UTF-8", counts.get(what) == str(count), counts)
 
@@ -248,7 +248,7 @@ def check_repertoires(program, folder, results):
 
 
 def main():
-    program, bench = (os.path.abspath(path) for path in sys.argv[1:3])
+    program, trials = (os.path.abspath(path) for path in sys.argv[1:3])
     for path, package in PACKAGES.items():
         if not os.path.exists(path):
             print(f"{path} is missing: install it with `apt-get install {package}`")
@@ -258,7 +258,7 @@ def main():
         write_manifests(program, folder, results)
         check_header(program, folder, results)
         check_tables(program, folder, results)
-        check_counts(bench, folder, results)
+        check_counts(trials, folder, results)
         check_repertoires(program, folder, results)
         check_migrations(program, folder, results)
         check_differences(program, folder, results)

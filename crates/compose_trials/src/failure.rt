@@ -1,15 +1,15 @@
-//! Why there is no trial.
+//! Why nothing is tried or measured.
 
-/// Why there is no trial, in the order of the exit statuses.
+/// Why nothing is tried or measured, in the order of the exit statuses.
 #[derive(Clone, Copy, Drop)]
 pub enum Failure {
-    /// The arguments name no trial.
+    /// The arguments name no trial and no measurement.
     Arguments,
     /// A file can't be read.
     File,
     /// A file is not what it should be.
     Input,
-    /// The output or a socket failed.
+    /// The output, a socket or the clock failed.
     System,
     /// A growth was refused outside of the call that is tried.
     NoMemory,

@@ -16,9 +16,9 @@ pub fn read_file(rt: &HostRuntime, path: &str) -> Result<Vec<u8>, Failure> {
     }
 }
 
-/// The names of the header.
-pub fn read_names(rt: &HostRuntime) -> Result<Names, Failure> {
-    let header = read_file(rt, "header")?;
+/// The names of a header.
+pub fn read_names(rt: &HostRuntime, path: &str) -> Result<Names, Failure> {
+    let header = read_file(rt, path)?;
     match Names::read(rt.alloc(), &header) {
         Ok(names) => Ok(names),
         Err(_) => Err(Failure::Input),
@@ -69,7 +69,7 @@ pub struct Start {
 pub fn read_start(rt: &HostRuntime) -> Result<Start, Failure> {
     let repertoire = read_repertoire(rt)?;
     let sources = read_sources(rt, "old")?;
-    let names = read_names(rt)?;
+    let names = read_names(rt, "header")?;
     Ok(Start {
         names,
         repertoire,

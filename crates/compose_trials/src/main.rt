@@ -1,5 +1,5 @@
 //! Single calls and failing devices, for `tests/calls.py` and `tests/devices.py`: `compose_trials WHAT [CALL]` reads what a trial needs
-//! from files of fixed names in the folder that it runs in, and prints what came of it.
+//! from files of fixed names in the folder that it runs in, and prints what came of it. `compose_trials bench WHAT FILE..` measures.
 //!
 //! ```text
 //! python3 tests/calls.py crates/compose_trials/out/compose_trials
@@ -7,6 +7,7 @@
 #![tactic(auto)]
 
 mod answering;
+mod bench;
 mod certificates;
 mod checking;
 mod devices;
@@ -25,9 +26,10 @@ mod tables;
 use failure::Failure;
 use std::process::ExitCode;
 
-/// Tries what the arguments say.
+/// Tries or measures what the arguments say.
 fn run(rt: &HostRuntime, arguments: &[&str]) -> Result<(), Failure> {
     match arguments {
+        ["bench", words @ ..] => bench::run(rt, words),
         ["read", call] => reading::try_call(rt, call),
         ["table", call] => tables::try_call(rt, call),
         ["answer", call] => answering::try_call(rt, call),

@@ -34,7 +34,7 @@ fn try_on(rt: &HostRuntime, tables: &Tables, call: &str) -> Result<(), Failure> 
 
 /// The tables in the files.
 fn read_tables(rt: &HostRuntime) -> Result<Tables, Failure> {
-    let names = read_names(rt)?;
+    let names = read_names(rt, "header")?;
     let old = read_table(rt, &names, "old")?;
     read_new(rt, names, old)
 }

@@ -1,15 +1,11 @@
-//! Times of single calls, for `bench/run.py`: `compose_bench WHAT FILE..` prints lines of a name, a tab and a number.
+//! Times of single calls, for `bench/run.py`: `compose_trials bench WHAT FILE..` prints lines of a name, a tab and a number.
 //! Times are nanoseconds of the quickest of some rounds.
 //!
 //! ```text
-//! compose_bench names share/composecheck/short-unicode-names.h
+//! compose_trials bench names share/composecheck/short-unicode-names.h
 //! ```
-#![tactic(auto)]
-
 mod compiling;
-mod failure;
 mod figures;
-mod input;
 mod loading;
 mod reading;
 mod serving;
@@ -17,12 +13,11 @@ mod sessions;
 mod stopwatch;
 mod typing;
 
+use crate::failure::Failure;
 use compose_tree::PackedTable;
-use failure::Failure;
-use std::process::ExitCode;
 
 /// Measures what the arguments say.
-fn run(rt: &HostRuntime, arguments: &[&str]) -> Result<(), Failure> {
+pub fn run(rt: &HostRuntime, arguments: &[&str]) -> Result<(), Failure> {
     match arguments {
         ["lex", table] => reading::lex(rt, table),
         ["names", header] => reading::read_names(rt, header),
@@ -43,36 +38,5 @@ fn run(rt: &HostRuntime, arguments: &[&str]) -> Result<(), Failure> {
             )
         }
         _ => Err(Failure::Arguments),
-    }
-}
-
-/// The arguments after the program's name.
-fn arguments_given(rt: &HostRuntime) -> Result<Vec<String>, Failure> {
-    let Ok(arguments) = std::env::args(rt) else {
-        return Err(Failure::Arguments);
-    };
-    let Ok(arguments) = arguments.skip(1).collect(rt.alloc()) else {
-        return Err(Failure::NoMemory);
-    };
-    Ok(arguments)
-}
-
-/// Runs with the arguments after the program's name.
-fn run_given(rt: &HostRuntime) -> Result<(), Failure> {
-    let given = arguments_given(rt)?;
-    let Ok(arguments) = given
-        .iter()
-        .map(|argument| argument.as_str())
-        .collect::<Vec<&str>>(rt.alloc())
-    else {
-        return Err(Failure::NoMemory);
-    };
-    run(rt, &arguments)
-}
-
-fn main(rt: HostRuntime) -> ExitCode {
-    match run_given(&rt) {
-        Ok(()) => ExitCode::from(0),
-        Err(failure) => ExitCode::from(failure.status()),
     }
 }

@@ -1,8 +1,8 @@
 //! Compiling a table from its bytes.
+use crate::bench::figures::print;
+use crate::bench::stopwatch::{ROUNDS, Stopwatch, now};
 use crate::failure::Failure;
-use crate::figures::print;
-use crate::input::{read_names, read_packed, read_sources};
-use crate::stopwatch::{ROUNDS, Stopwatch, now};
+use crate::input::{read_names, read_sources, read_table};
 use compose_model::Rule;
 use compose_read::{Definitions, Sequences, Sources, read_definitions, settle};
 use compose_tree::{ComposeTable, LeafId, NodeId, PackedTable};
@@ -139,7 +139,7 @@ fn print_times(rt: &HostRuntime, times: Times) -> Result<(), Failure> {
 
 /// Prints what the table of a file holds.
 fn print_table(rt: &HostRuntime, names: &Names, path: &str) -> Result<(), Failure> {
-    let table = read_packed(rt, names, path)?;
+    let table: PackedTable = read_table(rt, names, path)?;
     print_counts(rt, &table)
 }
 

@@ -1,9 +1,9 @@
 //! Loads of a table into a service over the same table, beside `check_bytes` on the same bytes.
+use crate::bench::figures::print;
+use crate::bench::serving::start;
+use crate::bench::stopwatch::{Stopwatch, now};
 use crate::failure::Failure;
-use crate::figures::print;
 use crate::input::{read_file, read_sources};
-use crate::serving::start;
-use crate::stopwatch::{Stopwatch, now};
 use compose_bundle::write_bundle;
 use compose_check::{CheckInput, Verdict, check_bytes};
 use compose_model::Rule;

@@ -1,8 +1,8 @@
 //! Typing a stream of keys.
+use crate::bench::figures::print;
+use crate::bench::stopwatch::{Stopwatch, now};
 use crate::failure::Failure;
-use crate::figures::print;
-use crate::input::{read_file, read_names, read_packed};
-use crate::stopwatch::{Stopwatch, now};
+use crate::input::{read_file, read_names, read_table};
 use arrayvec::ArrayString;
 use compose_model::Status;
 use compose_state::ComposeState;
@@ -56,7 +56,7 @@ pub fn type_keys(rt: &HostRuntime, header: &str, path: &str, keys: &str) -> Resu
 
 /// The same with these names.
 fn type_with(rt: &HostRuntime, names: &Names, path: &str, keys: &str) -> Result<(), Failure> {
-    let table = read_packed(rt, names, path)?;
+    let table: PackedTable = read_table(rt, names, path)?;
     type_file(rt, &table, names, keys)
 }
 

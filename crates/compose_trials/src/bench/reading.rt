@@ -1,8 +1,8 @@
 //! Lexing, and reading names and certificates.
+use crate::bench::figures::print;
+use crate::bench::stopwatch::{ROUNDS, Stopwatch, now};
 use crate::failure::Failure;
-use crate::figures::print;
 use crate::input::read_file;
-use crate::stopwatch::{ROUNDS, Stopwatch, now};
 use arrayvec::ArrayVec;
 use compose_cert::Certificate;
 use compose_lex::{Said, lex_line_into};

@@ -1,10 +1,10 @@
 //! Keys in the sessions of a service, beside the same keys in as many compose states without one.
+use crate::bench::figures::print;
+use crate::bench::serving::{close_sessions, open_sessions, read_count, start};
+use crate::bench::stopwatch::{Stopwatch, now};
+use crate::bench::typing::{Counts, read_keys};
 use crate::failure::Failure;
-use crate::figures::print;
 use crate::input::read_names;
-use crate::serving::{close_sessions, open_sessions, read_count, start};
-use crate::stopwatch::{Stopwatch, now};
-use crate::typing::{Counts, read_keys};
 use arrayvec::ArrayString;
 use compose_model::Status;
 use compose_service::Service;
