@@ -12,11 +12,14 @@ What a run proved is kept on this machine by the checksums of all that it read, 
 tries only what has changed, and what stands on it. With --anew it proves and tries all, from nothing. With --whole it is `rt ci` as the
 kit has it, which tries each edit in a check of its own.
 
+The runner's tests run beside the proofs, and the scripts side by side, one a processor; what each prints is printed in one piece.
+
 Where the machine has two or three processors and at least 2.7 GB for each, it has as many checks run side by side: `rt ci` plans for more
 memory than a check needs, and would run one at a time.
 
 At the end it prints what each crate took that was proved or tried, as the table of docs/ARCHITECTURE.md. The last line is `N passed, M failed`
 over all."""
+import concurrent.futures
 import os
 import re
 import resource
@@ -40,12 +43,13 @@ def built(crate):
     return os.path.join(TOP, "crates", crate, "out", crate)
 
 
-def follow(command):
-    """Runs the command and prints what it prints; its lines, and its counts, or those of one test where it prints none."""
+def follow(command, is_quiet=False):
+    """Runs the command and, unless quietly, prints what it prints; its lines, and its counts, or those of one test where it prints none."""
     counts, lines = None, []
     with subprocess.Popen(command, cwd=TOP, stdout=subprocess.PIPE, stderr=subprocess.STDOUT, text=True, errors="replace") as ran:
         for line in ran.stdout:
-            print(line, end="", flush=True)
+            if not is_quiet:
+                print(line, end="", flush=True)
             lines.append(line)
             found = re.fullmatch(r"(\d+) passed, (\d+) failed\n?", line)
             if found:
@@ -55,9 +59,15 @@ def follow(command):
     return lines, counts if counts[1] > 0 or ran.returncode == 0 else (counts[0], 1)
 
 
-def test(name, *words):
-    """Runs one of the scripts of tests/."""
-    return follow([sys.executable, os.path.join("tests", name), *words])
+def script(name, *words):
+    """Returns the command that runs one of the scripts of tests/."""
+    return [sys.executable, os.path.join("tests", name), *words]
+
+
+def told(lines, counts):
+    """Prints the lines of a command that ran quietly, and returns its counts."""
+    print("".join(lines), end="", flush=True)
+    return counts
 
 
 def edits_by_crate():
@@ -85,7 +95,7 @@ def prove(flags, names_of):
     else:
         with tempfile.TemporaryDirectory(prefix="gate-") as room:
             file = os.path.join(room, "measured")
-            lines, (passed, failed) = test("proofs.py", file, *flags)
+            lines, (passed, failed) = follow(script("proofs.py", file, *flags))
             table = measured.table_of(measured.rows_of(file), {it: len(names) for it, names in names_of.items()}) if os.path.isfile(file) else []
     lost = without_a_line(names_of, lines)
     for it in lost:
@@ -100,21 +110,27 @@ def use_all_processors(rt):
         os.environ.setdefault("RT_JOBS", str(processors))
 
 
+def commands():
+    """Returns the commands that run the built programs, the slowest first, once `composecheck` itself is at PROGRAM."""
+    shutil.copy(built("composecheck"), PROGRAM)
+    plain, trials = built("composecheck_list"), built("compose_trials")
+    runs = [(it, program) for it in ("refusals.py", "diff.py", "run.py", "service.py") for program in (PROGRAM, plain)]
+    runs += [("devices.py", trials), ("calls.py", trials)]
+    runs += [(it, PROGRAM) for it in ("packages.py", "lex_reference.py", "at_once.py", "streams.py", "limits.py", "outputs.py", "ci.py", "readme.py")]
+    return [script(*it) for it in runs]
+
+
 def main():
     began = time.monotonic()
-    use_all_processors(edits.load_rt())
-    passed, failed = test("edits_test.py")[1]
-    counts, table = prove(sys.argv[1:], edits_by_crate())
-    passed, failed = passed + counts[0], failed + counts[1]
-    if failed == 0:
-        shutil.copy(built("composecheck"), PROGRAM)
-        plain = built("composecheck_list")
-        runs = [("run.py", PROGRAM), ("run.py", plain), ("refusals.py", PROGRAM), ("refusals.py", plain), ("lex_reference.py", PROGRAM), ("limits.py", PROGRAM), ("outputs.py", PROGRAM), ("diff.py", PROGRAM), ("ci.py", PROGRAM), ("diff.py", plain)]
-        runs += [("service.py", PROGRAM), ("service.py", plain), ("at_once.py", PROGRAM), ("streams.py", PROGRAM), ("readme.py", PROGRAM), ("packages.py", PROGRAM)]
-        runs += [("calls.py", built("compose_trials")), ("devices.py", built("compose_trials"))]
-        for script, program in runs:
-            more = test(script, program)[1]
-            passed, failed = passed + more[0], failed + more[1]
+    rt = edits.load_rt()
+    use_all_processors(rt)
+    with concurrent.futures.ThreadPoolExecutor(rt.processors()) as pool:
+        tests = pool.submit(follow, script("edits_test.py"), is_quiet=True)
+        counts, table = prove(sys.argv[1:], edits_by_crate())
+        every = [counts, told(*tests.result())]
+        if not any(failed for _, failed in every):
+            every += [told(*it) for it in pool.map(lambda it: follow(it, is_quiet=True), commands())]
+    passed, failed = map(sum, zip(*every))
     used = resource.getrusage(resource.RUSAGE_CHILDREN)
     print("\n".join(["", *table, ""]))
     print(f"gate: {(time.monotonic() - began) / 60:.0f} minutes, {(used.ru_utime + used.ru_stime) / 60:.0f} minutes of processor time")
