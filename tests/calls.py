@@ -24,7 +24,7 @@ Where each public call that takes memory is called with ample memory, and its an
   find_typings                                       compose_examples/typings
   make                                               here; compose_examples/making
   explain, explain_all                               here; tests/cases/explain-*
-  compare                                            nowhere: nothing calls it yet
+  compare                                            compose_examples/telling; diff.py
   write_bundle, read_bundle                          here (read_bundle by the loads)
   Feeder::feed, Feeder::next_request                 here; compose_table_tests/frames
   Service::start                                     here; service.py
