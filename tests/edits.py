@@ -180,8 +180,8 @@ class Trial:
             yield copy_of(self.kept, folder)
 
     def proof(self):
-        """Checks the crate itself over its kept work, or else anew, and returns what the check printed, or None where the crate is not proved. The check keeps
-        what its library did not carry, which each check of edits would make again."""
+        """Checks the crate itself over its kept work, or else anew, and returns what the check printed, or None where the crate is not proved. The check also
+        keeps that these modules hold together, which each check of edits would otherwise judge again."""
         os.makedirs(self.kept, exist_ok=True)
         ran = self.check(self.kept)
         if ran.returncode:
