@@ -6,8 +6,8 @@
 An edit, crates/CRATE/must-fail/NAME.edit, turns the meaning of one function, and the prover must refuse that very function. Edits of
 different functions of a crate share one check, over what the proof of the crate kept. An edit is refused there only if the line of
 its own function says that a goal of that function is not proved: a function that only calls a refused one has another line. What no
-such check can judge is tried alone, by the rule of `rt must-fail`. The crate itself, unedited, is checked over the same kept work
-before and afterwards, so that bad kept work cannot refuse anything.
+such check can judge is tried alone, by the rule of `rt must-fail`. Afterwards the same functions are checked unedited, or the whole crate
+where an edit was tried alone, over the same kept work, so that bad kept work cannot refuse anything.
 
 Run it at the top of the repository, with the kit's `rt` on PATH. What is not proved yet is proved first. Each edit has one line:
 
@@ -16,13 +16,14 @@ Run it at the top of the repository, with the kit's `rt` on PATH. What is not pr
   must-fail CRATE/NAME.edit: refused alone: WHY         in a check of its own the crate is not proved
   must-fail CRATE/NAME.edit: NOT REFUSED ..             the crate is still proved: the edit failed
   must-fail CRATE/NAME.edit: BAD EDIT ..                it cannot be applied or read: the edit failed
-  must-fail CRATE/NAME.edit: NOT TRIED, NOT JUDGED ..   the crate is not proved before, or after, its edits: they failed
+  must-fail CRATE/NAME.edit: NOT TRIED, NOT JUDGED ..   the crate is not proved, or not over the work that its edits were tried over: they failed
 
 The last line is 'N passed, M failed'. The status is 1 if an edit failed, and 130 after an interrupt.
 """
 import argparse
 import collections
 import contextlib
+import glob
 import importlib.machinery
 import importlib.util
 import itertools
@@ -96,8 +97,8 @@ def patterns_of(crate, path, text, item):
     return [f"{where}::{it}::{item[2]}" for where in (module, ".*") for it in types]
 
 
-def located(rt, crate, file, printed):
-    """Returns the edit in a file with the function whose body it changes, one of those printed, or None if it is to be tried alone."""
+def located(rt, crate, file, functions):
+    """Returns the edit in a file with the function whose body it changes, one of those named, or None if it is to be tried alone."""
     texts, why = rt.read_edit(file, crate.folder)
     path = "" if why or len(texts) != 1 else next(iter(texts))
     if not path.startswith("src/"):
@@ -110,7 +111,7 @@ def located(rt, crate, file, printed):
         head = re.search(rf"^{item[1]}(?! ).*\{{$", item[0], re.M)
         inside = item.start() + head.end() if head else item.end()
         if inside <= start and end < item.end() and stays_inside(old[inside:start] + text + old[end : item.end() - 1]):
-            found = [[it for it in printed if re.fullmatch(like, it)] for like in patterns_of(crate.name, path, old, item)]
+            found = [[it for it in functions if re.fullmatch(like, it)] for like in patterns_of(crate.name, path, old, item)]
             return next((Edit(file, it[0], path, start, end, text) for it in found if len(it) == 1), None)
     return None
 
@@ -161,11 +162,14 @@ def copy_of(kept, into):
 class Trial:
     """The edits of one crate, tried over its kept work: `begin`, then `work` in as many threads as there are, and then `end`."""
 
-    def __init__(self, rt, crate, kept, room, is_asked=lambda name: True, results=None, prepare=lambda: None):
-        """`results` finds what earlier runs came to, and keeps what this one does. `prepare` makes the kept work."""
-        self.rt, self.crate, self.kept, self.room, self.results, self.prepare = rt, crate, kept, room, results, prepare
+    def __init__(self, rt, crate, kept, room, is_asked=lambda name: True, results=None, prepare=None):
+        """`results` finds what earlier runs came to, and keeps what this one does. `prepare` makes the kept work where it need not be proved
+        here, and returns the names of the crate's functions."""
+        self.rt, self.crate, self.kept, self.room, self.results, self.prepare = rt, crate, kept, room, results, prepare or self.proof
         self.files = [it for it in rt.edits_of(crate)[0] if is_asked(os.path.basename(it).removesuffix(".edit"))]
         self.left, self.told, self.earlier, self.is_proved = collections.deque(), {}, {}, False
+        # the functions that are edited in batches, and whether an edit was tried alone
+        self.functions, self.is_alone = [], False
 
     def tell(self, file, passes, text):
         self.told[file] = passes, f"must-fail {self.crate.name}/{os.path.basename(file)}: {text}"
@@ -180,18 +184,25 @@ class Trial:
             yield copy_of(self.kept, folder)
 
     def proof(self):
-        """Checks the crate itself over its kept work, or else anew, and returns what the check printed, or None where the crate is not proved. The check also
-        keeps that these modules hold together, which each check of edits would otherwise judge again."""
+        """Checks the crate itself over its kept work, or else anew, and returns the names of its functions, or None where it is not proved."""
         os.makedirs(self.kept, exist_ok=True)
         ran = self.check(self.kept)
         if ran.returncode:
             shutil.rmtree(self.kept)
             os.makedirs(self.kept)
             ran = self.check(self.kept)
-        return None if ran.returncode else ran.stdout
+        return None if ran.returncode else {*re.findall(r"^fn (\S+): proved\b", ran.stdout, re.M)}
+
+    def take_judged(self, kept):
+        """Takes over from a copy of the kept work that the modules of the libraries hold together, as the check over it found, so that a later check
+        need not find it again."""
+        for judged in glob.glob(f"{glob.escape(kept)}/*/judged"):
+            at = f"{self.kept}/{os.path.relpath(judged, kept)}"
+            if os.path.isdir(os.path.dirname(at)) and not os.path.exists(at):
+                os.replace(judged, at)
 
     def begin(self):
-        """Plans the checks of the crate's edits, of the functions that its proof names, but for those whose results earlier runs kept."""
+        """Plans the checks of the crate's edits, but for those whose results earlier runs kept."""
         found = {it: self.results and self.results.find(it) for it in self.files}
         self.earlier = {file: line for file, line in found.items() if line}
         files = [it for it in self.files if it not in self.earlier]
@@ -199,13 +210,12 @@ class Trial:
             return
         shutil.rmtree(self.room, ignore_errors=True)
         os.makedirs(self.room)
-        self.prepare()
-        said = self.proof()
-        self.is_proved = said is not None
+        functions = self.prepare()
+        self.is_proved = functions is not None
         if not self.is_proved:
             return
-        printed = {*re.findall(r"^fn (\S+): proved\b", said, re.M)}
-        edits = {it: located(self.rt, self.crate, it, printed) for it in files}
+        edits = {it: located(self.rt, self.crate, it, functions) for it in files}
+        self.functions = sorted({it.function for it in edits.values() if it})
         self.left.extend(batches_of([it for it in edits.values() if it]))
         self.left.extend([file for file, it in edits.items() if not it])
 
@@ -218,6 +228,7 @@ class Trial:
 
     def alone(self, file):
         """Tries an edit alone, by rt's rule."""
+        self.is_alone = True
         with self.copy_of_kept() as kept:
             kind, text = self.rt.must_fail(self.crate, file, ["--jobs", "1"], kept)
         text, passes = text.partition(f"{os.path.basename(file)}: ")[2], kind in (self.rt.REFUSED, self.rt.AT_LIMIT)
@@ -228,6 +239,7 @@ class Trial:
         texts = merged(self.crate.folder, batch)
         with self.copy_of_kept() as kept:
             ran = self.check(kept, texts, [it.function for it in batch])
+            self.take_judged(kept)
         lines = ran.stdout.rstrip("\n").split("\n")
         is_read = lines[-1].startswith("only=") and not any(self.rt.unread(it, texts) for it in lines)
         is_read = is_read and not self.rt.rtlib.STALE.search(ran.stdout)
@@ -244,18 +256,22 @@ class Trial:
         if not self.is_proved:
             self.tell(file, False, "NOT TRIED: the crate itself is not proved")
         elif not is_kept_well:
-            self.tell(file, False, "NOT JUDGED: the unedited crate is not proved over the same kept work")
+            self.tell(file, False, "NOT JUDGED: what it edits is not proved unedited, over the same kept work")
         elif file not in self.told:
             self.tell(file, False, "NOT JUDGED: no check says anything of it")
         elif self.results and self.told[file][0]:
             self.results.keep(file, self.told[file][1])
 
+    def is_kept_well(self):
+        """Checks what was edited as it stands, over the same kept work and in the same way, and returns whether it is proved."""
+        return not self.check(self.kept, only=[] if self.is_alone else self.functions).returncode
+
     def end(self):
-        """Checks the unedited crate once more, if an edit was tried, and returns of each edit, in order, whether it passed and its line."""
+        """Tries what is left, then checks what was edited as it stands, and returns of each edit, in order, whether it passed and its line."""
         tried = [it for it in self.files if it not in self.earlier]
         try:
             self.work()
-            is_kept_well = bool(tried) and self.is_proved and not self.check(self.kept).returncode
+            is_kept_well = bool(tried) and self.is_proved and self.is_kept_well()
         finally:
             shutil.rmtree(self.room, ignore_errors=True)
         for it in tried:
@@ -265,7 +281,7 @@ class Trial:
     def tasks(self, waits, seconds, is_well, last):
         """Returns the trial as tasks of rt's lanes, which begin only where all is well with those that they wait for. `last` is the call of the last one."""
         name, batches = self.crate.name, -(-len(self.files) // LARGEST_BATCH)
-        first = f"{name} unedited", "edits"
+        first = f"{name} planned", "edits"
         shared = [(f"{name} {number}", "edits") for number in range(1, batches + 1)]
         task = lambda waits, call: (waits, seconds / (batches + 2), MEMORY, call)
         step = lambda call: lambda given, jobs: call() if is_well(given) else None

@@ -120,7 +120,32 @@ def ended(*statuses):
         return trial.end()[0]
 
 
+def controlled(status):
+    """Returns what the runner says of an edit that is refused in a batch, where the check of the unedited function ends with this status, and what that check asks for."""
+    asked, rt = [], edits.load_rt()
+
+    def checked(crate, texts, flags, kept):
+        asked.append((texts, flags))
+        said = "fn neighbours::next: search did not prove `returns`\nonly=1 proved=0\n" if texts else ""
+        return types.SimpleNamespace(returncode=1 if texts else status, stdout=said)
+
+    with tempfile.TemporaryDirectory(prefix="edits-test-") as folder:
+        os.makedirs(f"{folder}/src")
+        old, new, _ = EDITS["wrong_answer"]
+        for path, text in {"src/lib.rt": SOURCE, "wrong.edit": f"file: src/lib.rt\nold: {old}\nnew: {new}\n"}.items():
+            with open(f"{folder}/{path}", "w", encoding="utf-8") as file:
+                file.write(text)
+        rt.checked, rt.edits_of = checked, lambda crate: ([f"{folder}/wrong.edit"], [])
+        trial = edits.Trial(rt, types.SimpleNamespace(name="neighbours", folder=folder), f"{folder}/kept", f"{folder}/room", prepare=lambda: {"neighbours::next"})
+        os.makedirs(trial.kept)
+        trial.begin()
+        return *trial.end()[0], asked[-1]
+
+
 def tests_of_the_control():
+    unedited = {}, ["--jobs", "1", "--only", "neighbours::next"]
+    yield "refused in a batch, and its function is then proved unedited", controlled(0) == (True, "must-fail neighbours/wrong.edit: refused by returns", unedited)
+    yield "refused in a batch, and its function is not proved unedited", not controlled(1)[0] and "NOT JUDGED" in controlled(1)[1]
     yield "refused, and the unedited crate is proved before and after", ended(0, 0) == (True, "must-fail neighbours/wrong.edit: refused alone: a goal")
     yield "refused, and the unedited crate is proved once its kept work is made anew", ended(1, 0, 0)[0]
     yield "the unedited crate is not proved before", not ended(1, 1)[0] and "NOT TRIED" in ended(1, 1)[1]

@@ -19,19 +19,24 @@ import edits
 import measured
 
 
-def take_checked(rlib, kept):
-    """Makes kept work of a proved library: each of its checked modules as a file, in a folder that is named after the prover."""
-    with open(f"{rlib}/format", encoding="utf-8") as file:
+def take_checked(crate, kept):
+    """Makes kept work of a proved library: each of its checked modules as a file, in a folder that is named after the prover. Returns the names
+    of the library's functions, of each of which one of these modules links the theorem."""
+    functions, link = set(), f"Rattle-{crate.name}-proofs.TheLinks."
+    with open(f"{crate.rlib}/format", encoding="utf-8") as file:
         build = dict(it.rstrip("\n").partition(" ")[::2] for it in file)["rattle-build"]
     folder = f"{kept}/{build.replace('/', '_')}"
     os.makedirs(folder)
-    with open(f"{rlib}/toolchain/checked.a", "rb") as archive, open(f"{rlib}/toolchain/checked.json", encoding="utf-8") as names:
+    with open(f"{crate.rlib}/toolchain/checked.a", "rb") as archive, open(f"{crate.rlib}/toolchain/checked.json", encoding="utf-8") as names:
         for name, start, size in map(json.loads, names):
             # (some names have a folder of their own)
             os.makedirs(os.path.dirname(f"{folder}/{name}"), exist_ok=True)
             archive.seek(start)
             with open(f"{folder}/{name}.oantt", "wb") as file:
                 file.write(archive.read(size))
+            if name.startswith(link):
+                functions.add(name.removeprefix(link).replace("-", "::"))
+    return functions
 
 
 class Results:
@@ -79,7 +84,7 @@ class Gate:
 
         def prepare():
             shutil.rmtree(kept_work, ignore_errors=True)
-            take_checked(crate.rlib, kept_work)
+            return take_checked(crate, kept_work)
 
         def end(given, jobs):
             try:
