@@ -1,7 +1,7 @@
 #!/usr/bin/env python3
 """The gate:
 
-  - the runner of must-fail edits against a small crate of its own (edits_test.py),
+  - the runner of must-fail edits against a small crate of its own (edits_test.py), and the worked examples (examples.py),
   - `rt ci`, with the edits tried over the proofs of their crates, several in one check (proofs.py),
   - the command-line cases against both built programs, `composecheck` and the same on the plain form of a table, some of them again
     with each allocation refused in turn, the second reading of lines, inputs at their limits and files that are written by `composecheck`,
@@ -12,7 +12,8 @@ What a run proved is kept on this machine by the checksums of all that it read, 
 tries only what has changed, and what stands on it. With --anew it proves and tries all, from nothing. With --whole it is `rt ci` as the
 kit has it, which tries each edit in a check of its own.
 
-The runner's tests run beside the proofs, and the scripts side by side, one a processor; what each prints is printed in one piece.
+The first two run beside the proofs, whenever these leave a processor free, and the scripts side by side, one a processor; what each prints is
+printed in one piece.
 
 Where the machine has two or three processors and at least 2.7 GB for each, it has as many checks run side by side: `rt ci` plans for more
 memory than a check needs, and would run one at a time.
@@ -125,9 +126,9 @@ def main():
     rt = edits.load_rt()
     use_all_processors(rt)
     with concurrent.futures.ThreadPoolExecutor(rt.processors()) as pool:
-        tests = pool.submit(follow, script("edits_test.py"), is_quiet=True)
+        beside = [pool.submit(follow, ["nice", *script(it)], is_quiet=True) for it in ("edits_test.py", "examples.py")]
         counts, table = prove(sys.argv[1:], edits_by_crate())
-        every = [counts, told(*tests.result())]
+        every = [counts, *(told(*it.result()) for it in beside)]
         if not any(failed for _, failed in every):
             every += [told(*it) for it in pool.map(lambda it: follow(it, is_quiet=True), commands())]
     passed, failed = map(sum, zip(*every))
