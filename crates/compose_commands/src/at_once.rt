@@ -1,10 +1,11 @@
 //! `serve --at-once`: many connections to one service.
+use compose_answer::Ended;
 use compose_arguments::ServeArguments;
 use compose_hub::{Limits, Report, serve_at_once};
 use compose_report::{no_memory, refused, written};
 use compose_serve::{Answer, Ended as ConnectionEnded, ServeFault};
 use compose_serving::connection_line;
-use compose_tool::{Ended, Shown};
+use compose_shown::Shown;
 use mio::net::UnixListener as PolledListener;
 use std::io;
 use std::net::Net;

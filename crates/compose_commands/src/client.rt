@@ -1,5 +1,6 @@
 //! `load` and `session`: a client of a running service. An error is the end of a run whose refusal was told.
 use crate::files::{NameFiles, TableFiles, read_file};
+use compose_answer::{Ended, Refusal};
 use compose_arguments::{LoadArguments, SessionArguments};
 use compose_bundle::BundleFault;
 use compose_client::{ReplyFeeder, RequestFault, put_request};
@@ -7,7 +8,7 @@ use compose_details::Given;
 use compose_migration::Named;
 use compose_report::{no_memory, refused, report_exchange, report_given};
 use compose_session::{Asked, load_request, report_replies, session_requests};
-use compose_tool::{Ended, Refusal, Shown};
+use compose_shown::Shown;
 use compose_tree::ComposeTable;
 use compose_wire::{Answer, Reply, Request};
 use keysym_core::Names;

@@ -5,13 +5,14 @@ use crate::differing::diff_files;
 use crate::files::{MoveFiles, NameFiles, TableFiles, read_file};
 use crate::manifest::manifest_files;
 use crate::serving::serve_files;
+use compose_answer::{Answer, Ended, Refusal};
 use compose_arguments::{CommandLine, Request, TablePaths};
 use compose_check::CheckInput;
 use compose_details::{Given, GivenTable};
 use compose_report::{report_given, report_into};
 use compose_tool::{
-    Answer, Ended, Refusal, check_allowed, check_migration, explain_all_migration,
-    explain_migration, make_all_migration, make_migration, type_keys,
+    check_allowed, check_migration, explain_all_migration, explain_migration, make_all_migration,
+    make_migration, type_keys,
 };
 use compose_tree::ComposeTable;
 use std::alloc::Global;

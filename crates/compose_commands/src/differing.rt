@@ -2,6 +2,7 @@
 use crate::files::{NameFiles, read_file};
 use crate::found::FoundTable;
 use crate::manifest::variable;
+use compose_answer::{Answer, Ended, Refusal};
 use compose_arguments::{DiffArguments, DiffColor, DiffForm};
 use compose_diff::{AcceptFault, colored_text};
 use compose_diff_rows::{DiffFault, DiffInput, Form, diff_migration};
@@ -9,7 +10,6 @@ use compose_messages::{FileMessage, Message, Position};
 use compose_migration::MigrationInput;
 use compose_model::Rule;
 use compose_report::{no_memory, refused, report, report_given};
-use compose_tool::{Answer, Ended, Refusal};
 use compose_tree::ComposeTable;
 use std::alloc::Global;
 use std::rt::{Env, Files};

@@ -1,14 +1,15 @@
 //! Files, and what they hold. An error is the end of a run whose refusal was told.
 use builtin_names::builtin_names;
+use compose_answer::Ended;
 use compose_arguments::TablePaths;
 use compose_details::{Given, GivenTable, Header, line_count, manifest_details};
-use compose_manifest::file_path;
+use compose_manifest::{Manifest, ManifestFault, file_path, read_manifest};
 use compose_messages::{open_words, source_words};
 use compose_migration::{MigrationInput, TableInput};
 use compose_model::Rule;
 use compose_read::{SourceFault, Sources};
 use compose_report::{add_names, no_memory, refused, tell_about};
-use compose_tool::{Ended, Manifest, ManifestFault, Shown, read_manifest};
+use compose_shown::Shown;
 use std::alloc::AllocError;
 use std::rt::Files;
 use std::{fs, io};

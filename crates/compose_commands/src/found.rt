@@ -1,6 +1,7 @@
 //! A Compose file as it lies on a system, with the files that it includes. An error is the end of a run whose refusal was told.
 use crate::files::read_file;
 use crate::manifest::found_files;
+use compose_answer::Ended;
 use compose_arguments::DiffArguments;
 use compose_details::GivenTable;
 use compose_find::FoundSource;
@@ -9,7 +10,6 @@ use compose_migration::TableInput;
 use compose_model::Rule;
 use compose_read::{SourceFault, Sources};
 use compose_report::{no_memory, refused, tell_about};
-use compose_tool::Ended;
 use std::alloc::{AllocError, Global};
 use std::rt::{Env, Files};
 

@@ -1,12 +1,13 @@
 //! `manifest`: finds the sources of a Compose file on the system. An error is the end of a run whose refusal was told.
 use crate::files::tell_unread;
+use compose_answer::Ended;
 use compose_arguments::ManifestArguments;
 use compose_details::find_message;
 use compose_find::{FindFault, FoundSource, Meanings, beside, find_sources, locale_file};
 use compose_manifest::{WriteFault, manifest_text};
 use compose_messages::{FileMessage, Message, open_words};
 use compose_report::{no_memory, refused, written};
-use compose_tool::{Ended, Shown};
+use compose_shown::Shown;
 use std::alloc::{AllocError, Global};
 use std::env::VarError;
 use std::rt::{Env, Files};

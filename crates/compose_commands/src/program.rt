@@ -3,9 +3,9 @@ ghost use Rattle.std.specs.Prelude.{◌≤◌};
 ghost use Rattle.std.specs.Process.{exit_status};
 
 use crate::commands::answer;
+use compose_answer::Ended;
 use compose_arguments::read_command_line;
 use compose_report::{exit_code, no_memory, refused, report_arguments};
-use compose_tool::Ended;
 use compose_tree::ComposeTable;
 use std::net::Net;
 use std::process::ExitCode;

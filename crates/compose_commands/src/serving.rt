@@ -1,14 +1,15 @@
 //! `serve`: a service on a socket. An error is the end of a run whose refusal was told.
 use crate::at_once::{print_end, serve_many};
 use crate::files::{NameFiles, TableFiles, read_file};
+use compose_answer::{Answer, Ended, Refusal};
 use compose_arguments::ServeArguments;
 use compose_details::Given;
 use compose_report::{no_memory, refused, report, report_given, written};
 use compose_serve::{Device, serve};
 use compose_service::Service;
 use compose_serving::{BeginFault, BeginInput, begin};
+use compose_shown::Shown;
 use compose_socket::{SocketFault, SocketFile, listener_of_systemd};
-use compose_tool::{Answer, Ended, Refusal, Shown};
 use compose_tree::ComposeTable;
 use std::alloc::Global;
 use std::fs;
@@ -54,11 +55,15 @@ impl<'n> ServiceFiles<'n> {
         names: &[&'n str],
         arguments: &ServeArguments<'_>,
     ) -> Result<ServiceFiles<'n>, Ended> {
+        let names = NameFiles::read(rt, verbose, names)?;
+        let table = TableFiles::read(rt, verbose, "table", arguments.table)?;
+        let repertoire = read_file(rt, verbose, arguments.repertoire)?;
+        let certificate = read_file(rt, verbose, arguments.certificate)?;
         Ok(ServiceFiles {
-            names: NameFiles::read(rt, verbose, names)?,
-            table: TableFiles::read(rt, verbose, "table", arguments.table)?,
-            repertoire: read_file(rt, verbose, arguments.repertoire)?,
-            certificate: read_file(rt, verbose, arguments.certificate)?,
+            names,
+            table,
+            repertoire,
+            certificate,
         })
     }
 

@@ -5,8 +5,8 @@ use Rattle.compose_find.specs.declared.fault.IncludeFault.{IncludeFault}
 use Rattle.compose_find.specs.declared.fault.IncludeFault.TheVariants.{Text, UnknownPercent, NoLocale, NoHome, TwoFiles, TooManySources, IncludeDepth}
 use Rattle.compose_find.specs.declared.found_source.FindFault.{FindFault}
 use Rattle.compose_find.specs.declared.found_source.FindFault.TheVariants.{MissingFile, Include}
-use Rattle.compose_tool.specs.Shown.{shown_text}
-use Rattle.compose_tool.specs.declared.manifest.ManifestFault.{ManifestFault}
+use Rattle.compose_shown.specs.Shown.{shown_text}
+use Rattle.compose_manifest.specs.declared.manifest.ManifestFault.{ManifestFault}
 use Rattle.compose_messages.specs.Faults.{manifest_line, manifest_said}
 use Rattle.compose_messages.specs.Hints.{manifest_hint}
 use Rattle.compose_messages.specs.Messages.{position_text, quoting}

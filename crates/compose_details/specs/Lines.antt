@@ -1,6 +1,6 @@
 -- The lines that `-v` adds (this project's profile): the path of a file, a place in it, and what is said.
 use Rattle.std.specs.Prelude.{ℕ, Bool, true, false, ◌-◌, nat_le, if◌then◌else◌, List, [], ◌∷◌, ◌++◌, get_or, Option, Some, None, codes}
-use Rattle.compose_tool.specs.Shown.{shown_text}
+use Rattle.compose_shown.specs.Shown.{shown_text}
 use Rattle.compose_messages.specs.Messages.{position_text}
 use Rattle.compose_messages.specs.declared.position.Position.{Position}
 use Rattle.compose_details.specs.declared.given.Header.{Header}

@@ -10,8 +10,8 @@ use Rattle.compose_tree.specs.declared.reading.TableFault.TheVariants.{Read, Set
 use Rattle.compose_migration.specs.declared.fault.Side.TheVariants.{Old, New}
 use Rattle.compose_fresh.specs.declared.fault.CheckFault.{CheckFault}
 use Rattle.compose_fresh.specs.declared.fault.CheckFault.TheVariants.{FreshIgnored, FreshUsed}
-use Rattle.compose_tool.specs.declared.refusal.Refusal.{Refusal}
-use Rattle.compose_tool.specs.declared.refusal.Refusal.TheVariants.{Names, Key, Table, Side, Repertoire, Certificate, Fresh, TooManyFresh}
+use Rattle.compose_answer.specs.declared.refusal.Refusal.{Refusal}
+use Rattle.compose_answer.specs.declared.refusal.Refusal.TheVariants.{Names, Key, Table, Side, Repertoire, Certificate, Fresh, TooManyFresh}
 use Rattle.compose_messages.specs.Faults.{name_line, name_said, certificate_line, certificate_said, repertoire_line, repertoire_said}
 use Rattle.compose_messages.specs.Hints.{hint_text, table_hint}
 use Rattle.compose_messages.specs.Messages.{quoting}

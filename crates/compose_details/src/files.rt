@@ -8,9 +8,9 @@ ghost use Rattle.compose_details.specs.Files as words;
 use crate::lines::whole_line;
 use crate::refusal::{push_hint, push_words};
 use compose_find::{FindFault, IncludeFault};
+use compose_manifest::ManifestFault;
 use compose_messages::{FileMessage, Message, manifest_hint, manifest_words};
 use compose_text::first_line;
-use compose_tool::ManifestFault;
 use std::alloc::{AllocError, Global};
 
 /// What `-v` tells of a fault of the manifest at this path, whose bytes these are: its line, and a hint where it is a table. O(bytes).

@@ -7,6 +7,7 @@ use crate::definitions::push_overlap;
 use crate::faulty::push_faulty_lines;
 use crate::given::{Given, GivenTable, Header};
 use crate::lines::{header_line, push_line, push_remark, whole_line};
+use compose_answer::Refusal;
 use compose_check::CheckFault;
 use compose_messages::{
     FaultWords, Hint, Message, certificate_words, name_words, push_events, repertoire_words,
@@ -14,7 +15,6 @@ use compose_messages::{
 };
 use compose_migration::Side;
 use compose_read::SettleFault;
-use compose_tool::Refusal;
 use compose_tree::TableFault;
 use keysym_core::{Keysym, NameFault, Names};
 use std::alloc::{AllocError, Global};

@@ -10,7 +10,7 @@ use Rattle.std.proofs.lemmas.List.{append-nil, append_assoc}
 use Rattle.std.proofs.lemmas.List.Splits.{slice_split-cons_no, length-slice_split}
 use Rattle.std.proofs.lemmas.List.Folds.{list_all-append}
 use Rattle.std.proofs.lemmas.Grind.{flat_map-append}
-use Rattle.compose_tool.specs.Shown.{shown_text}
+use Rattle.compose_shown.specs.Shown.{shown_text}
 use Rattle.compose_compare.specs.declared.Change.TheVariants.{Changed, Waiting, Removed, Added, NewStart}
 use Rattle.compose_diff.specs.declared.row.Entry.{Entry}
 use Rattle.compose_diff.specs.declared.row.DiffRow.{DiffRow}

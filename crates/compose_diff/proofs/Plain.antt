@@ -10,7 +10,7 @@ use Rattle.std.proofs.lemmas.Bool.{and_from, or_parts, or_from, and_cases}
 use Rattle.std.proofs.lemmas.List.Folds.{list_all-append}
 use Rattle.compose_text.specs.Numbers.{is_between}
 use Rattle.compose_lex.specs.Escape.{quote}
-use Rattle.compose_tool.specs.Shown.{is_unsafe, shown_character, shown_text}
+use Rattle.compose_shown.specs.Shown.{is_unsafe, shown_character, shown_text}
 use Rattle.compose_compare.specs.declared.Change.{Change}
 use Rattle.compose_compare.specs.declared.Change.TheVariants.{Kept, Changed, Waiting, Removed, Added, NewStart}
 use Rattle.compose_diff.specs.declared.row.Entry.{Entry}

@@ -3,7 +3,7 @@ use Rattle.std.specs.Prelude.{ℕ, ◌==◌, ◌||◌, if◌then◌else◌, List
 use Rattle.std.specs.Fmt.{decimal, digits}
 use Rattle.std.specs.Str.{chars}
 use Rattle.std.specs.Char.{encode_utf8}
-use Rattle.compose_tool.specs.Shown.{is_unsafe}
+use Rattle.compose_shown.specs.Shown.{is_unsafe}
 use Rattle.keysym_core.specs.Printed.{at_least_four}
 use Rattle.compose_diff.specs.declared.row.Entry.{Entry}
 use Rattle.compose_diff.specs.declared.row.DiffRow.{DiffRow}

@@ -2,7 +2,7 @@
 use Rattle.std.specs.Prelude.{ℕ, List, [], ◌∷◌, ◌++◌, map, flat_map, Option, Some, None, codes}
 use Rattle.std.specs.Fmt.{decimal}
 use Rattle.compose_lex.specs.Escape.{quote}
-use Rattle.compose_tool.specs.Shown.{shown_text}
+use Rattle.compose_shown.specs.Shown.{shown_text}
 use Rattle.compose_compare.specs.declared.Change.{Change}
 use Rattle.compose_compare.specs.declared.Change.TheVariants.{Kept, Changed, Waiting, Removed, Added, NewStart}
 use Rattle.compose_diff.specs.declared.row.Entry.{Entry}

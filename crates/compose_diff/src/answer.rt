@@ -7,7 +7,7 @@ use crate::accepted::{AcceptFault, Accepted};
 use crate::counts::{Counts, loses_nothing};
 use crate::fold::{diff_text, folded_text};
 use crate::row::DiffRow;
-use compose_tool::Answer;
+use compose_answer::Answer;
 use std::alloc::{AllocError, Global};
 use std::fmt::Write;
 

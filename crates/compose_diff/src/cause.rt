@@ -5,7 +5,7 @@ ghost use Rattle.compose_diff.specs.Causes as words;
 use crate::row::{DiffRow, Entry};
 use crate::runs::stands_in;
 use compose_compare::Change;
-use compose_tool::Shown;
+use compose_shown::Shown;
 use std::alloc::AllocError;
 use std::fmt::Write;
 

@@ -1,6 +1,6 @@
 //! Rows as JSON.
 ghost use Rattle.std.specs.Prelude.{◌≡◌, ◌++◌, map, IfOk, OnOk, string_bytes};
-ghost use Rattle.compose_tool.specs.Shown as shown;
+ghost use Rattle.compose_shown.specs.Shown as shown;
 ghost use Rattle.compose_diff.specs.Json as words;
 
 use crate::line::change_word;

@@ -5,7 +5,7 @@ ghost use Rattle.compose_diff.specs.Line as words;
 use crate::row::{DiffRow, Entry};
 use compose_compare::Change;
 use compose_lex::quote;
-use compose_tool::Shown;
+use compose_shown::Shown;
 use std::alloc::{AllocError, Global};
 use std::fmt::Write;
 

@@ -5,7 +5,7 @@ use Rattle.std.specs.Option.{option_map_or}
 use Rattle.std.specs.List.{find, dedup}
 use Rattle.std.specs.Result.{IsErrAnd}
 use Rattle.std.specs.List.Sorted.{IsPermutation, IsSorted}
-use Rattle.compose_tool.proofs.Rising.{rising_is}
+use Rattle.compose_answer.proofs.Rising.{rising_is}
 use Rattle.compose_text.specs.Lines.{lines_of}
 use Rattle.compose_text.specs.Results.{◌>>=◌}
 use Rattle.compose_model.specs.Nodes.{rising}
@@ -16,12 +16,12 @@ use Rattle.compose_walk.specs.declared.fault.MakeFault.TheVariants.{BadFresh}
 use Rattle.compose_migration.specs.Migration.{GivenMigration, Parts, migration_of}
 use Rattle.compose_migration.specs.MigrationGives.{MigrationRefused}
 use Rattle.compose_migration.specs.declared.fault.MigrationFault.{MigrationFault}
-use Rattle.compose_tool.specs.Parts.{NoAnswer, Explainable, no_fresh, migration_parts}
-use Rattle.compose_tool.specs.Refused.{IsRefused, migration_raised}
-use Rattle.compose_tool.specs.declared.answer.Answer.{Answer}
-use Rattle.compose_tool.specs.declared.refusal.Refusal.{Refusal}
-use Rattle.compose_tool.specs.declared.refusal.Refusal.TheVariants as refusals
-use Rattle.compose_tool.proofs.Moves.{migration_refused, unmoved}
+use Rattle.compose_answer.specs.Parts.{NoAnswer, Explainable, no_fresh, migration_parts}
+use Rattle.compose_answer.specs.Refused.{IsRefused, migration_raised}
+use Rattle.compose_answer.specs.declared.answer.Answer.{Answer}
+use Rattle.compose_answer.specs.declared.refusal.Refusal.{Refusal}
+use Rattle.compose_answer.specs.declared.refusal.Refusal.TheVariants as refusals
+use Rattle.compose_answer.proofs.Refusals.{migration_refused, unmoved}
 use Rattle.compose_diff.specs.Accepted.{Line, said_from, accepted_of, is_in_form, Gives}
 use Rattle.compose_diff.specs.declared.accepted.AcceptFault.{AcceptFault}
 use Rattle.compose_diff.specs.declared.accepted.AcceptFault.TheVariants.{Stale, BadLine, NoMemory}

@@ -3,8 +3,8 @@ use Rattle.std.proofs.Common.{◌≡◌, List, ◌++◌, Bool, map, subst, ◌�
 use Rattle.std.specs.Prelude.{Result, Ok, Err}
 use Rattle.std.specs.List.Sorted.{IsPermutation}
 use Rattle.compose_places.specs.Counting.{AreLines}
-use Rattle.compose_tool.specs.Parts.{Explainable}
-use Rattle.compose_tool.specs.declared.answer.Answer.{Answer}
+use Rattle.compose_answer.specs.Parts.{Explainable}
+use Rattle.compose_answer.specs.declared.answer.Answer.{Answer}
 use Rattle.compose_diff.specs.Accepted.{Line}
 use Rattle.compose_diff.specs.Order.{AreInOrder}
 use Rattle.compose_diff.specs.declared.row.DiffRow.{DiffRow}

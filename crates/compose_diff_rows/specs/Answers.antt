@@ -14,10 +14,10 @@ use Rattle.compose_fresh.specs.Fresh.{fresh_conditions}
 use Rattle.compose_fresh.specs.Conditions.{first_unmet}
 use Rattle.compose_walk.specs.declared.fault.MakeFault.TheVariants.{BadFresh}
 use Rattle.compose_places.specs.Counting.{counting_line, read_lines}
-use Rattle.compose_tool.specs.Parts.{Explainable, NoAnswer, no_fresh, migration_parts}
-use Rattle.compose_tool.specs.Refused.{IsRefused}
-use Rattle.compose_tool.specs.declared.answer.Answer.{Answer}
-use Rattle.compose_tool.specs.declared.answer.Answer.TheVariants.{Yes, No, Invalid, FreshNotAllowed}
+use Rattle.compose_answer.specs.Parts.{Explainable, NoAnswer, no_fresh, migration_parts}
+use Rattle.compose_answer.specs.Refused.{IsRefused}
+use Rattle.compose_answer.specs.declared.answer.Answer.{Answer}
+use Rattle.compose_answer.specs.declared.answer.Answer.TheVariants.{Yes, No, Invalid, FreshNotAllowed}
 use Rattle.compose_diff.specs.Accepted.{Line, accepted_of, left_of, accept_lines}
 use Rattle.compose_diff.specs.Counts.{loses_nothing}
 use Rattle.compose_diff.specs.Json.{json_rows}

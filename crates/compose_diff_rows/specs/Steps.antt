@@ -5,10 +5,10 @@ use Rattle.std.specs.declared.alloc.Global.{Global}
 use Rattle.compose_model.specs.Certificate.{keys_rise}
 use Rattle.compose_model.specs.Table.{Definition}
 use Rattle.compose_migration.specs.Migration.{Parts}
-use Rattle.compose_tool.specs.Parts.{Explainable}
-use Rattle.compose_tool.specs.Refused.{IsRefused}
-use Rattle.compose_tool.specs.declared.answer.Answer.{Answer}
-use Rattle.compose_tool.specs.declared.refusal.Refusal.TheVariants as refusals
+use Rattle.compose_answer.specs.Parts.{Explainable}
+use Rattle.compose_answer.specs.Refused.{IsRefused}
+use Rattle.compose_answer.specs.declared.answer.Answer.{Answer}
+use Rattle.compose_answer.specs.declared.refusal.Refusal.TheVariants as refusals
 use Rattle.compose_diff.specs.Accepted.{Line, left_of}
 use Rattle.compose_diff.specs.declared.accepted.AcceptFault.{AcceptFault}
 use Rattle.compose_diff.specs.declared.accepted.AcceptFault.TheVariants.{Stale, BadLine, NoMemory}

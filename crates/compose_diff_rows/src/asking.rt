@@ -1,7 +1,7 @@
 //! What `diff` is asked, and why it has no answer.
+use compose_answer::Refusal;
 use compose_diff::AcceptFault;
 use compose_migration::MigrationInput;
-use compose_tool::Refusal;
 use std::alloc::{AllocError, AllocFailed};
 use thiserror::Error;
 
@@ -71,7 +71,7 @@ impl From<AcceptFault> for DiffFault {
 
 impl From<AllocError> for DiffFault {
     ghost use Rattle.std.specs.Prelude.{◌≡◌};
-    ghost use Rattle.compose_tool.specs.declared.refusal.Refusal.TheVariants.{NoMemory};
+    ghost use Rattle.compose_answer.specs.declared.refusal.Refusal.TheVariants.{NoMemory};
     ghost use Rattle.compose_diff_rows.specs.declared.asking.DiffFault.TheVariants.{Input};
 
     ghost from_gives = { λ _ e. e ≡ Input NoMemory };
@@ -83,7 +83,7 @@ impl From<AllocError> for DiffFault {
 
 impl<T: Drop> From<AllocFailed<T>> for DiffFault {
     ghost use Rattle.std.specs.Prelude.{◌≡◌};
-    ghost use Rattle.compose_tool.specs.declared.refusal.Refusal.TheVariants.{NoMemory};
+    ghost use Rattle.compose_answer.specs.declared.refusal.Refusal.TheVariants.{NoMemory};
     ghost use Rattle.compose_diff_rows.specs.declared.asking.DiffFault.TheVariants.{Input};
 
     ghost from_gives = { λ _ e. e ≡ Input NoMemory };

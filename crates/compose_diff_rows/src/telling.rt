@@ -18,12 +18,12 @@ use crate::placed::PlacedMigration;
 use crate::rows::{add_kept_rows, told_rows};
 use crate::told::{ToldSequence, told_of_new, told_of_old};
 use crate::written::WrittenTable;
+use compose_answer::{Answer, Refusal};
 use compose_compare::compare;
 use compose_diff::{
     Accepted, DiffRow, accept_text, answer_diff, json_text, loses_nothing, sort_rows,
 };
 use compose_fresh::check_fresh;
-use compose_tool::{Answer, Refusal};
 use compose_tree::ComposeTable;
 use keysym_core::{Keysym, Names};
 use std::alloc::{AllocError, Global};

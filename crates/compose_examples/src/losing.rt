@@ -1,10 +1,10 @@
 //! What `diff` prints of worked rows, and which of them are accepted.
+use compose_answer::Answer;
 use compose_compare::Change;
 use compose_diff::{
     AcceptFault, Accepted, Counts, DiffRow, Entry, accept_text, answer_diff, colored_text,
     diff_text, folded_text, json_text, loses_nothing, sort_rows,
 };
-use compose_tool::Answer;
 use std::alloc::Global;
 use std::test::Fail;
 

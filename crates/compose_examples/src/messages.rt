@@ -1,13 +1,13 @@
 //! What is said of the faults of worked tables and of the other files, and where they stand.
 use crate::tables::core;
 use compose_cert::{CertFault, RepertoireFault};
+use compose_manifest::ManifestFault;
 use compose_messages::{
     FaultWords, FileMessage, Hint, Message, Position, certificate_words, fault_position,
     manifest_hint, manifest_words, name_words, open_words, overlap_words, read_message,
     repertoire_words, source_words, table_hint,
 };
 use compose_read::{ReadFault, SourceFault, Sources, read_definitions};
-use compose_tool::ManifestFault;
 use compose_tree::{BuildFault, TableFault};
 use keysym_core::{Keysym, NameFault, Names};
 use std::alloc::{AllocError, Global};

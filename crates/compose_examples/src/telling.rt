@@ -1,10 +1,10 @@
 //! The whole answer of `diff` on two tables of one source each.
 use crate::tables::one_source;
+use compose_answer::Answer;
 use compose_diff_rows::{DiffFault, DiffInput, Form, diff_migration};
 use compose_migration::{MigrationInput, TableInput};
 use compose_model::Rule;
 use compose_read::Sources;
-use compose_tool::Answer;
 use compose_tree::PackedTable;
 use std::alloc::Global;
 use std::test::Fail;

@@ -2,7 +2,7 @@
 use Rattle.std.proofs.Common.{◌≡◌, ◌≢◌, Bool, true, false, List, [], ◌∷◌, length, refl, ap, suc}
 use Rattle.std.specs.Prelude.{◌&&◌}
 use Rattle.compose_find.specs.Found.{FoundSource}
-use Rattle.compose_tool.specs.Manifest.{Entry}
+use Rattle.compose_manifest.specs.Manifest.{Entry}
 use Rattle.compose_manifest.specs.Text.{is_entry, are_entries}
 
 not_both : (a b : Bool) → b ≡ false → a && b ≡ false

@@ -1,1 +1,4 @@
 mod Entries
+mod Examples
+pub mod Tabs
+pub mod OneLine

@@ -1,1 +1,3 @@
+pub mod Manifest
+pub mod ManifestGives
 pub mod Text

@@ -6,9 +6,9 @@ use Rattle.compose_model.specs.declared.Rule.{Rule}
 use Rattle.compose_model.specs.declared.Rule.TheVariants.{Refuse, Longest}
 use Rattle.compose_find.specs.Expand.{beside}
 use Rattle.compose_find.specs.Found.{FoundSource}
-use Rattle.compose_tool.specs.Manifest.{Entry, Listing, listing_of}
-use Rattle.compose_manifest.specs.declared.WriteFault.{WriteFault}
-use Rattle.compose_manifest.specs.declared.WriteFault.TheVariants.{Unwritable, NoMemory}
+use Rattle.compose_manifest.specs.Manifest.{Entry, Listing, listing_of}
+use Rattle.compose_manifest.specs.declared.writing.WriteFault.{WriteFault}
+use Rattle.compose_manifest.specs.declared.writing.WriteFault.TheVariants.{Unwritable, NoMemory}
 
 -- the name, a tab (code 9), the path and a newline (code 10)
 abbrev pub line_of : FoundSource → List ℕ

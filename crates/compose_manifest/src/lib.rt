@@ -1,129 +1,16 @@
-//! The manifest of the sources that were found on a system, and the paths of a manifest.
+//! Manifests: the files of a table, under the names by which includes find them.
 //!
-//! [`manifest_text`] writes a line for each source, and reads the text back: what it gives lists these sources. A name or a path that no
-//! line of a manifest can hold is refused. [`file_path`] says where the file of an entry lies.
+//! [`read_manifest`] reads one, and [`file_path`] says where the file of an entry lies. [`manifest_text`] writes the manifest of the sources
+//! that were found on a system, a line for each, and reads the text back: what it gives lists these sources. A name or a path that no line
+//! of a manifest can hold is refused.
 //!
 //! ```text
 //! manifest_text(alloc, &[root, english])?    // two lines: "root\troot.compose", "%L\t/usr/share/X11/locale/en_US.UTF-8/Compose"
 //! ```
 #![tactic(auto)]
 
-ghost use Rattle.std.specs.Prelude.{◌≡◌, ◌++◌, ◌∷◌, [], IfOk, OnOk, string_bytes};
-ghost use Rattle.compose_manifest.specs.Text as text;
-ghost use Rattle.compose_manifest.specs.declared.WriteFault.TheVariants.{NoMemory};
+mod manifest;
+mod writing;
 
-use compose_find::{FoundSource, beside};
-use compose_model::Rule;
-use compose_tool::{Entry, Manifest, ManifestFault, read_manifest};
-use std::alloc::{AllocError, AllocFailed, Global};
-use thiserror::Error;
-
-/// Why the manifest of some sources isn't written.
-#[derive(Clone, Copy, Debug, PartialEq, Eq, Drop, Error)]
-pub enum WriteFault {
-    /// A name or a path can't stand in a manifest, as one with a newline or a tab.
-    #[error("1 Unwritable")]
-    Unwritable,
-    /// Memory was refused in this call.
-    #[error("2 NoMemory")]
-    NoMemory,
-}
-
-impl From<AllocError> for WriteFault {
-    ghost from_gives = { λ _ e. e ≡ NoMemory };
-
-    fn from(_error: AllocError) -> WriteFault {
-        WriteFault::NoMemory
-    }
-}
-
-impl<T: Drop> From<AllocFailed<T>> for WriteFault {
-    ghost from_gives = { λ _ e. e ≡ NoMemory };
-
-    fn from(_error: AllocFailed<T>) -> WriteFault {
-        WriteFault::NoMemory
-    }
-}
-
-/// The manifest of these sources: a line for each, its name, a tab and its path. Reading it lists them in order, by the rule that refuses overlaps;
-/// where it would not, as for a path with a newline, the sources are refused. O(bytes).
-pub fn manifest_text(alloc: Global, sources: &[FoundSource]) -> Result<String, WriteFault>
-    ensures { text.IsWritten sources.now result }
-{
-    let text = lines_of(alloc, sources)?;
-    match read_manifest(alloc, text.as_bytes()) {
-        Ok(manifest) if lists(&manifest, sources) => Ok(text),
-        Err(ManifestFault::NoMemory) => Err(WriteFault::NoMemory),
-        _ => Err(WriteFault::Unwritable),
-    }
-}
-
-/// The path of the file of this entry, where the manifest lies at the path `at`: a relative one goes from the manifest's folder where the
-/// manifest says so, and else stays relative to the folder in which the program runs. O(bytes).
-pub fn file_path(
-    alloc: Global,
-    manifest: &Manifest,
-    at: &str,
-    entry: &Entry,
-) -> Result<String, AllocError>
-    ensures { IfOk result
-        (λ path. string_bytes path ≡ text.file_path manifest.now at.now entry.now.path) }
-{
-    if manifest.paths_here() {
-        return beside(alloc, at, &entry.path);
-    }
-    String::from_str(alloc, &entry.path)
-}
-
-/// A line for each source.
-fn lines_of(alloc: Global, sources: &[FoundSource]) -> Result<String, AllocError>
-    ensures { IfOk result (λ written. string_bytes written ≡ text.manifest_bytes sources.now) }
-{
-    let mut lines = String::new(alloc);
-    for source in sources {
-        push_line(&mut lines, source)?;
-    }
-    Ok(lines)
-}
-
-/// Adds the line of a source.
-fn push_line(lines: &mut String, source: &FoundSource) -> Result<(), AllocError>
-    ensures { OnOk result
-        (string_bytes lines.new ≡ string_bytes lines.old ++ text.line_of source.now) }
-{
-    lines.push_str(&source.name)?;
-    lines.push('\t')?;
-    lines.push_str(&source.path)?;
-    lines.push('\n')
-}
-
-/// Whether the manifest lists these sources, by the rule that refuses overlaps and with paths as they stand.
-fn lists(manifest: &Manifest, sources: &[FoundSource]) -> bool
-    ensures { result ≡ text.lists manifest.now sources.now }
-{
-    !manifest.paths_here()
-        && manifest.rule() == Rule::Refuse
-        && are_entries(manifest.entries(), sources)
-}
-
-/// Whether the entries are those of the sources, in order.
-fn are_entries(entries: &[Entry], sources: &[FoundSource]) -> bool
-    ensures { result ≡ text.are_entries entries.now sources.now }
-{
-    if entries.len() != sources.len() {
-        return false;
-    }
-    for (index, entry) in entries.iter().enumerate() {
-        if !is_entry(entry, &sources[index]) {
-            return false;
-        }
-    }
-    true
-}
-
-/// Whether the entry is that of the source.
-fn is_entry(entry: &Entry, source: &FoundSource) -> bool
-    ensures { result ≡ text.is_entry entry.now source.now }
-{
-    entry.name == source.name && entry.path == source.path
-}
+pub use manifest::{Entry, Manifest, ManifestFault, file_path, read_manifest};
+pub use writing::{WriteFault, manifest_text};

@@ -8,8 +8,8 @@ use Rattle.compose_cert.specs.declared.RepertoireFault.{RepertoireFault}
 use Rattle.compose_cert.specs.declared.RepertoireFault.TheVariants as repertoires
 use Rattle.compose_read.specs.declared.sources.SourceFault.{SourceFault}
 use Rattle.compose_read.specs.declared.sources.SourceFault.TheVariants.{NameTaken, TooManySources, NoMemory}
-use Rattle.compose_tool.specs.declared.manifest.ManifestFault.{ManifestFault}
-use Rattle.compose_tool.specs.declared.manifest.ManifestFault.TheVariants as manifests
+use Rattle.compose_manifest.specs.declared.manifest.ManifestFault.{ManifestFault}
+use Rattle.compose_manifest.specs.declared.manifest.ManifestFault.TheVariants as manifests
 use Rattle.std.specs.declared.io.ErrorKind.{ErrorKind}
 use Rattle.std.specs.declared.io.ErrorKind.TheVariants.{NotFound, PermissionDenied, IsADirectory}
 

@@ -9,8 +9,8 @@ use Rattle.compose_read.specs.declared.ReadFault.TheVariants.{UnknownKeysym}
 use Rattle.compose_read.specs.declared.settling.SettleFault.TheVariants.{Overlap}
 use Rattle.compose_tree.specs.declared.reading.TableFault.{TableFault}
 use Rattle.compose_tree.specs.declared.reading.TableFault.TheVariants.{Read, Settle}
-use Rattle.compose_tool.specs.declared.manifest.ManifestFault.{ManifestFault}
-use Rattle.compose_tool.specs.declared.manifest.ManifestFault.TheVariants.{BadLine}
+use Rattle.compose_manifest.specs.declared.manifest.ManifestFault.{ManifestFault}
+use Rattle.compose_manifest.specs.declared.manifest.ManifestFault.TheVariants.{BadLine}
 use Rattle.compose_messages.specs.Places.{text_or_nothing}
 use Rattle.compose_messages.specs.declared.hints.Hint.{Hint}
 use Rattle.compose_messages.specs.declared.hints.Hint.TheVariants.{BuiltinNames, OverlapLongest, Fresh, Table}

@@ -7,7 +7,7 @@ use Rattle.compose_lex.specs.declared.LexFault.TheVariants.{BadToken, ModifierLi
 use Rattle.compose_read.specs.Lines.{Source}
 use Rattle.compose_read.specs.declared.ReadFault.{ReadFault}
 use Rattle.compose_read.specs.declared.ReadFault.TheVariants.{MissingRoot, NotUtf8, Lex, UnknownKeysym, IgnoredKeysym, MissingInclude, IncludeDepth, TooManyLines, TooManyDefinitions}
-use Rattle.compose_tool.specs.Shown.{shown_text}
+use Rattle.compose_shown.specs.Shown.{shown_text}
 use Rattle.compose_messages.specs.Places.{line_at, line_of}
 use Rattle.compose_messages.specs.Tokens.{named, expected_after, found_at}
 use Rattle.compose_messages.specs.declared.position.Position.{Position}

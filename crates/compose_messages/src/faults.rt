@@ -3,8 +3,8 @@ ghost use Rattle.std.specs.Prelude.{◌≡◌};
 ghost use Rattle.compose_messages.specs.Faults as faults;
 
 use compose_cert::{CertFault, RepertoireFault};
+use compose_manifest::ManifestFault;
 use compose_read::SourceFault;
-use compose_tool::ManifestFault;
 use keysym_core::NameFault;
 use std::io;
 

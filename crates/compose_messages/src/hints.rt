@@ -5,8 +5,8 @@ ghost use Rattle.compose_messages.specs.Hints as hints;
 use crate::lines::{nth_line, text_or_nothing};
 use arrayvec::ArrayVec;
 use compose_lex::{Said, lex_line_into};
+use compose_manifest::ManifestFault;
 use compose_read::{ReadFault, SettleFault};
-use compose_tool::ManifestFault;
 use compose_tree::TableFault;
 use std::fmt;
 

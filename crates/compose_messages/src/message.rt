@@ -1,6 +1,6 @@
 //! A message, and the place in a file that it is about.
 use crate::position::Position;
-use compose_tool::Shown;
+use compose_shown::Shown;
 use std::fmt;
 
 /// What is wrong, in words.

@@ -4,8 +4,8 @@ use Rattle.clap.specs.declared.error.kind.ErrorKind.{ErrorKind}
 use Rattle.clap.specs.declared.error.kind.ErrorKind.TheVariants as kinds
 use Rattle.compose_session.specs.declared.told.End.{End}
 use Rattle.compose_session.specs.declared.told.End.TheVariants as exchanges
-use Rattle.compose_tool.specs.declared.answer.Ended.{Ended}
-use Rattle.compose_tool.specs.declared.answer.Ended.TheVariants.{Yes, No, Refused, NoMemory}
+use Rattle.compose_answer.specs.declared.answer.Ended.{Ended}
+use Rattle.compose_answer.specs.declared.answer.Ended.TheVariants.{Yes, No, Refused, NoMemory}
 
 -- where what is to be written can't be: an answer is refused, and what has no answer ends as it does
 abbrev pub unwritten_end : Ended → Ended

@@ -1,11 +1,12 @@
 //! What is printed, and how a run then ends.
 ghost use Rattle.std.specs.Prelude.{◌≡◌, ◌≤◌};
 ghost use Rattle.std.specs.Process.{exit_status};
-ghost use Rattle.compose_tool.specs.Ends.{end_of, status_of};
+ghost use Rattle.compose_answer.specs.Ends.{end_of, status_of};
 ghost use Rattle.compose_report.specs.Ends.{EndsPrinted, written_end};
 
+use compose_answer::{Answer, Ended, Refusal};
 use compose_messages::{FileMessage, Message};
-use compose_tool::{Answer, Ended, Refusal, Shown};
+use compose_shown::Shown;
 use std::io;
 use std::process::ExitCode;
 

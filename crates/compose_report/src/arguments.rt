@@ -4,7 +4,8 @@ ghost use Rattle.compose_report.specs.Ends.{EndsPrinted, arguments_end};
 
 use crate::answered::written;
 use clap::error::ErrorKind;
-use compose_tool::{Ended, ShownLines};
+use compose_answer::Ended;
+use compose_shown::ShownLines;
 use std::io;
 
 /// Prints this text of clap, which is of this kind: the help that the arguments ask for, or why they are refused.

@@ -3,8 +3,8 @@ ghost use Rattle.std.specs.Prelude.{◌≡◌};
 ghost use Rattle.compose_report.specs.Ends.{EndsPrinted, exchange_end};
 
 use crate::answered::{refused, written};
+use compose_answer::Ended;
 use compose_session::{End, Report};
-use compose_tool::Ended;
 
 /// Prints what is told of an exchange, and why it has no end where it has none.
 pub fn report_exchange(rt: &(impl Print + Eprint), told: &Report) -> Ended

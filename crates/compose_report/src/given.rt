@@ -1,11 +1,12 @@
 //! What is printed of an answer with what `-v` adds to it, and answers that are written to a file.
-ghost use Rattle.compose_tool.specs.Ends.{end_of};
+ghost use Rattle.compose_answer.specs.Ends.{end_of};
 ghost use Rattle.compose_report.specs.Ends.{EndsPrinted, EndsTold};
 
 use crate::answered::{no_memory, refused, report, tell_about};
+use compose_answer::{Answer, Ended, Refusal};
 use compose_details::{Given, answer_details, refusal_details};
 use compose_messages::open_words;
-use compose_tool::{Answer, Ended, Refusal, Shown};
+use compose_shown::Shown;
 use compose_tree::ComposeTable;
 use std::alloc::{AllocError, Global};
 use std::rt::Files;

@@ -8,8 +8,8 @@ use Rattle.compose_tree.specs.TableGives.{NoTable}
 use Rattle.compose_migration.specs.MigrationGives.{TableFails}
 use Rattle.compose_machine.specs.Machine.{ServiceState}
 use Rattle.compose_service.specs.Start.{NoStart, without_table, without_certificate, not_valid, Begun, StartGives}
-use Rattle.compose_tool.specs.declared.refusal.Refusal.{Refusal}
-use Rattle.compose_tool.specs.declared.refusal.Refusal.TheVariants as refusals
+use Rattle.compose_answer.specs.declared.refusal.Refusal.{Refusal}
+use Rattle.compose_answer.specs.declared.refusal.Refusal.TheVariants as refusals
 use Rattle.keysym_core.specs.declared.fault.NameFault.{NameFault}
 use Rattle.keysym_core.specs.declared.fault.NameFault.TheVariants as name_faults
 use Rattle.compose_cert.specs.declared.RepertoireFault.{RepertoireFault}

@@ -5,12 +5,12 @@ ghost use Rattle.compose_cert.specs.Reading.{certificate_of};
 ghost use Rattle.compose_service.specs.Start.{started};
 ghost use Rattle.compose_serving.specs.Begin.{BeginGives, names_refused, repertoire_refused, start_refused};
 
+use compose_answer::Refusal;
 use compose_cert::{Repertoire, RepertoireFault};
 use compose_check::CheckFault;
 use compose_model::Rule;
 use compose_read::Sources;
 use compose_service::{Service, StartFault};
-use compose_tool::Refusal;
 use compose_tree::ComposeTable;
 use keysym_core::{NameFault, Names};
 use std::alloc::Global;

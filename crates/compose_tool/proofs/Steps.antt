@@ -15,13 +15,13 @@ use Rattle.compose_cert.specs.Reading.{certificate_of}
 use Rattle.compose_cert.specs.declared.CertFault.{CertFault}
 use Rattle.compose_check.specs.Input as checks
 use Rattle.compose_check.specs.Input.{Unread, no_repertoire, no_certificate, parts_of}
-use Rattle.compose_tool.specs.Parts.{NoAnswer, TypedParts, AllowedParts, allowed_parts, Explainable, Needs, unread, no_only_table, given_key_names, type_parts, migration_parts, explainable, explain_parts, makeable, make_parts}
-use Rattle.compose_tool.specs.Refused.{IsRefused, Gives}
+use Rattle.compose_answer.specs.Parts.{NoAnswer, TypedParts, AllowedParts, allowed_parts, Explainable, Needs, unread, no_only_table, given_key_names, type_parts, migration_parts, explainable, explain_parts, makeable, make_parts}
+use Rattle.compose_answer.specs.Refused.{IsRefused, Gives}
 use Rattle.compose_tool.specs.Answers.{IsChecked, IsCheckedFor}
-use Rattle.compose_tool.specs.declared.answer.Answer.{Answer}
-use Rattle.compose_tool.specs.declared.answer.Answer.TheVariants.{Yes, No, Invalid, FreshNotAllowed}
-use Rattle.compose_tool.specs.declared.refusal.Refusal.{Refusal}
-use Rattle.compose_tool.specs.declared.refusal.Refusal.TheVariants as refusals
+use Rattle.compose_answer.specs.declared.answer.Answer.{Answer}
+use Rattle.compose_answer.specs.declared.answer.Answer.TheVariants.{Yes, No, Invalid, FreshNotAllowed}
+use Rattle.compose_answer.specs.declared.refusal.Refusal.{Refusal}
+use Rattle.compose_answer.specs.declared.refusal.Refusal.TheVariants as refusals
 
 -- this is read
 abbrev pub IsRead : {A : Type 0} → Result A NoAnswer → A → Type 0

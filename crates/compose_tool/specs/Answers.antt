@@ -16,10 +16,10 @@ use Rattle.compose_walk.specs.Explained.{explained, all_explained}
 use Rattle.compose_make.specs.Least.{AreUntypable, IsUnreachable}
 use Rattle.compose_make.specs.IsMade.{IsMadeFor}
 use Rattle.compose_migration.specs.Migration.{Parts}
-use Rattle.compose_tool.specs.Parts.{TypedParts, AllowedParts, Explainable, Needs}
+use Rattle.compose_answer.specs.Parts.{TypedParts, AllowedParts, Explainable, Needs}
 use Rattle.compose_tool.specs.Typed.{typed_lines}
-use Rattle.compose_tool.specs.declared.answer.Answer.{Answer}
-use Rattle.compose_tool.specs.declared.answer.Answer.TheVariants.{Yes, No, Invalid, FreshNotAllowed}
+use Rattle.compose_answer.specs.declared.answer.Answer.{Answer}
+use Rattle.compose_answer.specs.declared.answer.Answer.TheVariants.{Yes, No, Invalid, FreshNotAllowed}
 
 -- the text is these words and a newline
 abbrev pub one_line : List ℕ → List ℕ

@@ -4,13 +4,12 @@ ghost use Rattle.compose_cert.specs.Reading.{certificate_of};
 ghost use Rattle.compose_migration.specs.Migration.{or_because};
 ghost use Rattle.compose_check.specs.Input.{parts_of, no_certificate};
 ghost use Rattle.compose_check.specs.CheckGives.{input_of};
-ghost use Rattle.compose_tool.specs.Parts.{unread, allowed_parts};
-ghost use Rattle.compose_tool.specs.Refused.{Gives};
+ghost use Rattle.compose_answer.specs.Parts.{unread, allowed_parts};
+ghost use Rattle.compose_answer.specs.Refused.{Gives};
 ghost use Rattle.compose_tool.specs.Answers.{IsChecked, IsCheckedFor, first_not_among};
 
-use crate::answer::Answer;
 use crate::parts::read_named;
-use crate::refusal::Refusal;
+use compose_answer::{Answer, Refusal};
 use compose_cert::{CertFault, Certificate};
 use compose_check::{CheckInput, Verdict, check_bytes};
 use compose_tree::ComposeTable;

@@ -2,13 +2,12 @@
 ghost use Rattle.std.specs.Prelude.{◌≡◌, string_bytes, IfOk};
 ghost use Rattle.compose_migration.specs.MigrationGives.{given_of, parts};
 ghost use Rattle.compose_walk.specs.Explained.{explained, all_explained};
-ghost use Rattle.compose_tool.specs.Parts.{explainable, explain_parts};
-ghost use Rattle.compose_tool.specs.Refused.{Gives};
+ghost use Rattle.compose_answer.specs.Parts.{explainable, explain_parts};
+ghost use Rattle.compose_answer.specs.Refused.{Gives};
 ghost use Rattle.compose_tool.specs.Answers.{IsExplained, IsAllExplained};
 
-use crate::answer::Answer;
 use crate::parts::{in_rising_order, read_migration};
-use crate::refusal::Refusal;
+use compose_answer::{Answer, Refusal};
 use compose_migration::{Migration, MigrationInput};
 use compose_tree::ComposeTable;
 use compose_walk::{Counterexample, Differences, Walk, differences, explain, explain_all, walk};

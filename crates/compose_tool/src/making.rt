@@ -4,14 +4,13 @@ ghost use Rattle.std.specs.Fmt.{digits};
 ghost use Rattle.keysym_core.specs.Printed.{at_least_four};
 ghost use Rattle.compose_migration.specs.MigrationGives.{given_of, parts};
 ghost use Rattle.compose_cert.specs.Spelling.{Spells};
-ghost use Rattle.compose_tool.specs.Parts.{makeable, make_parts};
-ghost use Rattle.compose_tool.specs.Refused.{Gives};
+ghost use Rattle.compose_answer.specs.Parts.{makeable, make_parts};
+ghost use Rattle.compose_answer.specs.Refused.{Gives};
 ghost use Rattle.compose_tool.specs.Answers.{IsMadeText, one_line};
 
-use crate::answer::Answer;
 use crate::explaining::tell;
 use crate::parts::{in_rising_order, read_migration, read_repertoire};
-use crate::refusal::Refusal;
+use compose_answer::{Answer, Refusal};
 use compose_cert::{Certificate, Repertoire};
 use compose_make::{Made, make};
 use compose_migration::{Migration, MigrationInput};

@@ -2,16 +2,15 @@
 ghost use Rattle.std.specs.Prelude.{◌≡◌, ◌++◌, string_bytes, IfOk};
 ghost use Rattle.compose_migration.specs.MigrationGives.{given_of, parts};
 ghost use Rattle.compose_make.specs.Least.{AreUntypable};
-ghost use Rattle.compose_tool.specs.Parts.{makeable, make_parts};
-ghost use Rattle.compose_tool.specs.Refused.{Gives};
+ghost use Rattle.compose_answer.specs.Parts.{makeable, make_parts};
+ghost use Rattle.compose_answer.specs.Refused.{Gives};
 ghost use Rattle.compose_tool.specs.Answers as answers;
 ghost use Rattle.compose_tool.specs.Answers.{IsAllMadeText, IsUntypableText, count_alone, count_of_both, each_untypable, tables_words, untypable_count, untypable_line};
 
-use crate::answer::Answer;
 use crate::explaining::tell;
 use crate::making::spell;
 use crate::parts::{in_rising_order, read_migration, read_repertoire};
-use crate::refusal::Refusal;
+use compose_answer::{Answer, Refusal};
 use compose_cert::Repertoire;
 use compose_make::{Made, make, untypable};
 use compose_migration::{Migration, MigrationInput};

@@ -7,10 +7,10 @@ ghost use Rattle.compose_cert.specs.Repertoire.{repertoire_of};
 ghost use Rattle.compose_migration.specs.Migration.{or_because};
 ghost use Rattle.compose_migration.specs.MigrationGives.{given_of, named_parts, parts};
 ghost use Rattle.compose_check.specs.Input.{no_repertoire};
-ghost use Rattle.compose_tool.specs.Parts.{unread, no_only_table, given_key_names, migration_parts};
-ghost use Rattle.compose_tool.specs.Refused.{Gives};
+ghost use Rattle.compose_answer.specs.Parts.{unread, no_only_table, given_key_names, migration_parts};
+ghost use Rattle.compose_answer.specs.Refused.{Gives};
 
-use crate::refusal::Refusal;
+use compose_answer::Refusal;
 use compose_cert::{Repertoire, RepertoireFault};
 use compose_migration::{Migration, MigrationInput, Named, TableInput};
 use compose_tree::{ComposeTable, TableFault, read_first_table};

@@ -3,17 +3,16 @@ ghost use Rattle.std.specs.Prelude.{◌≡◌, ◌++◌, List, map, Ok, OnOk, If
 ghost use Rattle.compose_model.specs.Table.{Definition};
 ghost use Rattle.compose_read.specs.Read.{definitions_of};
 ghost use Rattle.compose_tree.specs.TableGives.{table_of};
-ghost use Rattle.compose_tool.specs.ManifestGives.{TypeGives};
+ghost use Rattle.compose_tool.specs.TypeGives.{TypeGives};
 ghost use Rattle.compose_migration.specs.MigrationGives.{table_given};
 ghost use Rattle.compose_tool.specs.Typed.{typed_lines, fed_line};
-ghost use Rattle.compose_tool.specs.Parts.{type_parts};
-ghost use Rattle.compose_tool.specs.Refused.{Gives};
+ghost use Rattle.compose_answer.specs.Parts.{type_parts};
+ghost use Rattle.compose_answer.specs.Refused.{Gives};
 ghost use Rattle.compose_tool.specs.Answers.{IsTyped};
 
-use crate::answer::Answer;
 use crate::parts::{read_named, read_only_table};
-use crate::refusal::Refusal;
 use arrayvec::ArrayString;
+use compose_answer::{Answer, Refusal};
 use compose_lex::{LexFault, quote};
 use compose_migration::TableInput;
 use compose_model::Rule;

@@ -1,6 +1,6 @@
 use Rattle.std.proofs.Common.{◌≡◌, ◌∙◌, List, map, sym, ap, subst}
 use Rattle.compose_places.specs.Counting.{AreLines}
-use Rattle.compose_tool.specs.Parts.{Explainable}
+use Rattle.compose_answer.specs.Parts.{Explainable}
 use Rattle.compose_diff.specs.declared.row.DiffRow.{DiffRow}
 use Rattle.compose_diff_rows.specs.Answers.{Asked, asked}
 use Rattle.compose_diff_rows.specs.Rows.{Written, told_sequence}

@@ -1,9 +1,9 @@
 use Rattle.std.proofs.Common.{◌≡◌, ◌∙◌, List, ℕ, sym, ap, subst, rules}
 use Rattle.std.specs.Prelude.{Ok}
 use Rattle.compose_migration.specs.MigrationGives.{given_of}
-use Rattle.compose_tool.specs.Parts.{Explainable}
-use Rattle.compose_tool.specs.Refused.{IsRefused}
-use Rattle.compose_tool.specs.declared.refusal.Refusal.{Refusal}
+use Rattle.compose_answer.specs.Parts.{Explainable}
+use Rattle.compose_answer.specs.Refused.{IsRefused}
+use Rattle.compose_answer.specs.declared.refusal.Refusal.{Refusal}
 use Rattle.compose_diff_rows.specs.Answers.{asked, compared_parts}
 use Rattle.compose_diff_rows.specs.Steps.{accept_raised, placed_parts}
 use Rattle.compose_diff_rows.proofs.FirstRead.{both_read}

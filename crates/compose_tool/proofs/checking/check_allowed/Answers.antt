@@ -5,9 +5,9 @@ use Rattle.compose_cert.specs.Reading.{certificate_of}
 use Rattle.compose_model.specs.Certificate.{Certificate}
 use Rattle.compose_migration.specs.Migration.{or_because}
 use Rattle.compose_check.specs.Input.{no_certificate}
-use Rattle.compose_tool.specs.Parts.{allowed_parts, unread}
-use Rattle.compose_tool.specs.declared.answer.Answer.{Answer}
-use Rattle.compose_tool.specs.Refused.{IsRefused}
+use Rattle.compose_answer.specs.Parts.{allowed_parts, unread}
+use Rattle.compose_answer.specs.declared.answer.Answer.{Answer}
+use Rattle.compose_answer.specs.Refused.{IsRefused}
 use Rattle.compose_tool.specs.Answers.{IsChecked, IsCheckedFor, first_not_among}
 use Rattle.compose_tool.proofs.Steps.{refusal_gives, one_read, unrefused, certificate_read, allowed_read, other_checked}
 use Rattle.compose_tool.proofs.checking.check_allowed.Goals as goal

@@ -2,10 +2,10 @@ use Rattle.std.proofs.Common.{sym, subst}
 use Rattle.compose_migration.specs.Migration.{or_because}
 use Rattle.compose_check.specs.Input.{parts_of}
 use Rattle.compose_check.specs.CheckGives.{input_of}
-use Rattle.compose_tool.specs.Parts.{unread}
-use Rattle.compose_tool.specs.Refused.{IsRefused}
-use Rattle.compose_tool.specs.declared.refusal.Refusal.{Refusal}
-use Rattle.compose_tool.proofs.Moves.{input_refused}
+use Rattle.compose_answer.specs.Parts.{unread}
+use Rattle.compose_answer.specs.Refused.{IsRefused}
+use Rattle.compose_answer.specs.declared.refusal.Refusal.{Refusal}
+use Rattle.compose_answer.proofs.Refusals.{input_refused}
 use Rattle.compose_tool.proofs.checking.check_migration.Goals as goal
 
 pub returns-in-Err : goal.returns-in-Err

@@ -1,8 +1,8 @@
 use Rattle.std.proofs.Common.{subst, rules}
 use Rattle.compose_migration.specs.MigrationGives.{parts}
 use Rattle.compose_walk.specs.Evidence.{AreDifferences}
-use Rattle.compose_tool.specs.Parts.{Explainable}
-use Rattle.compose_tool.proofs.Moves.{taken}
+use Rattle.compose_answer.specs.Parts.{Explainable}
+use Rattle.compose_tool.proofs.FreshKeysyms.{taken}
 use Rattle.compose_tool.proofs.explaining.explain_all_tables.Goals as goal
 
 pub returns-then-is_empty : goal.returns-then-is_empty

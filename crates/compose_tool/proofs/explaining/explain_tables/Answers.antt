@@ -1,8 +1,8 @@
 use Rattle.std.proofs.Common.{subst, rules}
 use Rattle.compose_migration.specs.MigrationGives.{parts}
 use Rattle.compose_walk.specs.Walks.{IsWalk}
-use Rattle.compose_tool.specs.Parts.{Explainable}
-use Rattle.compose_tool.proofs.Moves.{taken}
+use Rattle.compose_answer.specs.Parts.{Explainable}
+use Rattle.compose_tool.proofs.FreshKeysyms.{taken}
 use Rattle.compose_tool.proofs.explaining.explain_tables.Goals as goal
 
 pub returns-in_ok-tell-in-Differs : goal.returns-in_ok-tell-in-Differs

@@ -1,8 +1,8 @@
 use Rattle.std.proofs.Common.{subst, inl, inr}
 use Rattle.compose_make.specs.IsMade.{IsMade}
 use Rattle.compose_migration.specs.MigrationGives.{parts}
-use Rattle.compose_tool.specs.Parts.{Needs}
-use Rattle.compose_tool.proofs.Moves.{taken}
+use Rattle.compose_answer.specs.Parts.{Needs}
+use Rattle.compose_tool.proofs.FreshKeysyms.{taken}
 use Rattle.compose_tool.proofs.making.tell_made.Goals as goal
 
 pub returns-in_ok-spell-in-Made : goal.returns-in_ok-spell-in-Made

@@ -2,8 +2,8 @@ use Rattle.std.proofs.Common.{rules, sym, ◌∙◌, ap, subst, nat_cmp}
 use Rattle.std.specs.Prelude.{Result}
 use Rattle.compose_model.specs.Nodes.{rising}
 use Rattle.compose_migration.specs.MigrationGives.{given_of, parts}
-use Rattle.compose_tool.specs.Parts.{NoAnswer, Needs, make_parts}
-use Rattle.compose_tool.specs.Refused.{Gives}
+use Rattle.compose_answer.specs.Parts.{NoAnswer, Needs, make_parts}
+use Rattle.compose_answer.specs.Refused.{Gives}
 use Rattle.compose_tool.specs.Answers.{IsAllMadeText}
 use Rattle.compose_tool.proofs.Steps.{refusal_gives, make_refused, repertoire_refused, make_read}
 use Rattle.compose_tool.proofs.making_all.make_all_migration.Goals as goal

@@ -1,8 +1,8 @@
 use Rattle.std.proofs.Common.{sym, subst, map}
 use Rattle.compose_migration.specs.Migration.{named}
-use Rattle.compose_tool.specs.Refused.{IsRefused}
-use Rattle.compose_tool.specs.declared.refusal.Refusal.{Refusal}
-use Rattle.compose_tool.proofs.Moves.{migration_refused, unmoved}
+use Rattle.compose_answer.specs.Refused.{IsRefused}
+use Rattle.compose_answer.specs.declared.refusal.Refusal.{Refusal}
+use Rattle.compose_answer.proofs.Refusals.{migration_refused, unmoved}
 use Rattle.compose_tool.proofs.parts.read_named.Goals as goal
 
 pub returns-in-Err : goal.returns-in-Err

@@ -1,6 +1,6 @@
 use Rattle.std.proofs.Common.{rules, map, sym, ◌∙◌, ap}
 use Rattle.compose_migration.specs.MigrationGives.{named_parts, table_given}
-use Rattle.compose_tool.specs.Parts.{type_parts}
+use Rattle.compose_answer.specs.Parts.{type_parts}
 use Rattle.compose_tool.specs.Typed.{typed_lines}
 use Rattle.compose_tool.specs.Answers.{IsTyped}
 use Rattle.compose_tool.proofs.Steps.{refusal_gives, named_refused, table_refused, typed_read}

@@ -1,0 +1,3 @@
+mod Examples
+pub mod Refusals
+pub mod Rising

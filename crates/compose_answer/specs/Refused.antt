@@ -1,0 +1,56 @@
+-- What is said of a part that is refused; memory that is refused is said of the whole.
+use Rattle.std.specs.Prelude.{◌≡◌, Result, Ok, Err}
+use Rattle.compose_tree.specs.TableGives.{NoTable}
+use Rattle.compose_migration.specs.Migration.{no_names, no_key, no_table}
+use Rattle.compose_migration.specs.MigrationGives.{TableFails}
+use Rattle.compose_migration.specs.declared.fault.MigrationFault.{MigrationFault}
+use Rattle.compose_migration.specs.declared.fault.MigrationFault.TheVariants as migration_faults
+use Rattle.compose_migration.specs.declared.fault.Side.TheVariants as sides
+use Rattle.compose_check.specs.Input.{no_migration, no_repertoire, no_certificate}
+use Rattle.compose_check.specs.declared.input.InputFault.{InputFault}
+use Rattle.compose_check.specs.declared.input.InputFault.TheVariants as input_faults
+use Rattle.compose_walk.specs.declared.fault.MakeFault.{MakeFault}
+use Rattle.compose_walk.specs.declared.fault.MakeFault.TheVariants as make_faults
+use Rattle.compose_answer.specs.Parts.{NoAnswer, unread, no_only_table, no_fresh}
+use Rattle.compose_answer.specs.declared.refusal.Refusal.{Refusal}
+use Rattle.compose_answer.specs.declared.refusal.Refusal.TheVariants.{Names, Key, Table, Side, Repertoire, Certificate, Fresh, TooManyFresh, NoMemory}
+
+-- ---- a fault of the layers below as a refusal
+
+abbrev pub migration_raised : MigrationFault → Refusal
+migration_raised (migration_faults.Names fault) = Names fault
+migration_raised (migration_faults.Key index) = Key index
+migration_raised (migration_faults.Table side fault) = Side side fault
+migration_raised migration_faults.NoMemory = NoMemory
+
+abbrev pub input_raised : InputFault → Refusal
+input_raised (input_faults.Names fault) = Names fault
+input_raised (input_faults.Old fault) = Side sides.Old fault
+input_raised (input_faults.New fault) = Side sides.New fault
+input_raised (input_faults.Repertoire fault) = Repertoire fault
+input_raised (input_faults.Certificate fault) = Certificate fault
+input_raised input_faults.NoMemory = NoMemory
+
+abbrev pub fresh_raised : MakeFault → Refusal
+fresh_raised make_faults.NoMemory = NoMemory
+fresh_raised (make_faults.BadFresh fault) = Fresh fault
+fresh_raised make_faults.TooManyFresh = TooManyFresh
+
+-- ---- what it says
+
+-- the refusal says which part is refused first, and why
+abbrev pub IsRefused : {P : Type 0} → Refusal → Result P NoAnswer → Type 0
+IsRefused (Names fault) said = said ≡ Err (unread (no_migration (no_names fault)))
+IsRefused (Key index) said = said ≡ Err (unread (no_migration (no_key index)))
+IsRefused (Table fault) said = (why : NoTable) × (said ≡ Err (no_only_table why)) × TableFails fault (Err why)
+IsRefused (Side side fault) said = (why : NoTable) × (said ≡ Err (unread (no_migration (no_table side why)))) × TableFails fault (Err why)
+IsRefused (Repertoire fault) said = said ≡ Err (unread (no_repertoire fault))
+IsRefused (Certificate fault) said = said ≡ Err (unread (no_certificate fault))
+IsRefused (Fresh fault) said = said ≡ Err (no_fresh (make_faults.BadFresh fault))
+IsRefused TooManyFresh said = said ≡ Err (no_fresh make_faults.TooManyFresh)
+IsRefused NoMemory said = Unit {0}
+
+-- an answer on the parts that are said, or the refusal of the first one that is refused
+abbrev pub Gives : {P A : Type 0} → (P → A → Type 0) → Result A Refusal → Result P NoAnswer → Type 0
+Gives {P} answers (Ok answer) said = (parts : P) × (said ≡ Ok parts) × answers parts answer
+Gives answers (Err refusal) said = IsRefused refusal said

@@ -1,0 +1,9 @@
+use Rattle.std.proofs.Common.{flat_map}
+use Rattle.std.specs.Fmt.{HasWritten, IsPlainFormatter}
+use Rattle.compose_shown.specs.Shown.{shown_in_lines}
+use Rattle.compose_shown.proofs.shown.write_lines.Given as goal
+
+-- the characters so far are written
+abbrev pub invariant-loop-character : goal.invariant-loop-character
+invariant-loop-character g l =
+    IsPlainFormatter l.initial.f → HasWritten g.W.Write.write_str_gives l.initial.f (flat_map shown_in_lines l.yielded) l.f

@@ -1,0 +1,95 @@
+//! What users and files wrote, as it is printed to a terminal.
+ghost use Rattle.std.specs.Prelude.{◌≡◌, Some, IsOk};
+ghost use Rattle.std.specs.Fmt.{HasWritten, IsPlainFormatter};
+ghost use Rattle.compose_shown.specs.Shown as words;
+ghost use Rattle.compose_shown.specs.Shown.{shown_character, shown_in_lines, shown_lines, shown_text};
+
+use std::fmt;
+
+/// A text, printed so that it can't steer a terminal: a control (U+0000 to U+001F, U+007F to U+009F), and a character that turns the
+/// direction of writing (U+202A to U+202E, U+2066 to U+2069), is printed as `\u{202e}`, any other one as it is.
+#[derive(Clone, Copy, Debug)]
+pub struct Shown<'a>(pub &'a str);
+
+impl fmt::Display for Shown<'_> {
+    ghost output = { λ shown. Some (shown_text shown.0.now) };
+
+    fn fmt<W: fmt::Write>(&self, f: &mut fmt::Formatter<W>) -> fmt::Result {
+        write_shown(self.0, f)
+    }
+}
+
+/// Writes each character of the text.
+fn write_shown<W: fmt::Write>(text: &str, f: &mut fmt::Formatter<W>) -> fmt::Result
+    ensures { IsPlainFormatter f.old → IsOk result
+        → HasWritten W.write_str_gives f.old (shown_text text.now) f.new }
+{
+    for character in text.chars() {
+        let shown = ShownCharacter(character);
+        write!(f, "{shown}")?;
+    }
+    Ok(())
+}
+
+/// A text of several lines, printed as [`Shown`] prints one, but for its newlines, which stay.
+#[derive(Clone, Copy, Debug)]
+pub struct ShownLines<'a>(pub &'a str);
+
+impl fmt::Display for ShownLines<'_> {
+    ghost output = { λ shown. Some (shown_lines shown.0.now) };
+
+    fn fmt<W: fmt::Write>(&self, f: &mut fmt::Formatter<W>) -> fmt::Result {
+        write_lines(self.0, f)
+    }
+}
+
+/// Writes each character of the lines.
+fn write_lines<W: fmt::Write>(text: &str, f: &mut fmt::Formatter<W>) -> fmt::Result
+    ensures { IsPlainFormatter f.old → IsOk result
+        → HasWritten W.write_str_gives f.old (shown_lines text.now) f.new }
+{
+    for character in text.chars() {
+        let shown = ShownInLines(character);
+        write!(f, "{shown}")?;
+    }
+    Ok(())
+}
+
+/// A character of several lines, printed so that it can't steer a terminal.
+#[derive(Clone, Copy, Debug)]
+struct ShownInLines(char);
+
+impl fmt::Display for ShownInLines {
+    ghost output = { λ shown. Some (shown_in_lines shown.0) };
+
+    fn fmt<W: fmt::Write>(&self, f: &mut fmt::Formatter<W>) -> fmt::Result {
+        if self.0 == '\n' {
+            return f.write_char(self.0);
+        }
+        let shown = ShownCharacter(self.0);
+        write!(f, "{shown}")
+    }
+}
+
+/// A character, printed so that it can't steer a terminal.
+#[derive(Clone, Copy, Debug)]
+struct ShownCharacter(char);
+
+impl fmt::Display for ShownCharacter {
+    ghost output = { λ shown. Some (shown_character shown.0) };
+
+    fn fmt<W: fmt::Write>(&self, f: &mut fmt::Formatter<W>) -> fmt::Result {
+        let number = u32::from(self.0);
+        if is_unsafe(number) {
+            return write!(f, "\\u{{{number:x}}}");
+        }
+        f.write_char(self.0)
+    }
+}
+
+/// Whether a terminal may take the character for an instruction.
+fn is_unsafe(number: u32) -> bool
+    ensures { result ≡ words.is_unsafe number }
+{
+    matches!(number, 0..=0x1f | 0x7f..=0x9f | 0x202a..=0x202e | 0x2066..=0x2069)
+}
