@@ -1,6 +1,6 @@
 -- A fault of a layer below is the refusal that is said.
-use Rattle.std.proofs.Common.{◌≡◌, ap}
-use Rattle.std.specs.Prelude.{Result, Ok, Err}
+use Rattle.std.proofs.Common.{ap}
+use Rattle.std.specs.Prelude.{Result}
 use Rattle.compose_migration.specs.Migration.{NoMigration, or_because}
 use Rattle.compose_migration.specs.MigrationGives.{MigrationRefused}
 use Rattle.compose_migration.specs.declared.fault.MigrationFault.{MigrationFault}
@@ -14,7 +14,6 @@ use Rattle.compose_check.specs.declared.input.InputFault.{InputFault}
 use Rattle.compose_check.specs.declared.input.InputFault.TheVariants as input_faults
 use Rattle.compose_answer.specs.Parts.{NoAnswer, unread}
 use Rattle.compose_answer.specs.Refused.{IsRefused, migration_raised, input_raised}
-use Rattle.compose_answer.specs.declared.refusal.Refusal.{Refusal}
 
 module _ {P : Type 0} where
   -- what is read of a migration, with its fault as the reason that there is no answer

@@ -1,7 +1,7 @@
 -- Keysyms that are sorted and kept once each are the rising ones.
-use Rattle.std.proofs.Common.{◌≡◌, ℕ, List, Bool, true, false, get_or, refl, sym, ◌∙◌, ap, subst, nat_cmp}
+use Rattle.std.proofs.Common.{◌≡◌, ℕ, List, Bool, true, false, get_or, refl, sym, ◌∙◌, subst, nat_cmp}
 use Rattle.std.specs.Prelude.{Contains, nat_eq, ◌==◌}
-use Rattle.std.specs.List.{dedup, list_any}
+use Rattle.std.specs.List.{dedup}
 use Rattle.std.specs.List.Sorted.{IsPermutation, IsSorted, IsStrictlySortedBy}
 use Rattle.std.proofs.lemmas.Bool.{eq-eqb, eqb-true}
 use Rattle.std.proofs.lemmas.Cmp.{nat_cmp_total}

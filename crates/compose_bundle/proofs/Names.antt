@@ -1,5 +1,5 @@
 -- Names that are taken, and names that differ.
-use Rattle.std.proofs.Common.{◌≡◌, ◌+◌, ◌≤◌, List, [], ◌∷◌, ◌++◌, Bool, true, false, cond, not, length, suc, ℕ, refl, sym, ◌∙◌, ap, inl, inr, arith, nat_lt}
+use Rattle.std.proofs.Common.{◌≡◌, ◌+◌, List, [], ◌∷◌, ◌++◌, Bool, true, false, cond, not, length, suc, ℕ, refl, sym, ◌∙◌, ap, inl, inr, arith, nat_lt}
 use Rattle.std.specs.List.{AllByRecursion, IsDistinct}
 use Rattle.std.specs.Str.{bytes_eq}
 use Rattle.std.proofs.lemmas.Bool.{cases_Bool, le-ltb, ltb-false}

@@ -1,9 +1,8 @@
 -- Pieces that are written one after another.
-use Rattle.std.proofs.Common.{◌≡◌, ℕ, ◌+◌, ◌<◌, ◌≤◌, ◌^◌, List, [], ◌∷◌, ◌++◌, length, take, get_or, suc, zero, add-one, refl, sym, ◌∙◌, ap, ap₂, subst, arith, length-append}
-use Rattle.std.specs.Prelude.{Option, Some, None, Result, Ok, Err, flat_map, IsUtf8, slice_get}
+use Rattle.std.proofs.Common.{◌≡◌, ℕ, ◌+◌, ◌<◌, ◌≤◌, ◌^◌, List, [], ◌∷◌, ◌++◌, length, take, suc, zero, add-one, sym, ◌∙◌, ap, subst, arith, length-append}
+use Rattle.std.specs.Prelude.{Some, Ok, Err, flat_map, IsUtf8, slice_get}
 use Rattle.std.specs.Int.{to_be_bytes, w16, w32}
-use Rattle.std.specs.List.{AllByRecursion, IsDistinct}
-use Rattle.std.specs.Str.{bytes_eq}
+use Rattle.std.specs.List.{AllByRecursion}
 use Rattle.std.specs.declared.alloc.Global.{Global}
 use Rattle.std.specs.declared.vec.Vec.{Vec}
 use Rattle.std.proofs.Math.Seq.{take-suc, take-length}
@@ -14,7 +13,7 @@ use Rattle.std.proofs.lemmas.Option.{same_Some, slice_get_within, get_or_from_sl
 use Rattle.std.proofs.lemmas.List.Folds.{length-flat_map-take}
 use Rattle.compose_read.specs.Lines.{Source}
 use Rattle.compose_read.specs.Sources.{AreSources}
-use Rattle.compose_bundle.specs.Bundle.{Bundle, SourceFits, BundleFits, IsBundle, source_bytes, bundle_bytes}
+use Rattle.compose_bundle.specs.Bundle.{Bundle, SourceFits, source_bytes, bundle_bytes}
 use Rattle.compose_bundle.specs.Written.{max_payload, Appends, HasLengths, Writes, so_far}
 use Rattle.compose_bundle.specs.declared.BundleFault.{BundleFault}
 use Rattle.compose_bundle.specs.declared.BundleFault.TheVariants as bundle_faults

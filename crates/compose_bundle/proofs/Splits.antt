@@ -1,8 +1,7 @@
 -- Bytes that are split, and put together again.
-use Rattle.std.proofs.Common.{◌≡◌, ℕ, ◌<◌, ◌≤◌, ◌^◌, List, [], ◌∷◌, ◌++◌, Bool, true, false, cond, length, take, drop, get_or, zero, suc, lit<, nat_le, refl, sym, ◌∙◌, ap, ap₂, subst, inl, inr, arith, leb-true, length-append}
+use Rattle.std.proofs.Common.{◌≡◌, ℕ, ◌<◌, ◌^◌, List, [], ◌∷◌, ◌++◌, Bool, true, false, cond, length, take, drop, get_or, zero, suc, lit<, nat_le, refl, sym, ◌∙◌, ap, ap₂, subst, arith, leb-true, length-append}
 use Rattle.std.specs.Prelude.{Option, Some, None}
 use Rattle.std.specs.Int.{to_be_bytes, from_be_bytes, w16, w32}
-use Rattle.std.specs.List.{AllByRecursion}
 use Rattle.std.proofs.Math.Seq.{take-append_seam, drop-append_seam}
 use Rattle.std.proofs.lemmas.Bool.{le-leb}
 use Rattle.std.proofs.lemmas.List.{take-append-drop, length-take-le}

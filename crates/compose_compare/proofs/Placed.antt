@@ -2,29 +2,26 @@
 use Rattle.std.proofs.Common.{◌≡◌, ℕ, ◌<◌, List, [], ◌∷◌, ◌++◌, Bool, true, false, cond, not, ◌&&◌, ◌||◌, length, refl, sym, ◌∙◌, ap, ap₂, subst, inl, inr, Option, Some, None}
 use Rattle.std.specs.Prelude.{◌==◌, is_some, IfSome}
 use Rattle.std.specs.Option.{option_map, option_map_or}
-use Rattle.std.proofs.lemmas.Bool.{or_left, cases_Bool}
+use Rattle.std.proofs.lemmas.Bool.{cases_Bool}
 use Rattle.keysym_core.specs.Names.{KeysymNames, text}
-use Rattle.compose_model.specs.Table.{Definition, same, has_key, is_sequence, is_extended, is_table, is_prefix_free, text_at}
+use Rattle.compose_model.specs.Table.{Definition, same, has_key, is_sequence, is_extended, is_table, text_at}
 use Rattle.compose_model.specs.Step.{Step, step, pending, pending_after, is_cancel, is_empty}
 use Rattle.compose_model.specs.Follows.{cancelled, text_differs, waiting, difference}
-use Rattle.compose_model.specs.Nodes.{nodes, leaves, is_node, node, number_of, has_edge}
+use Rattle.compose_model.specs.Nodes.{nodes, is_node, node, number_of, has_edge}
 use Rattle.compose_model.specs.Certificate.{types_itself}
 use Rattle.compose_model.proofs.NodeLemmas.{root_number, node_zero, node_at_number, number_below, root_is_node, pending_is_node, extended_is_node}
 use Rattle.compose_model.proofs.Lift.{not_extended}
 use Rattle.compose_read.specs.Settle.{IsSettled}
-use Rattle.compose_tree.specs.Targets.{target_of, leaf_number, leaf_text}
+use Rattle.compose_tree.specs.Targets.{target_of, leaf_number}
 use Rattle.compose_tree.specs.declared.table.NodeId.{NodeId}
-use Rattle.compose_tree.specs.declared.table.LeafId.{LeafId}
 use Rattle.compose_tree.specs.declared.table.Target.{Target}
 use Rattle.compose_tree.specs.declared.table.Target.TheVariants.{Node, Leaf}
-use Rattle.compose_tree.proofs.Steps.{Leads, leads, ToNode, ToLeaf}
-use Rattle.compose_walk.specs.Pass.{differs_at}
+use Rattle.compose_tree.proofs.Steps.{Leads, leads}
 use Rattle.compose_walk.specs.Steps.{IsStep, difference_of}
 use Rattle.compose_walk.specs.declared.step.KeyStep.{KeyStep}
 use Rattle.compose_walk.proofs.Candidates.{shorter_node}
 use Rattle.compose_walk.proofs.NodeNumbers.{number_at_node, node_is_node}
 use Rattle.compose_walk.proofs.Standing.{zero_test, differs_alike}
-use Rattle.compose_compare.specs.declared.Change.{Change}
 use Rattle.compose_compare.specs.declared.Change.TheVariants.{Kept, Changed, Waiting, Removed, Added, NewStart}
 use Rattle.compose_compare.specs.Change.{agrees, agree_along, change, is_new_start, stands, stands_after}
 use Rattle.compose_compare.specs.Passes.{node_id, node_of, node_in, stand_of, begins_anew, old_change, new_change}

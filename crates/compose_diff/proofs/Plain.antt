@@ -1,12 +1,12 @@
 -- What is printed has no control in it: no escape, and no newline but the one that ends a line.
-use Rattle.std.proofs.Common.{◌≡◌, ℕ, zero, suc, ◌+◌, ◌/◌, ◌%◌, ◌≤◌, Bool, true, false, List, [], ◌∷◌, ◌++◌, flat_map, refl, sym, ◌∙◌, arith, inl, inr, ◌⊎◌, le-leb, leb-false, ltb-false, eqb-true}
+use Rattle.std.proofs.Common.{◌≡◌, ℕ, zero, suc, ◌+◌, ◌/◌, ◌%◌, ◌≤◌, Bool, true, false, List, [], ◌∷◌, ◌++◌, flat_map, refl, ◌∙◌, arith, inl, inr, ◌⊎◌, le-leb, leb-false}
 use Rattle.std.specs.Prelude.{◌==◌, ◌||◌, nat_lt, nat_le, codes, Option, Some, None}
 use Rattle.std.specs.List.{list_all}
 use Rattle.std.specs.Fmt.{decimal, digits}
 use Rattle.std.specs.Str.{chars}
 use Rattle.std.specs.Char.{encode_utf8}
 use Rattle.std.specs.Fmt.{digits_onto, digit_glyph}
-use Rattle.std.proofs.lemmas.Bool.{and_from, or_parts, or_from, and_cases}
+use Rattle.std.proofs.lemmas.Bool.{and_from, or_parts, and_cases}
 use Rattle.std.proofs.lemmas.List.Folds.{list_all-append}
 use Rattle.compose_text.specs.Numbers.{is_between}
 use Rattle.compose_lex.specs.Escape.{quote}

@@ -1,15 +1,15 @@
 -- What is found as the search goes on: each source so far is the root or included by one before it, and those that were read are followed.
 use Rattle.std.proofs.Common.{◌≡◌, ◌⊎◌, ℕ, suc, zero, ◌+◌, ◌<◌, ◌≤◌, List, [], ◌∷◌, ◌++◌, Bool, true, false, cond, map, length, Option, Some, None, refl, sym, ◌∙◌, ap, subst, inl, inr, arith}
-use Rattle.std.specs.Prelude.{Result, Ok, Err, slice_get, Contains, bytes_eq, nat_le, is_some, get_or}
+use Rattle.std.specs.Prelude.{Result, Ok, Err, slice_get, Contains, bytes_eq, nat_le, is_some}
 use Rattle.std.specs.List.{find, IsDistinct, AllByRecursion}
 use Rattle.std.specs.Option.{option_map_or}
 use Rattle.std.proofs.lemmas.Bool.{leb-false, cases_lt}
 use Rattle.std.proofs.lemmas.Slice.Eq.{bytes_eq-Decides}
-use Rattle.std.proofs.lemmas.Option.{slice_get_within, get_or_from_slice_get, slice_get_read, slice_get-get_or}
+use Rattle.std.proofs.lemmas.Option.{slice_get_within, get_or_from_slice_get, slice_get-get_or}
 use Rattle.compose_text.specs.Results.{◌>>=◌}
 use Rattle.compose_find.specs.Expand.{Words, include_path, beside}
 use Rattle.compose_find.specs.Includes.{Include}
-use Rattle.compose_find.specs.Found.{TriedFile, FoundSource, Stop, looked_at, looked_or, includes_at, there_or_missing, at_include, refusal, located, leads_to, with_source, with_include, with_includes, with_includes_of, found_on, found, missing_file}
+use Rattle.compose_find.specs.Found.{TriedFile, FoundSource, looked_at, includes_at, there_or_missing, at_include, refusal, located, leads_to, with_source, with_include, with_includes, with_includes_of, found_on, missing_file}
 use Rattle.compose_find.specs.declared.fault.IncludeFault.{IncludeFault}
 use Rattle.compose_find.specs.declared.fault.IncludeFault.TheVariants.{TwoFiles, TooManySources, IncludeDepth}
 use Rattle.compose_find.specs.Sources.{LeadsTo, IncludesSource, IsFollowed, AreSources, FindsSources}

@@ -1,5 +1,5 @@
 -- What the search finds: the sources of a table, each of which is the root or included by another one.
-use Rattle.std.specs.Prelude.{◌≡◌, ◌⊎◌, ◌+◌, ◌≤◌, ℕ, List, ◌∷◌, Some, None, Ok, Contains, map, slice_get, bytes_eq}
+use Rattle.std.specs.Prelude.{◌≡◌, ◌⊎◌, ◌+◌, ◌≤◌, ℕ, List, Some, None, Ok, Contains, map, slice_get, bytes_eq}
 use Rattle.std.specs.List.{IsDistinct}
 use Rattle.compose_find.specs.Expand.{Words, include_path, beside}
 use Rattle.compose_find.specs.Includes.{Include}

@@ -1,9 +1,8 @@
 -- What the pass has looked at: the sequences that go on from a node by some of its keys, and in the end all of them.
-use Rattle.std.proofs.Common.{◌≡◌, ℕ, ◌+◌, ◌≤◌, List, [], ◌∷◌, ◌++◌, Bool, true, false, ◌&&◌, ◌||◌, length, map, take, refl, sym, ◌∙◌, ap, inl, inr, eqb-true, eq-eqb}
-use Rattle.std.specs.Prelude.{Some, None, ◌==◌, encode_utf8, slice_get}
+use Rattle.std.proofs.Common.{◌≡◌, ℕ, ◌+◌, ◌≤◌, List, [], ◌∷◌, ◌++◌, Bool, true, false, ◌&&◌, ◌||◌, length, map, take, refl, sym, ◌∙◌, ap, inl, inr, eqb-true}
+use Rattle.std.specs.Prelude.{Some, ◌==◌, encode_utf8, slice_get}
 use Rattle.std.specs.List.{list_any, list_all}
-use Rattle.std.proofs.lemmas.List.{take_more, take_all}
-use Rattle.std.proofs.lemmas.Option.{get_or_from_slice_get, slice_get_cases}
+use Rattle.std.proofs.lemmas.List.{take_all}
 use Rattle.std.proofs.lemmas.List.Folds.{list_any-append}
 use Rattle.std.proofs.lemmas.Bool.{and_parts, and_from, or_cases, or_left, or_right, cases_Bool}
 use Rattle.compose_model.specs.Table.{Definition, same, is_proper_prefix, is_sequence, is_extended, text_at}

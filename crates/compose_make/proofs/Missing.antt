@@ -1,5 +1,5 @@
 -- The characters of the rows that have no keys, once the rows are the least of all candidates.
-use Rattle.std.proofs.Common.{◌≡◌, ℕ, ◌<◌, List, [], ◌∷◌, Bool, true, false, cond, not, ◌&&◌, ◌||◌, refl, sym, ◌∙◌, ap, subst, inl, inr, arith, eqb-true, ltb-true, lt-ltb}
+use Rattle.std.proofs.Common.{◌≡◌, ℕ, ◌<◌, List, [], ◌∷◌, Bool, true, false, cond, not, refl, sym, ◌∙◌, ap, subst, inl, inr, arith, eqb-true, ltb-true, lt-ltb}
 use Rattle.std.specs.Prelude.{Option, Some, None, Result, Ok, Err, IfOk, ◌==◌, nat_lt, is_some}
 use Rattle.std.proofs.lemmas.Bool.{and_parts, and_from, or_cases, or_left, or_right, or_parts}
 use Rattle.keysym_core.specs.Names.{KeysymNames}
@@ -7,7 +7,7 @@ use Rattle.compose_model.specs.Table.{Definition, has_key}
 use Rattle.compose_model.specs.Certificate.{Repertoire, keys_rise}
 use Rattle.compose_read.specs.Settle.{IsSettled}
 use Rattle.compose_fresh.proofs.Positions.{rises_tail}
-use Rattle.compose_make.specs.Least.{IsLeastTyping, AreUntypable}
+use Rattle.compose_make.specs.Least.{AreUntypable}
 use Rattle.compose_make.specs.Candidates.{IsLeastOf}
 use Rattle.compose_make.specs.Wanted.{WantedCharacter, AreLeast, characters_of, all_missing}
 use Rattle.compose_make.proofs.Reduction.{is_candidate, least_typing, untyped}

@@ -1,11 +1,11 @@
 -- The order of typings is total, so the better of two is found by comparing them.
-use Rattle.std.proofs.Common.{◌≡◌, ◌⊎◌, ℕ, ◌<◌, List, Bool, true, false, cond, ◌&&◌, ◌||◌, length, refl, sym, ◌∙◌, ap, inl, inr, arith, lt-ltb, eqb-true, eq-eqb, Ordering, Less, Equal, Greater, nat_cmp}
+use Rattle.std.proofs.Common.{◌≡◌, ◌⊎◌, ℕ, List, Bool, true, false, cond, ◌&&◌, ◌||◌, length, refl, sym, ◌∙◌, ap, inl, inr, arith, eq-eqb, Ordering, Less, Equal, Greater, nat_cmp}
 use Rattle.std.specs.Prelude.{Option, Some, None, ◌==◌, nat_lt}
 use Rattle.std.specs.Ordering.{ordering_reverse, is_lt, ordering_index}
 use Rattle.std.specs.Cmp.Lexicographic.{slice_cmp}
 use Rattle.std.proofs.lemmas.Cmp.{nat_list_cmp_total, is_lt_index}
 use Rattle.std.proofs.lemmas.Map.Lookups.{exact_bytes}
-use Rattle.std.proofs.lemmas.Bool.{and_parts, and_from, or_cases, or_left, or_right, cases_Bool, cases_lt, ltb-true}
+use Rattle.std.proofs.lemmas.Bool.{or_cases, or_left, or_right, cases_Bool, cases_lt, ltb-true}
 use Rattle.compose_model.specs.Table.{same, comes_before}
 use Rattle.compose_model.proofs.NodeLemmas.{same_is, same_from}
 use Rattle.compose_walk.specs.Evidence.{comes_first}

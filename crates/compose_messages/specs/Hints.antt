@@ -1,8 +1,8 @@
 -- Which hint helps against a refusal (this project's profile).
-use Rattle.std.specs.Prelude.{ℕ, Bool, true, false, ◌-◌, ◌||◌, nat_eq, if◌then◌else◌, List, [], Option, Some, None, Result, Ok, Err, get_or, codes}
+use Rattle.std.specs.Prelude.{ℕ, Bool, true, false, ◌-◌, ◌||◌, nat_eq, if◌then◌else◌, List, [], Option, Some, None, Result, Ok, get_or, codes}
 use Rattle.std.specs.List.{ends_with}
 use Rattle.compose_text.specs.Lines.{lines_of}
-use Rattle.compose_lex.specs.Line.{Reading, blank, include, production}
+use Rattle.compose_lex.specs.Line.{Reading, include, production}
 use Rattle.compose_lex.specs.Fault.{reading_of}
 use Rattle.compose_lex.specs.declared.LexFault.{LexFault}
 use Rattle.compose_read.specs.declared.ReadFault.TheVariants.{UnknownKeysym}

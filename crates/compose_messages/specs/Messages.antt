@@ -1,5 +1,5 @@
 -- What is said of a fault (this project's profile), and how it is printed.
-use Rattle.std.specs.Prelude.{ℕ, Bool, true, false, not, ◌-◌, ◌||◌, nat_eq, if◌then◌else◌, List, [], ◌∷◌, ◌++◌, take, drop, Option, Some, None, Result, Ok, Err, get_or, codes}
+use Rattle.std.specs.Prelude.{ℕ, not, ◌-◌, List, [], ◌∷◌, ◌++◌, take, Option, Some, None, codes}
 use Rattle.std.specs.Option.{option_map_or}
 use Rattle.std.specs.Fmt.{decimal}
 use Rattle.compose_lex.specs.declared.LexFault.{LexFault}

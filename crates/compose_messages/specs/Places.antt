@@ -1,5 +1,5 @@
 -- Where a fault stands: its source, its line, and its column in characters.
-use Rattle.std.specs.Prelude.{ℕ, Bool, not, ◌+◌, ◌-◌, ◌==◌, ◌&&◌, nat_lt, if◌then◌else◌, List, [], ◌∷◌, length, take, drop, Option, Some, None, Result, Ok, Err, get_or}
+use Rattle.std.specs.Prelude.{ℕ, Bool, not, ◌+◌, ◌-◌, ◌==◌, ◌&&◌, nat_lt, if◌then◌else◌, List, [], ◌∷◌, length, take, drop, Option, Some, None, Result, Ok, get_or}
 use Rattle.std.specs.Option.{option_map}
 use Rattle.std.specs.List.{count_by, prefix_len}
 use Rattle.std.specs.Str.{is_utf8}
@@ -9,10 +9,10 @@ use Rattle.compose_text.specs.Numbers.{is_between}
 use Rattle.compose_lex.specs.Line.{Reading, production}
 use Rattle.compose_lex.specs.Fault.{reading_of}
 use Rattle.compose_lex.specs.declared.LexFault.{LexFault}
-use Rattle.compose_lex.specs.declared.LexFault.TheVariants.{BadToken, ModifierList, UnclosedString, UnknownEscape, BadCode, NoResult, TooManyKeysyms, EmptyText, TextTooLong, TextNotUtf8}
+use Rattle.compose_lex.specs.declared.LexFault.TheVariants.{BadToken, ModifierList, UnclosedString, UnknownEscape, BadCode, NoResult, TooManyKeysyms}
 use Rattle.compose_read.specs.Lines.{Source, source_lines}
 use Rattle.compose_read.specs.declared.ReadFault.{ReadFault}
-use Rattle.compose_read.specs.declared.ReadFault.TheVariants.{MissingRoot, NotUtf8, Lex, UnknownKeysym, IgnoredKeysym, MissingInclude, IncludeDepth, TooManyLines, TooManyDefinitions, NoMemory}
+use Rattle.compose_read.specs.declared.ReadFault.TheVariants.{NotUtf8, Lex, UnknownKeysym, IgnoredKeysym, MissingInclude, IncludeDepth, TooManyLines, TooManyDefinitions}
 use Rattle.compose_messages.specs.declared.position.Position.{Position}
 
 -- the line with this number, from 1, of the source with this index; nothing where there is none

@@ -1,5 +1,5 @@
 -- What a line has at a fault: a name, or the token that stands where another one is expected.
-use Rattle.std.specs.Prelude.{ℕ, Bool, not, ◌+◌, ◌==◌, if◌then◌else◌, List, [], ◌∷◌, length, take, drop, Option, Some, None, Result, Ok, Err, get_or, codes}
+use Rattle.std.specs.Prelude.{ℕ, ◌+◌, ◌==◌, if◌then◌else◌, List, [], ◌∷◌, length, take, drop, Option, Some, None, Result, Ok, get_or, codes}
 use Rattle.std.specs.Option.{unwrap_or}
 use Rattle.std.specs.List.{list_any, position, prefix_len}
 use Rattle.compose_text.specs.Bytes.{is_blank, is_name_byte, begins}

@@ -1,6 +1,6 @@
 -- What a service that does not start says of how it begins.
 use Rattle.std.proofs.Common.{◌≡◌, ℕ, List}
-use Rattle.std.specs.Prelude.{Result, Ok, Err}
+use Rattle.std.specs.Prelude.{Result, Err}
 use Rattle.keysym_core.specs.Names.{KeysymNames}
 use Rattle.compose_model.specs.Certificate.{Repertoire}
 use Rattle.compose_cert.specs.declared.CertFault.{CertFault}

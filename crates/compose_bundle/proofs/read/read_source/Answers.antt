@@ -1,9 +1,8 @@
-use Rattle.std.proofs.Common.{◌≡◌, ◌≢◌, ◌∙◌, sym, ap, subst, ℕ, List, [], ◌∷◌, ◌++◌, None, Some, rules, true, inl, inr}
+use Rattle.std.proofs.Common.{◌≡◌, ◌∙◌, sym, ap, subst, ℕ, List, [], ◌∷◌, ◌++◌, None, rules, inl, inr}
 use Rattle.std.proofs.lemmas.Str.{is_utf8-from_IsUtf8, IsUtf8-from_is_utf8}
 use Rattle.std.proofs.lemmas.Bool.{cases_Bool}
 use Rattle.std.specs.Str.{is_utf8}
 use Rattle.compose_read.specs.Sources.{add_fault}
-use Rattle.compose_bundle.specs.Decoded.{sized_by_2, sized_by_4}
 use Rattle.compose_bundle.proofs.Bundled.{no_text, one_more}
 use Rattle.compose_bundle.proofs.read.read_source.Goals as goal
 

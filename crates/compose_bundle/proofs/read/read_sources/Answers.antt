@@ -1,4 +1,4 @@
-use Rattle.std.proofs.Common.{◌≡◌, ◌∙◌, ◌+◌, ◌<◌, ℕ, sym, ap, length, length-append, subst, arith, []}
+use Rattle.std.proofs.Common.{◌∙◌, ◌+◌, ℕ, sym, ap, length, length-append, []}
 use Rattle.compose_bundle.specs.Decoded.{more_source, sources_at}
 use Rattle.compose_bundle.proofs.Bundled.{next_source, no_source, not_decoded}
 use Rattle.compose_bundle.proofs.read.read_sources.Goals as goal

@@ -1,4 +1,4 @@
-use Rattle.std.proofs.Common.{◌≡◌, ◌∙◌, ◌<◌, ◌++◌, ℕ, List, length, take, ap, subst, arith}
+use Rattle.std.proofs.Common.{◌≡◌, ◌∙◌, ◌++◌, ℕ, List, length, take, ap, subst, arith}
 use Rattle.std.specs.List.{AllByRecursion}
 use Rattle.compose_bundle.specs.Bundle.{source_bytes}
 use Rattle.compose_bundle.specs.Written.{HasLengths, so_far}

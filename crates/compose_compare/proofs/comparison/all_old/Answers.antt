@@ -1,4 +1,4 @@
-use Rattle.std.proofs.Common.{◌≡◌, ◌∙◌, ◌+◌, ◌-◌, ◌<◌, ◌≤◌, List, ℕ, [], ◌∷◌, ◌++◌, length, take, drop, sym, ap, subst, arith, rules}
+use Rattle.std.proofs.Common.{◌≡◌, ◌∙◌, ◌-◌, List, ℕ, length, drop, subst, arith, rules}
 use Rattle.std.proofs.lemmas.List.{take_at}
 use Rattle.compose_model.specs.Table.{is_proper_prefix}
 use Rattle.compose_model.proofs.NodeLemmas.{node_zero}

@@ -1,9 +1,9 @@
-use Rattle.std.proofs.Common.{◌≡◌, ◌∙◌, ◌≤◌, ◌<◌, ◌+◌, ℕ, List, ◌∷◌, ◌++◌, [], Bool, not, ◌&&◌, length, set, take, cond, Option, None, Some, sym, ap, subst, arith}
+use Rattle.std.proofs.Common.{◌≡◌, ◌∙◌, ◌+◌, ℕ, List, ◌∷◌, ◌++◌, [], not, ◌&&◌, length, set, take, cond, Option, None, Some, sym, ap, subst, arith}
 use Rattle.std.specs.Prelude.{◌==◌}
 use Rattle.std.proofs.lemmas.List.{length-set}
 use Rattle.keysym_core.specs.Names as model
 use Rattle.keysym_core.specs.Names.{KeysymNames}
-use Rattle.compose_model.specs.Nodes.{nodes, node, edges, leaves, has_edge}
+use Rattle.compose_model.specs.Nodes.{node, edges, has_edge}
 use Rattle.compose_model.specs.Table.{Definition, same, has_key, is_proper_prefix, is_sequence, text_at}
 use Rattle.compose_tree.specs.Targets.{leaf_number}
 use Rattle.compose_tree.proofs.Steps.{leaf_below}

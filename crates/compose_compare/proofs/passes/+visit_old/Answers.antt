@@ -1,7 +1,7 @@
-use Rattle.std.proofs.Common.{◌≡◌, ◌∙◌, ◌≤◌, ◌<◌, ◌+◌, ℕ, List, ◌∷◌, ◌++◌, [], length, set, take, sym, ap, subst, arith}
+use Rattle.std.proofs.Common.{◌≡◌, ◌∙◌, ◌+◌, ℕ, List, ◌∷◌, ◌++◌, [], length, set, take, sym, ap, subst, arith}
 use Rattle.std.specs.Prelude.{is_some}
 use Rattle.std.proofs.lemmas.List.{length-set}
-use Rattle.compose_model.specs.Nodes.{nodes, node, edges, leaves}
+use Rattle.compose_model.specs.Nodes.{node, edges}
 use Rattle.compose_model.specs.Table.{is_proper_prefix}
 use Rattle.compose_tree.specs.Targets.{leaf_number}
 use Rattle.compose_tree.proofs.Steps.{leaf_below}

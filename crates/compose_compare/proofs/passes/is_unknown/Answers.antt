@@ -1,7 +1,6 @@
-use Rattle.std.proofs.Common.{◌≡◌, true, false, not, ◌&&◌, sym, ◌∙◌, ap}
+use Rattle.std.proofs.Common.{not, ◌&&◌, sym, ◌∙◌, ap}
 use Rattle.std.specs.Prelude.{is_some}
 use Rattle.compose_model.specs.Table.{has_key}
-use Rattle.compose_model.specs.Nodes.{has_edge}
 use Rattle.compose_walk.proofs.Starts.{root_below}
 use Rattle.compose_compare.proofs.Placed.{root_edge}
 use Rattle.compose_compare.proofs.passes.is_unknown.Goals as goal

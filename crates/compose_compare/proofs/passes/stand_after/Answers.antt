@@ -1,9 +1,8 @@
-use Rattle.std.proofs.Common.{◌≡◌, sym, ◌∙◌, ap, Some}
+use Rattle.std.proofs.Common.{sym, ◌∙◌, ap}
 use Rattle.std.specs.Prelude.{is_some}
 use Rattle.compose_model.specs.Nodes.{node}
 use Rattle.compose_tree.proofs.Steps.{target_fed}
 use Rattle.compose_walk.proofs.NodeNumbers.{node_is_node}
-use Rattle.compose_compare.specs.Passes.{stand_of}
 use Rattle.compose_compare.proofs.Placed.{stood_below, still_lost, now_lost, stands_next}
 use Rattle.compose_compare.proofs.passes.stand_after.Goals as goal
 

@@ -1,4 +1,4 @@
-use Rattle.std.proofs.Common.{◌≡◌, ◌∙◌, List, ℕ, map, sym, subst}
+use Rattle.std.proofs.Common.{◌≡◌, List, ℕ, map, subst}
 use Rattle.std.specs.Prelude.{Result, IfOk}
 use Rattle.compose_model.specs.Table.{Definition}
 use Rattle.compose_model.specs.Nodes.{leaves}

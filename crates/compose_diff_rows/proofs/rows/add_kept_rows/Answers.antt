@@ -1,5 +1,4 @@
-use Rattle.std.proofs.Common.{◌∙◌, ℕ, List, Bool, ◌<◌, ◌++◌, ◌∷◌, [], length, map, not, sym, refl, ap, append_assoc, arith}
-use Rattle.std.proofs.lemmas.List.{append-nil}
+use Rattle.std.proofs.Common.{◌∙◌, ℕ, List, Bool, ◌<◌, ◌++◌, ◌∷◌, [], length, not, sym, ap, append_assoc, arith}
 use Rattle.compose_model.specs.Nodes.{leaves}
 use Rattle.compose_diff_rows.specs.Rows.{written, told_row, kept_row, is_told, is_told_of}
 use Rattle.compose_diff_rows.proofs.RowsSoFar.{told_added, not_told, old_change_at}

@@ -1,10 +1,9 @@
-use Rattle.std.proofs.Common.{◌≡◌, ◌∙◌, List, map, sym, ap, subst}
+use Rattle.std.proofs.Common.{◌∙◌, map, sym, ap, subst}
 use Rattle.compose_places.specs.Counting.{AreLines}
 use Rattle.compose_answer.specs.Parts.{Explainable}
-use Rattle.compose_diff.specs.declared.row.DiffRow.{DiffRow}
 use Rattle.compose_diff_rows.specs.Answers.{Asked, asked}
 use Rattle.compose_diff_rows.specs.Rows.{Written, told_sequence}
-use Rattle.compose_diff_rows.specs.Steps.{TellsRows, placed_parts}
+use Rattle.compose_diff_rows.specs.Steps.{placed_parts}
 use Rattle.compose_diff_rows.proofs.FirstRead.{root_lines_are}
 use Rattle.compose_diff_rows.proofs.RowsAre.{rows_are, rows_told}
 use Rattle.compose_diff_rows.proofs.telling.answer_tables.Goals as goal

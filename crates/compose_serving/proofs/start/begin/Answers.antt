@@ -1,4 +1,4 @@
-use Rattle.std.proofs.Common.{◌≡◌, sym, subst, rules}
+use Rattle.std.proofs.Common.{sym, subst, rules}
 use Rattle.std.specs.Prelude.{Err}
 use Rattle.compose_tree.specs.TableGives.{first_table}
 use Rattle.compose_cert.specs.Reading.{certificate_of}

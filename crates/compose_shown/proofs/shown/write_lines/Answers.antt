@@ -1,6 +1,5 @@
 use Rattle.std.proofs.Common.{rules, List, [], ◌∷◌, ◌++◌, ℕ, flat_map, sym, ap, ◌∙◌, subst}
 use Rattle.std.specs.Fmt.{HasWritten}
-use Rattle.std.specs.Str.{chars}
 use Rattle.std.proofs.lemmas.Grind.{put_two, flat_map-append}
 use Rattle.std.proofs.lemmas.List.{map-id, append-nil}
 use Rattle.std.proofs.lemmas.Iterator.{YieldsList-from_chars}
