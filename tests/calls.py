@@ -11,13 +11,13 @@ At the end come calls that are wrong on purpose, each of which has to be told. T
 
 Where each public call that takes memory is called with ample memory, and its answer compared:
 
-  Names::core, look_up_keys                          compose_text_tests/keysyms, compose_examples/tables
+  Names::core, look_up_keys                          compose_examples/keysyms, compose_examples/tables
   Names::read                                        here; tests/cases/names-*
-  Names::print, quote, unescape, push_text           compose_text_tests/keysyms, compose_text_tests/lines; tests/cases/prints-*, text-*
-  Sources::add                                       here; compose_text_tests/sources
-  read_definitions, settle                           compose_text_tests/sources
-  ComposeTable::build, read_table, read_first_table  compose_table_tests/tables; tests/cases
-  Certificate::read, write_text; Repertoire::read    compose_text_tests/certificates; tests/cases/check-*, repertoire-*
+  Names::print, quote, unescape, push_text           compose_examples/keysyms, compose_examples/lines; tests/cases/prints-*, text-*
+  Sources::add                                       here; compose_examples/sources
+  read_definitions, settle                           compose_examples/sources
+  ComposeTable::build, read_table, read_first_table  compose_examples/forms; tests/cases
+  Certificate::read, write_text; Repertoire::read    compose_examples/certificates; tests/cases/check-*, repertoire-*
   Migration::read, Named::read                       tests/cases/check-*, explain-*
   check_bytes                                        here; devices.py
   walk, differences                                  compose_examples/explaining, compose_examples/differing
@@ -26,7 +26,7 @@ Where each public call that takes memory is called with ample memory, and its an
   explain, explain_all                               here; tests/cases/explain-*
   compare                                            compose_examples/telling; diff.py
   write_bundle, read_bundle                          here (read_bundle by the loads)
-  Feeder::feed, Feeder::next_request                 here; compose_table_tests/frames
+  Feeder::feed, Feeder::next_request                 here; compose_examples/frames
   Service::start                                     here; service.py
   Service::answer (Open, Load, LoadLongest)          here; service.py, streams.py
   Service::run                                       here

@@ -88,20 +88,13 @@ def without_a_line(names_of, lines):
     return [f"{crate}/{name}" for crate, names in names_of.items() for name in names if f"{crate}/{name}" not in said]
 
 
-def prove(flags, names_of):
-    """Runs `rt ci` and prints what it says; the counts, and the lines of the table of what each crate took."""
-    if "--whole" in flags:
-        lines, (passed, failed) = follow(["rt", "ci"])
-        table = []
-    else:
-        with tempfile.TemporaryDirectory(prefix="gate-") as room:
-            file = os.path.join(room, "measured")
-            lines, (passed, failed) = follow(script("proofs.py", file, *flags))
-            table = measured.table_of(measured.rows_of(file), {it: len(names) for it, names in names_of.items()}) if os.path.isfile(file) else []
+def prove(flags, file, names_of):
+    """Runs `rt ci` and prints what it says; its counts. What each check took is added to a file."""
+    lines, (passed, failed) = follow(["rt", "ci"] if "--whole" in flags else script("proofs.py", file, *flags))
     lost = without_a_line(names_of, lines)
     for it in lost:
         print(f"gate: must-fail {it}: NO LINE says whether the prover refuses it")
-    return (passed, failed + len(lost)), table
+    return passed, failed + len(lost)
 
 
 def use_all_processors(rt):
@@ -117,7 +110,8 @@ def commands():
     plain, trials = built("composecheck_list"), built("compose_trials")
     runs = [(it, program) for it in ("refusals.py", "diff.py", "run.py", "service.py") for program in (PROGRAM, plain)]
     runs += [("devices.py", trials), ("calls.py", trials)]
-    runs += [(it, PROGRAM) for it in ("packages.py", "lex_reference.py", "at_once.py", "streams.py", "limits.py", "outputs.py", "ci.py", "readme.py")]
+    runs += [("limits.py", PROGRAM), ("limits.py", plain)]
+    runs += [(it, PROGRAM) for it in ("packages.py", "lex_reference.py", "at_once.py", "streams.py", "outputs.py", "ci.py", "readme.py")]
     return [script(*it) for it in runs]
 
 
@@ -125,12 +119,14 @@ def main():
     began = time.monotonic()
     rt = edits.load_rt()
     use_all_processors(rt)
-    with concurrent.futures.ThreadPoolExecutor(rt.processors()) as pool:
-        beside = [pool.submit(follow, ["nice", *script(it)], is_quiet=True) for it in ("edits_test.py", "examples.py")]
-        counts, table = prove(sys.argv[1:], edits_by_crate())
-        every = [counts, *(told(*it.result()) for it in beside)]
+    names_of = edits_by_crate()
+    with tempfile.TemporaryDirectory(prefix="gate-") as room, concurrent.futures.ThreadPoolExecutor(rt.processors()) as pool:
+        file = os.path.join(room, "measured")
+        beside = [pool.submit(follow, ["nice", *it], is_quiet=True) for it in (script("edits_test.py"), script("examples.py", file))]
+        every = [prove(sys.argv[1:], file, names_of), *(told(*it.result()) for it in beside)]
         if not any(failed for _, failed in every):
             every += [told(*it) for it in pool.map(lambda it: follow(it, is_quiet=True), commands())]
+        table = measured.table_of(measured.rows_of(file), {it: len(names) for it, names in names_of.items()})
     passed, failed = map(sum, zip(*every))
     used = resource.getrusage(resource.RUSAGE_CHILDREN)
     print("\n".join(["", *table, ""]))

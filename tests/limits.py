@@ -1,8 +1,9 @@
 #!/usr/bin/env python3
-"""limits.py PROGRAM: repertoires and certificates at their greatest counts, and with one more. Such an input is told by its fault, and never as
-being out of memory. The last line is `N passed, M failed`.
+"""limits.py PROGRAM: tables, repertoires and certificates at their greatest counts, and with one more. Such an input is told by its fault, and
+never as being out of memory. The last line is `N passed, M failed`.
 
-The tables are empty, so that a repertoire of keys alone is checked to `yes` by the certificate of an empty table."""
+Repertoires and certificates are checked with an empty table, so that a repertoire of keys alone is checked to `yes` by the certificate of that
+table."""
 import os
 import subprocess
 import sys
@@ -29,8 +30,30 @@ def characters(count):
     return "".join(f"U+{it:04X}\n" for it in [*range(0xD800), *range(0xE000, 0x12000)][:count])
 
 
+def including(depth):
+    """A chain of so many includes, of a source each."""
+    return {f"s{it}": f'include "s{it + 1}"\n' for it in range(depth)} | {f"s{depth}": ""}
+
+
+def sequences(count):
+    """So many sequences of 32 keysyms that share none of their nodes but the root: each has 31 nodes of its own, and a leaf."""
+    return {"s0": "".join(f"<0x{it:x}>{'<a>' * 31}:\"x\"\n" for it in range(0x100_0100, 0x100_0100 + count))}
+
+
+# A name, the sources by their names, the root first, a key, what is printed, and the status.
+TABLES = [
+    ("the most lines", {"s0": "\n" * 1_000_000}, "a", 'nothing "a"\n', 0),
+    ("a line more", {"s0": "\n" * 1_000_001}, "a", "refused: table: 1 Read: 8 TooManyLines source=0 line=1000001\n", 2),
+    ("the most definitions", {"s0": '<a> : "x"\n' * 100_000}, "a", 'composed "x"\n', 0),
+    ("a definition more", {"s0": '<a> : "x"\n' * 100_001}, "a", "refused: table: 1 Read: 9 TooManyDefinitions source=0 line=100001\n", 2),
+    ("a chain of eight includes", including(8), "a", 'nothing "a"\n', 0),
+    ("a chain of nine includes", including(9), "a", "refused: table: 1 Read: 7 IncludeDepth source=8 line=1\n", 2),
+    # (1 + 33,825 × 31 is 1,048,576)
+    ("the most nodes", sequences(33_825), "0x1000100", 'composing ""\n', 0),
+    ("a sequence more than the most nodes", sequences(33_826), "0x1000100", "refused: table: 3 Build: 1 TooManyNodes\n", 2),
+]
 # A name, the repertoire, the certificate, what is printed, and the status.
-TRIALS = [
+CHECKS = [
     ("the most key lines", keys(MOST_LINES), EMPTY, "yes\n", 0),
     ("a key line more", keys(MOST_LINES + 1), EMPTY, "refused: repertoire: 3 TooMany\n", 2),
     ("the most characters, of which none has a typing", characters(MOST_LINES), EMPTY, "no: 10 TypingMissing char=U+0000\n", 1),
@@ -44,22 +67,37 @@ TRIALS = [
 ]
 
 
+def put(folder, files):
+    """Writes these files into a folder."""
+    for name, text in files.items():
+        with open(os.path.join(folder, name), "w", encoding="utf-8") as file:
+            file.write(text)
+
+
+def trials():
+    """Gives each trial: its name, its files, the command, what it is to print, and its status."""
+    for what, sources, key, wanted, status in TABLES:
+        manifest = "".join(f"{name}\t{name}.compose\n" for name in sources)
+        files = {f"{name}.compose": text for name, text in sources.items()} | {"manifest": manifest}
+        yield what, files, ["type", "manifest", key], wanted, status
+    empty = {"empty.compose": "", "manifest": "root\tempty.compose\n"}
+    for what, repertoire, certificate, wanted, status in CHECKS:
+        files = empty | {"repertoire": repertoire, "certificate": certificate}
+        yield what, files, ["check", "manifest", "manifest", "repertoire", "certificate"], wanted, status
+
+
 def main():
-    program, failed = os.path.abspath(sys.argv[1]), 0
+    program, passed, failed = os.path.abspath(sys.argv[1]), 0, 0
     with tempfile.TemporaryDirectory(prefix="limits-") as folder:
-        for name, text in (("empty.compose", ""), ("manifest", "root\tempty.compose\n")):
-            with open(os.path.join(folder, name), "w", encoding="utf-8") as file:
-                file.write(text)
-        for what, repertoire, certificate, wanted, status in TRIALS:
-            for name, text in (("repertoire", repertoire), ("certificate", certificate)):
-                with open(os.path.join(folder, name), "w", encoding="utf-8") as file:
-                    file.write(text)
-            words = [program, "check", "manifest", "manifest", "repertoire", "certificate"]
-            ran = subprocess.run(words, cwd=folder, stdout=subprocess.PIPE, stderr=subprocess.STDOUT, text=True, timeout=60)
-            if (ran.stdout, ran.returncode) != (wanted, status):
+        for what, files, words, wanted, status in trials():
+            put(folder, files)
+            ran = subprocess.run([program, *words], cwd=folder, stdout=subprocess.PIPE, stderr=subprocess.STDOUT, text=True, timeout=60)
+            if (ran.stdout, ran.returncode) == (wanted, status):
+                passed += 1
+            else:
                 failed += 1
-                print(f"FAILED: {what}: printed {ran.stdout!r} with status {ran.returncode}, not {wanted!r} with {status}")
-    print(f"{len(TRIALS) - failed} passed, {failed} failed")
+                print(f"FAILED: {what}: printed {ran.stdout!r:.300} with status {ran.returncode}, not {wanted!r} with {status}")
+    print(f"{passed} passed, {failed} failed")
     return 1 if failed else 0
 
 

@@ -1,4 +1,5 @@
-"""The processor time that each crate takes: measured as its checks run, printed as the table of docs/ARCHITECTURE.md, and read from there."""
+"""The processor time that each crate takes: measured as its checks and its tests run, printed as the table of docs/ARCHITECTURE.md, and read from
+there."""
 import collections
 import os
 import re
@@ -6,7 +7,7 @@ import sys
 
 TOP = os.path.dirname(os.path.dirname(os.path.abspath(__file__)))
 TABLE = os.path.join(TOP, "docs", "ARCHITECTURE.md")
-HEAD = "| Crate | Proof s | Its tests' proof s | Edits s | Edits | Proof, wall s | Most memory GB |"
+HEAD = "| Crate | Proof s | Its tests s | Edits s | Edits | Proof, wall s | Most memory GB |"
 KINDS = ("proof", "tests", "edits")
 # Runs a command, and adds a line to a file: the crate, the kind of check, its processor seconds, its wall seconds and its memory in bytes.
 METER = """
@@ -15,7 +16,7 @@ file, words, began = sys.argv[1], sys.argv[2:], time.monotonic()
 _, status, used = os.wait4(os.posix_spawnp(words[0], words, os.environ, setsigdef=[signal.SIGPIPE, signal.SIGXFSZ]), 0)
 if "--crate-name" in words:
     crate = words[words.index("--crate-name") + 1]
-    kind = "tests" if "--test" in words else "edits" if "--incremental" in words else "proof"
+    kind = "edits" if "--incremental" in words else "proof"
     row = f"{crate} {kind} {used.ru_utime + used.ru_stime:.1f} {time.monotonic() - began:.1f} {used.ru_maxrss * 1024}\\n"
     with open(file, "a") as it:
         it.write(row)
@@ -29,6 +30,12 @@ def measure(rtlib, file):
     """Has each check that the kit starts from here on be measured into a file."""
     guarded = rtlib.guarded
     rtlib.guarded = lambda: [*guarded(), sys.executable, "-ISc", METER, file]
+
+
+def add(file, crate, kind, processor, wall, memory):
+    """Adds to a file what something took, as METER does."""
+    with open(file, "a", encoding="utf-8") as rows:
+        rows.write(f"{crate} {kind} {processor:.1f} {wall:.1f} {memory}\n")
 
 
 def rows_of(file):

@@ -7,7 +7,7 @@
 library is built with its proofs in it, which `rt ci` leaves out. These are the kept work over which its edits are tried (edits.py).
 All else of `rt ci` stays as it is: what a run passed is kept on this machine, by the checksums of all that it read, and what is kept
 is not proved or tried again, but with --anew. With names it does these crates and those below them, on a copy, as `rt ci CRATE ..`
-does. What each check took is written to FILE. The tests of some crates are not proved, but run by examples.py.
+does. What each check took is written to FILE. Tests are not proved here, but run by examples.py.
 """
 import hashlib
 import json
@@ -16,7 +16,6 @@ import shutil
 import sys
 
 import edits
-import examples
 import measured
 
 
@@ -65,10 +64,10 @@ class Gate:
 
     def __init__(self, rt, file):
         self.rt = rt
-        self.crate_ci, self.in_lanes, self.has_tests = rt.Crate.ci, rt.in_lanes, rt.Crate.has_tests
+        self.crate_ci, self.in_lanes = rt.Crate.ci, rt.in_lanes
         measured.measure(rt.rtlib, file)
         rt.Crate.ci = lambda crate, flags, tests: self.prove(crate, flags, tests)
-        rt.Crate.has_tests = lambda crate: crate.name not in examples.CRATES and self.has_tests(crate)
+        rt.Crate.has_tests = lambda crate: False
         rt.add_edits, rt.in_lanes = self.add_edits, self.in_measured_lanes
 
     def prove(self, crate, flags, tests):

@@ -189,6 +189,13 @@ def check_cuts(program, results):
         results.expect("all connections ended", service.ended()[2], 0)
 
 
+def check_greatest_load(program, results):
+    """The greatest load, which is no bundle, is read whole, and so is the request behind it."""
+    sent = frame(7, 0, (bytes(range(251)) * 33_422)[:8_388_608]) + OPEN_7
+    with Serving(program) as service:
+        results.expect("the greatest load", service.exchange(sent), refused(0, 5) + OPENED_7)
+
+
 def check_overlaps(program, results):
     """A load whose table has an overlap is refused, or the longer sequence counts, by the kind of the load."""
     table, fresh = b'<a> <b> : "x"\n<a> : "y"\n', b"compose-certificate 2\nbound 1\npairs 1\n0 0\ntypings 0\nfresh 1\n61\n"
@@ -347,7 +354,7 @@ def check_client_commands(program, results):
 
 def main():
     program, results = os.path.abspath(sys.argv[1]), Results()
-    for check in (check_worked, check_cuts, check_overlaps, check_start, check_clients, check_socket_file, check_signal, check_handed_over, check_client_commands):
+    for check in (check_worked, check_cuts, check_greatest_load, check_overlaps, check_start, check_clients, check_socket_file, check_signal, check_handed_over, check_client_commands):
         check(program, results)
     print(f"{results.passed} passed, {results.failed} failed")
     return 1 if results.failed else 0

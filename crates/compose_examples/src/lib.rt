@@ -1,8 +1,14 @@
-//! What no case of tests/cases can show: an old and a new table of different forms, loads of a state, printed faults that no command
-//! prints, and the texts of `diff`. Each test is a worked example, as: where the old table has `<a> <b> : "x"` and the new one
-//! `<a> <b> : "y"`, the shortest list of keys on which they differ is a, b.
+//! Worked examples, as tests: what is read from texts, tables in both forms, the bytes of requests and replies, and what no case of
+//! tests/cases can show of the commands, as an old and a new table of different forms, or faults that no command prints. So where the old
+//! table has `<a> <b> : "x"` and the new one `<a> <b> : "y"`, the shortest list of keys on which they differ is a, b.
+//!
+//! An example is a row of a table: what a function of the libraries is called with, and what it has to give. That is written down by hand,
+//! and never taken from the program. Most functions here call one function of the libraries, so that the contract of that one stays out of
+//! the proofs of the others.
 #![tactic(auto)]
 
+#[cfg(test)]
+mod certificates;
 #[cfg(test)]
 mod checking;
 #[cfg(test)]
@@ -12,6 +18,16 @@ mod explaining;
 #[cfg(test)]
 mod faults;
 #[cfg(test)]
+mod forms;
+#[cfg(test)]
+mod frames;
+#[cfg(test)]
+mod helpers;
+#[cfg(test)]
+mod keysyms;
+#[cfg(test)]
+mod lines;
+#[cfg(test)]
 mod loading;
 #[cfg(test)]
 mod losing;
@@ -20,10 +36,16 @@ mod making;
 #[cfg(test)]
 mod messages;
 #[cfg(test)]
+mod places;
+#[cfg(test)]
 mod rows;
+#[cfg(test)]
+mod sources;
 #[cfg(test)]
 mod tables;
 #[cfg(test)]
 mod telling;
 #[cfg(test)]
 mod typings;
+#[cfg(test)]
+mod visited;

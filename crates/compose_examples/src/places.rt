@@ -126,7 +126,7 @@ fn expect_places(
 
 /// Expects the places of a row, and none from a root that is missing.
 fn expect_places_of(rt: &impl Abort, alloc: Global, row: &TableRow) -> Result<(), SourceFault> {
-    let sources = two_sources(alloc, row.root, row.included)?;
+    let sources = two_sources(alloc, row.root.as_bytes(), row.included)?;
     expect_places(rt, alloc, &sources, "r", row.places)?;
     expect_places(rt, alloc, &sources, "R", "")?;
     Ok(())
@@ -226,7 +226,7 @@ fn expect_last_of_row<T: ComposeTable>(
     names: &Names,
     row: &TableRow,
 ) -> Result<(), Fail> {
-    let sources = two_sources(alloc, row.root, row.included)?;
+    let sources = two_sources(alloc, row.root.as_bytes(), row.included)?;
     expect_last::<T>(rt, alloc, names, &sources, &sources, row.last)
 }
 
@@ -254,13 +254,13 @@ fn expect_last_by(
     text: &str,
     prints: &str,
 ) -> Result<(), Fail> {
-    let sources = two_sources(alloc, text, "")?;
+    let sources = two_sources(alloc, text.as_bytes(), "")?;
     expect_last::<PackedTable>(rt, alloc, names, defined, &sources, prints)
 }
 
 /// A sequence of the table that no definition has is without a last one.
 fn expect_last_of_another(rt: &impl Abort, alloc: Global, names: &Names) -> Result<(), Fail> {
-    let defined = two_sources(alloc, "<c> : \"1\"\n<b> : \"2\"\n<a> <a> : \"3\"\n", "")?;
+    let defined = two_sources(alloc, b"<c> : \"1\"\n<b> : \"2\"\n<a> <a> : \"3\"\n", "")?;
     let text = "<a> : \"x\"\n<b> : \"y\"\n<c> <c> : \"z\"\n";
     expect_last_by(rt, alloc, names, &defined, text, "none 1 none ")
 }
@@ -336,7 +336,7 @@ fn expect_lines(
     names: &Names,
     row: &CountingRow,
 ) -> Result<(), Fail> {
-    let sources = two_sources(alloc, row.root, row.included)?;
+    let sources = two_sources(alloc, row.root.as_bytes(), row.included)?;
     expect_counting::<ListTable>(rt, alloc, names, &sources, row.lines)?;
     expect_counting::<PackedTable>(rt, alloc, names, &sources, row.lines)
 }
@@ -398,7 +398,7 @@ fn written_sources(alloc: Global, line: &str) -> Result<Sources, SourceFault> {
     let mut root = String::from_str(alloc, "\u{feff}<b> : \"x\"\n")?;
     root.push_str(line)?;
     root.push_str("\n<c> : \"x\"")?;
-    two_sources(alloc, &root, line)
+    two_sources(alloc, root.as_bytes(), line)
 }
 
 fn expect_written(rt: &impl Abort, alloc: Global, row: &WrittenRow) -> Result<(), SourceFault> {
@@ -424,7 +424,11 @@ fn expect_by_number(rt: &impl Abort, alloc: Global, sources: &Sources) -> Result
 
 #[test]
 fn written_lines_by_number(rt: HostRuntime) -> Result<(), SourceFault> {
-    let sources = two_sources(rt.alloc(), "\u{feff}<b> : \"x\"\n\n<c> : \"x\"\n", "")?;
+    let sources = two_sources(
+        rt.alloc(),
+        "\u{feff}<b> : \"x\"\n\n<c> : \"x\"\n".as_bytes(),
+        "",
+    )?;
     expect_by_number(&rt, rt.alloc(), &sources)?;
     Ok(())
 }

@@ -246,68 +246,6 @@ fn fault_texts(rt: HostRuntime) -> Result<(), AllocError> {
     Ok(())
 }
 
-/// Feeds the bytes of the greatest load one by one, and expects no request before the last one.
-fn feed_load(rt: &impl Abort, alloc: Global, feeder: &mut Feeder) -> Result<(), WireFault> {
-    for byte in [7, 0, 0, 0, 3, 0, 0x80, 0, 0] {
-        feed(feeder, &[byte])?;
-    }
-    for count in 0..8_388_608u32 {
-        assert!(rt;
-            next(feeder, alloc)?.is_none(),
-            "a request before byte {count}"
-        );
-        feed(feeder, &[(count % 251) as u8])?;
-    }
-    Ok(())
-}
-
-/// The payload of a load by the longest sequences.
-fn longest_of(request: &Request) -> Option<&[u8]> {
-    match &request.body {
-        Body::LoadLongest(payload) => Some(payload.as_slice()),
-        _ => None,
-    }
-}
-
-/// Expects the bytes of the greatest load.
-fn expect_load(rt: &impl Abort, bytes: &[u8]) {
-    assert_eq!(rt; bytes.len(), 8_388_608);
-    for (index, byte) in bytes.iter().enumerate() {
-        assert!(rt; index % 251 == *byte as usize, "byte {index}");
-    }
-}
-
-/// Expects the greatest load, and then a request that is printed so.
-fn expect_load_and_close(rt: &impl Abort, alloc: Global, feeder: &mut Feeder) -> Result<(), Fail> {
-    let load = next(feeder, alloc)?.ok_or("no load")?;
-    assert_eq!(rt; feeder.held(), 9);
-    expect_load(rt, longest_of(&load).ok_or("not the longest")?);
-    let close = "Request { session: 3, body: Close };";
-    let mut text = String::new(alloc);
-    let fault = take_all(alloc, feeder, &mut text)?;
-    expect_text(rt, close, &text, close);
-    let found = End {
-        fault,
-        held: feeder.held(),
-    };
-    let wanted = End {
-        fault: None,
-        held: 0,
-    };
-    expect_end(rt, close, found, wanted);
-    Ok(())
-}
-
-/// The greatest load comes byte by byte, and a close behind it.
-#[test]
-fn greatest_load(rt: HostRuntime) -> Result<(), Fail> {
-    let alloc = rt.alloc();
-    let mut feeder = Feeder::new(alloc);
-    feed_load(&rt, alloc, &mut feeder)?;
-    feed(&mut feeder, &[4, 0, 0, 0, 3, 0, 0, 0, 0])?;
-    expect_load_and_close(&rt, alloc, &mut feeder)
-}
-
 /// The next number by chance.
 fn by_chance_behind(seed: u32) -> u32 {
     let mut next = seed;
