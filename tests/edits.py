@@ -4,9 +4,9 @@
   edits.py [--jobs N] [CRATE | CRATE/EDIT ..]
 
 An edit, crates/CRATE/must-fail/NAME.edit, turns the meaning of one function, and the prover must refuse that very function. Edits of
-different functions of a crate share one check, over what the proof of the crate kept. An edit is refused there only if the line of
-its own function says that a goal of that function is not proved: a function that only calls a refused one has another line. What no
-such check can judge is tried alone, by the rule of `rt must-fail`. Afterwards the same functions are checked unedited, or the whole crate
+different functions of a crate share one check, over what the proof of the crate kept. An edit is refused there only if the check says
+of its own function that a goal of that function is not proved: of a function that only calls a refused one it says something else. What
+no such check can judge is tried alone, by the rule of `rt must-fail`. Afterwards the same functions are checked unedited, or the whole crate
 where an edit was tried alone, over the same kept work, so that bad kept work cannot refuse anything.
 
 Run it at the top of the repository, with the kit's `rt` on PATH. What is not proved yet is proved first. Each edit has one line:
@@ -23,6 +23,7 @@ The last line is 'N passed, M failed'. The status is 1 if an edit failed, and 13
 import argparse
 import collections
 import contextlib
+import copy
 import glob
 import importlib.machinery
 import importlib.util
@@ -44,6 +45,12 @@ MEMORY = 2_600_000_000
 # A function as rt fmt lays it out: no line between its first and its last begins at its indent, but those that its head and its body are written on.
 FUNCTION = re.compile(r"^( *)(?:pub(?:\(\w+\))? )?(?:const )?(?:unsafe )?fn (\w+).*(?:\n(?:\1(?: .*|\).*|\{|where.*))?)*?\n\1\}$", re.M)
 IMPL = re.compile(r"(?:unsafe )?impl(?:<(?:[^<>]|<[^<>]*>)*>)? (?:(.*) for )?(.*) \{")
+# A goal that is not proved: such notes stand above the line of their function, and behind the line of the item before.
+OPEN_GOAL = re.compile(r"note: src/\S+ it is not proved that .*?\(`([^`]+)`\)(?:;|$)")
+ITEM = re.compile(r"(?:fn|impl|struct|enum|trait) ")
+# Answers that rattle refuses. Of a function with unproved goals and none refused it prints what to write into its file of answers, for which
+# it goes through these goals once more: over all edits that took a quarter of the time.
+REFUSED_ANSWERS = "use Rattle.std.proofs.Common.{nothing-has-this-name}\n"
 # What a proof file says of a name that the edit took away. As rt has it, that says little of the contract.
 TAKEN = re.compile(r"has no field|is not in scope|has no `")
 WEAK = "but only because a proof file names what the edit took away: change a value and keep the names"
@@ -137,17 +144,32 @@ def merged(folder, batch):
     return texts
 
 
+def open_goals(said, function):
+    """Returns the goals of the function that the check did not prove, and what its line says, if it has one."""
+    goals = []
+    for line in said.split("\n"):
+        if found := OPEN_GOAL.match(line):
+            goals.append(found[1])
+        elif line.startswith(f"fn {function}: "):
+            return goals, line.removeprefix(f"fn {function}: ")
+        elif ITEM.match(line):
+            goals = []
+    return [], None
+
+
 def own_refusal(said, function):
     """Returns a goal of the function's own that the check did not prove, or None. That a callee is refused is none."""
-    line = re.search(rf"^fn {re.escape(function)}: (.*)", said, re.M)
-    if goal := line and re.search(r"did not prove `([^`]+)`", line[1]):
-        return goal[1]
+    goals, line = open_goals(said, function)
+    if not line or line.startswith("proved"):
+        return None
+    if goals:
+        return goals[0]
     # (a function that calls itself has its proofs in a folder whose name begins with `+`)
     *above, name = map(re.escape, function.split("::")[1:])
     folder = "/".join([*above, rf"\+?{name}"])
     errors = re.findall(rf"^(?:\./)?proofs/{folder}/\w+\.antt:\d+:\d+: error: (`.*(?:\n .*)*)", said, re.M)
     errors = [it for it in errors if "was not admitted" not in it]
-    if not errors or not line or not line[1].startswith("not proved"):
+    if not errors or not line.startswith("not proved"):
         return None
     real = [it for it in errors if not TAKEN.search(it)]
     return real[0].split("`")[1] if real else f"{errors[0].split('`')[1]}, {WEAK}"
@@ -168,15 +190,30 @@ class Trial:
         self.rt, self.crate, self.kept, self.room, self.results, self.prepare = rt, crate, kept, room, results, prepare or self.proof
         self.files = [it for it in rt.edits_of(crate)[0] if is_asked(os.path.basename(it).removesuffix(".edit"))]
         self.left, self.told, self.earlier, self.is_proved = collections.deque(), {}, {}, False
-        # the functions that are edited in batches, and whether an edit was tried alone
-        self.functions, self.is_alone = [], False
+        # the functions that are edited in batches, the crate with refused answers of them, and whether an edit was tried alone
+        self.functions, self.answered, self.is_alone = [], crate, False
 
     def tell(self, file, passes, text):
         self.told[file] = passes, f"must-fail {self.crate.name}/{os.path.basename(file)}: {text}"
 
-    def check(self, kept, texts={}, only=()):
+    def check(self, kept, texts={}, only=(), crate=None):
         flags = ["--jobs", "1", *itertools.chain(*(("--only", it) for it in only))]
-        return self.rt.checked(self.crate, texts, flags, kept)
+        return self.rt.checked(crate or self.crate, texts, flags, kept)
+
+    def with_refused_answers(self):
+        """Returns a copy of the crate in which each function that is edited in a batch, and has no answers, has refused ones."""
+        crate = copy.copy(self.crate)
+        crate.folder = f"{self.room}/crate"
+        for part in filter(os.path.isdir, (f"{self.crate.folder}/{it}" for it in ("src", "specs", "proofs"))):
+            shutil.copytree(part, f"{crate.folder}/{os.path.basename(part)}")
+        for function in self.functions:
+            *above, name = function.split("::")[1:]
+            folder = "/".join([crate.folder, "proofs", *above])
+            if not any(os.path.isfile(f"{folder}/{it}/Answers.antt") for it in (name, f"+{name}")):
+                os.makedirs(f"{folder}/{name}", exist_ok=True)
+                with open(f"{folder}/{name}/Answers.antt", "w", encoding="utf-8") as file:
+                    file.write(REFUSED_ANSWERS)
+        return crate
 
     @contextlib.contextmanager
     def copy_of_kept(self):
@@ -216,6 +253,7 @@ class Trial:
             return
         edits = {it: located(self.rt, self.crate, it, functions) for it in files}
         self.functions = sorted({it.function for it in edits.values() if it})
+        self.answered = self.with_refused_answers()
         self.left.extend(batches_of([it for it in edits.values() if it]))
         self.left.extend([file for file, it in edits.items() if not it])
 
@@ -238,7 +276,7 @@ class Trial:
         """Tries a batch. It goes on in halves where it cannot be read, and an edit that its function's own line does not refuse goes on alone."""
         texts = merged(self.crate.folder, batch)
         with self.copy_of_kept() as kept:
-            ran = self.check(kept, texts, [it.function for it in batch])
+            ran = self.check(kept, texts, [it.function for it in batch], self.answered)
             self.take_judged(kept)
         lines = ran.stdout.rstrip("\n").split("\n")
         is_read = lines[-1].startswith("only=") and not any(self.rt.unread(it, texts) for it in lines)

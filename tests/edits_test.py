@@ -70,7 +70,9 @@ SAID = """proofs/weak/Proof.antt:3:7: error: `goal-2`: `total` is not in scope
 proofs/cites/Proof.antt:3:7: error: `goal-3`: `next_spec` was not admitted
 proofs/real/Proof.antt:4:1: error: `goal-4`: the two sides differ
 proofs/+calls_itself/Answers.antt:5:1: error: `goal-5`: the two sides differ
-fn neighbours::own: search did not prove `ensures`
+note: src/lib.rt:7:5: it is not proved that what the function ensures holds when it returns (`ensures`); `search` gave up at one of its limits
+note: a goal may be false even if its line does not say so
+fn neighbours::own: not proved
 fn neighbours::caller: no proof: it calls neighbours::own, which is not proved
 fn neighbours::weak: not proved
 fn neighbours::cites: not proved
@@ -126,7 +128,8 @@ def controlled(status):
 
     def checked(crate, texts, flags, kept):
         asked.append((texts, flags))
-        said = "fn neighbours::next: search did not prove `returns`\nonly=1 proved=0\n" if texts else ""
+        note = "note: src/lib.rt:23:5: it is not proved that what the function ensures holds when it returns (`returns`)"
+        said = f"{note}\nfn neighbours::next: not proved\nonly=1 proved=0\n" if texts else ""
         return types.SimpleNamespace(returncode=1 if texts else status, stdout=said)
 
     with tempfile.TemporaryDirectory(prefix="edits-test-") as folder:

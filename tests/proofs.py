@@ -47,7 +47,7 @@ class Results:
 
     def name(self, file):
         """Returns the name of an edit's result, which no edit has that is tried in a check of its own."""
-        return self.kept.of_edit(file, hashlib.sha256(f"several in a check {self.kept.key(self.crate)}".encode()).hexdigest())
+        return self.kept.of_edit(file, hashlib.sha256(f"several in a check, with refused answers {self.kept.key(self.crate)}".encode()).hexdigest())
 
     def find(self, file):
         """Returns the line of an edit that an earlier run saw refused, or None."""
