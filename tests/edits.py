@@ -47,9 +47,9 @@ FUNCTION = re.compile(r"^( *)(?:pub(?:\(\w+\))? )?(?:const )?(?:unsafe )?fn (\w+
 IMPL = re.compile(r"(?:unsafe )?impl(?:<(?:[^<>]|<[^<>]*>)*>)? (?:(.*) for )?(.*) \{")
 # A goal that is not proved: such notes stand above the line of their function, and behind the line of the item before.
 OPEN_GOAL = re.compile(r"note: src/\S+ it is not proved that .*?\(`([^`]+)`\)(?:;|$)")
-ITEM = re.compile(r"(?:fn|impl|struct|enum|trait) ")
+ITEM = re.compile(r"\w+ \S+::\S+: ")
 # Answers that rattle refuses. Of a function with unproved goals and none refused it prints what to write into its file of answers, for which
-# it goes through these goals once more: over all edits that took a quarter of the time.
+# it goes through these goals once more: that took from a twelfth to half of a check.
 REFUSED_ANSWERS = "use Rattle.std.proofs.Common.{nothing-has-this-name}\n"
 # What a proof file says of a name that the edit took away. As rt has it, that says little of the contract.
 TAKEN = re.compile(r"has no field|is not in scope|has no `")
