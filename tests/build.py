@@ -67,7 +67,7 @@ class Build:
         for it in self.every[:-1]:
             waits = [(dep.name, "proof") for dep in it.below()]
             work = self.seconds[it.name] if it.name in self.left else 0
-            tasks[it.name, "proof"] = waits, work, self.rt.need(it), lambda given, jobs, it=it: self.prove(it, given, jobs)
+            tasks[it.name, "proof"] = waits, work, measured.memory_of(it, self.rt.need(it)), lambda given, jobs, it=it: self.prove(it, given, jobs)
         return all(self.rt.in_lanes(tasks).values())
 
 

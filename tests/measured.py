@@ -63,16 +63,22 @@ def table_of(found, edits):
     return [*lines, f"| all | {' | '.join(minutes)} | {sums['edits_count']} | | |"]
 
 
-def known():
-    """Returns the seconds of each crate's proof, of its tests' and of its edits, by crate and kind, as the table of docs/ARCHITECTURE.md has them."""
+def rows_known():
+    """Returns the rows of the table of docs/ARCHITECTURE.md: what stands in the columns of each crate."""
     if not os.path.isfile(TABLE):
         return {}
     with open(TABLE, encoding="utf-8") as file:
         below = file.read().partition(HEAD)[2]
-    rows = re.findall(r"^\| `(\w+)` \| (\d+|-) \| (\d+|-) \| (\d+|-) \|", below, re.M)
-    return {(crate, kind): int(it.replace("-", "0")) for crate, *seconds in rows for kind, it in zip(KINDS, seconds)}
+    return {crate: rest.split(" | ") for crate, rest in re.findall(r"^\| `(\w+)` \| (.+) \|$", below, re.M)}
 
 
 def seconds_of(crate, kind="proof"):
     """Returns the processor seconds that a kind of check of a crate is likely to take: those that were measured, or else by its lines."""
-    return known().get((crate.name, kind), 0.3 * crate.count(rb"\n"))
+    row = rows_known().get(crate.name)
+    return int(row[KINDS.index(kind)].replace("-", "0")) if row else 0.3 * crate.count(rb"\n")
+
+
+def memory_of(crate, planned):
+    """Returns the bytes that a check of a crate is likely to take: a fifth more than was measured, or else what the kit plans."""
+    row = rows_known().get(crate.name)
+    return round(1.2e9 * float(row[-1])) if row else planned

@@ -99,10 +99,33 @@ class Gate:
         return lambda given: [(self.rt.REFUSED if passes else self.rt.MISSED, line) for passes, line in given[crate.name, "edits"]], lambda: trial.earlier
 
     def in_measured_lanes(self, tasks):
-        """Runs rt's tasks with the measured seconds of proofs in the place of lines."""
+        """Runs rt's tasks with the measured seconds of proofs in the place of lines, and with the memory that the checks of a crate took. A proof
+        that most others wait for gets two jobs at least, and shares the processors with edits, which nothing waits for."""
         crates = {it.name: it for it in self.rt.rtlib.crates_below(os.getcwd())}
-        weigh = lambda name, kind, lines: lines and measured.seconds_of(crates[name], kind)
-        return self.in_lanes({it: (waits, lines if it[1] == "edits" else weigh(*it, lines), memory, call) for it, (waits, lines, memory, call) in tasks.items()})
+        awaited = on_long_chains([*crates.values()]) if self.rt.processors() >= 4 else set()
+
+        def weighed(name, kind, waits, work, memory, call):
+            # (a task of some edits is named after its crate and their number)
+            crate = crates[name.partition(" ")[0]]
+            memory = measured.memory_of(crate, memory)
+            if kind == "proof" and name in awaited:
+                return waits, work and measured.seconds_of(crate), 1.6 * memory, lambda given, jobs: call(given, max(jobs, 2))
+            return waits, work if kind == "edits" else work and measured.seconds_of(crate, kind), memory, call
+
+        return self.in_lanes({it: weighed(*it, *task) for it, task in tasks.items()})
+
+
+def on_long_chains(crates):
+    """Returns the names of the crates, which are given from the lowest up, on a chain of proofs, each over the one before, that takes nearly as
+    long as the longest one."""
+    seconds = {it.name: measured.seconds_of(it) for it in crates}
+    below, above = {}, dict.fromkeys(seconds, 0)
+    for it in crates:
+        below[it.name] = seconds[it.name] + max((below[dep.name] for dep in it.deps), default=0)
+    for it in reversed(crates):
+        for dep in it.deps:
+            above[dep.name] = max(above[dep.name], above[it.name] + seconds[it.name])
+    return {it for it in seconds if below[it] + above[it] >= 0.95 * max(below.values())}
 
 
 def main():
