@@ -11,25 +11,19 @@ use Rattle.compose_tree.specs.TableGives.{NoTable, first_table}
 use Rattle.compose_migration.specs.Keys.{keys_of}
 use Rattle.compose_migration.specs.declared.fault.Side.TheVariants as sides
 use Rattle.compose_migration.specs.Migration as migrations
-use Rattle.compose_migration.specs.Migration.{GivenMigration, NoMigration, no_names, no_key, no_table, or_because, migration_of, table_of_side}
+use Rattle.compose_migration.specs.Migration.{NoMigration, no_names, no_key, no_table, or_because, migration_of, table_of_side}
 use Rattle.keysym_core.specs.declared.fault.NameFault.TheVariants as name_faults
 use Rattle.compose_model.specs.Certificate.{Certificate, Repertoire}
 use Rattle.compose_cert.specs.Reading.{certificate_of}
 use Rattle.compose_cert.specs.Repertoire.{repertoire_of}
 use Rattle.compose_cert.specs.declared.CertFault.TheVariants as cert_faults
 use Rattle.compose_cert.specs.declared.RepertoireFault.TheVariants as repertoire_faults
-use Rattle.compose_check.specs.Input.{Input, Parts, Unread, no_migration, no_repertoire, no_certificate, parts_of}
-use Rattle.compose_check.specs.CheckGives.{InputRefused, CheckGives}
+use Rattle.compose_check.specs.Input.{Input, Parts, Unread, no_migration, no_repertoire, no_certificate, certified_parts, parts_of}
+use Rattle.compose_check.specs.CheckGives.{InputRefused, InputGives, Promises, IsVerdict, CheckGives}
 use Rattle.compose_check.specs.declared.verdict.Verdict.{Verdict}
+use Rattle.compose_check.specs.declared.verdict.Verdict.TheVariants.{Yes}
 use Rattle.compose_check.specs.declared.input.InputFault.{InputFault}
 use Rattle.compose_check.specs.declared.input.InputFault.TheVariants as faults
-
--- what is read is one thing
-pub same_parts : (input : Input) (p q : Parts) → parts_of input ≡ Ok p → parts_of input ≡ Ok q → p ≡ q
-same_parts input p q e f = injected p q (sym e ∙ f)
-  where
-    injected : (p q : Parts) → ◌≡◌ {A = Result Parts Unread} (Ok p) (Ok q) → p ≡ q
-    injected p q g = cc
 
 -- a migration without key names is not refused for a key name
 module _ (old new : migrations.TableSources) (index : ℕ) where
@@ -88,43 +82,67 @@ step_refused (faults.Certificate cert_faults.NoMemory) r f h = absurd h
 step_refused faults.NoMemory r f h = tt
 
 -- an answer that is this fault gives what the fault gives
-pub fault_gives : (r : Result Verdict InputFault) (fault : InputFault) (said : Result Parts Unread) → IsErrAnd r (λ e. e ≡ fault) → InputRefused fault said → CheckGives r said
-fault_gives (Ok v) fault said h g = absurd h
-fault_gives (Err e) fault said h g = subst (λ (x : InputFault). InputRefused x said) (sym h) g
+pub fault_gives : {P A : Type 0} (reads : P → A → Type 0) (r : Result A InputFault) (fault : InputFault) (said : Result P Unread) → IsErrAnd r (λ e. e ≡ fault)
+    → InputRefused fault said → InputGives reads r said
+fault_gives reads (Ok a) fault said h g = absurd h
+fault_gives reads (Err e) fault said h g = subst (λ (x : InputFault). InputRefused x said) (sym h) g
+
+-- ---- the parts of a migration that is read
+
+module _ (m : migrations.Parts) (repertoire certificate : List ℕ) where
+  abbrev with_certificate : Repertoire → Certificate → Result Parts Unread
+  with_certificate r c = Ok (record { names = m.names; old = m.old; new = m.new; repertoire = r; certificate = c })
+
+  abbrev with_repertoire : Repertoire → Result Parts Unread
+  with_repertoire r = or_because no_certificate (certificate_of certificate) >>= with_certificate r
+
+  -- a fault of the repertoire is the fault of the parts
+  pub repertoire_refused : (fault : InputFault) → InputRefused fault (or_because no_repertoire (repertoire_of repertoire)) → InputRefused fault (certified_parts m repertoire certificate)
+  repertoire_refused fault h = step_refused fault (or_because no_repertoire (repertoire_of repertoire)) with_repertoire h
+
+  module _ (r : Repertoire) (r_read : IsRead (or_because no_repertoire (repertoire_of repertoire)) r) where
+    after_repertoire : certified_parts m repertoire certificate ≡ (or_because no_certificate (certificate_of certificate) >>= with_certificate r)
+    after_repertoire = ap (λ x. x >>= with_repertoire) (is_read (or_because no_repertoire (repertoire_of repertoire)) r r_read)
+
+    -- where the repertoire is read, a fault of the certificate is the fault of the parts
+    pub certificate_refused : (fault : InputFault) → InputRefused fault (or_because no_certificate (certificate_of certificate)) → InputRefused fault (certified_parts m repertoire certificate)
+    certificate_refused fault h =
+        subst (λ (s : Result Parts Unread). InputRefused fault s) (sym after_repertoire) (step_refused fault (or_because no_certificate (certificate_of certificate)) (with_certificate r) h)
+
+    -- where the repertoire and the certificate are read, these are the parts
+    pub all_read : (c : Certificate) → IsRead (or_because no_certificate (certificate_of certificate)) c
+        → certified_parts m repertoire certificate ≡ Ok (record { names = m.names; old = m.old; new = m.new; repertoire = r; certificate = c })
+    all_read c c_read = after_repertoire ∙ ap (λ x. x >>= with_certificate r) (is_read (or_because no_certificate (certificate_of certificate)) c c_read)
+
+-- ---- all parts
+
+one : (p q : Parts) → ◌≡◌ {A = Result Parts Unread} (Ok p) (Ok q) → p ≡ q
+one p q e = cc
+
+verdict_alone : (r : Result Verdict InputFault) (said : Result Parts Unread) → InputGives IsVerdict r said → CheckGives r said
+verdict_alone (Ok v) said h = (h.0, h.1, h.2.0)
+verdict_alone (Err fault) said h = h
+
+promised : (r : Result Verdict InputFault) (said : Result Parts Unread) → InputGives IsVerdict r said → (p : Parts) → said ≡ Ok p → r ≡ Ok Yes → Promises p
+promised (Ok v) said h p e is = let is_yes : v ≡ Yes = cc in subst (λ (q : Parts). Promises q) (one h.0 p (sym h.1 ∙ e)) (h.2.1 is_yes)
+promised (Err fault) said h p e is = cc
 
 module _ (input : Input) where
-  abbrev with_certificate : migrations.Parts → Repertoire → Certificate → Result Parts Unread
-  with_certificate m r c = Ok (record { names = m.names; old = m.old; new = m.new; repertoire = r; certificate = c })
-
-  abbrev with_repertoire : migrations.Parts → Repertoire → Result Parts Unread
-  with_repertoire m r = or_because no_certificate (certificate_of input.certificate) >>= with_certificate m r
-
-  abbrev with_migration : migrations.Parts → Result Parts Unread
-  with_migration m = or_because no_repertoire (repertoire_of input.repertoire) >>= with_repertoire m
+  abbrev certified : migrations.Parts → Result Parts Unread
+  certified m = certified_parts m input.repertoire input.certificate
 
   -- a fault of the migration is the fault of the whole input
   pub migration_refused : (fault : InputFault) → InputRefused fault (or_because no_migration (migration_of input.migration)) → InputRefused fault (parts_of input)
-  migration_refused fault h = step_refused fault (or_because no_migration (migration_of input.migration)) with_migration h
+  migration_refused fault h = step_refused fault (or_because no_migration (migration_of input.migration)) certified h
 
-  module _ (m : migrations.Parts) (m_read : IsRead (or_because no_migration (migration_of input.migration)) m) where
-    after_migration : parts_of input ≡ (or_because no_repertoire (repertoire_of input.repertoire) >>= with_repertoire m)
-    after_migration = ap (λ r. r >>= with_migration) (is_read (or_because no_migration (migration_of input.migration)) m m_read)
+  module _ (m : migrations.Parts) (m_read : IsRead (or_because no_migration (migration_of input.migration)) m) (r : Result Verdict InputFault) (given : InputGives IsVerdict r (certified m)) where
+    after_migration : parts_of input ≡ certified m
+    after_migration = ap (λ r. r >>= certified) (is_read (or_because no_migration (migration_of input.migration)) m m_read)
 
-    -- where the migration is read, a fault of the repertoire is the fault of the whole input
-    pub repertoire_refused : (fault : InputFault) → InputRefused fault (or_because no_repertoire (repertoire_of input.repertoire)) → InputRefused fault (parts_of input)
-    repertoire_refused fault h =
-        subst (λ (s : Result Parts Unread). InputRefused fault s) (sym after_migration) (step_refused fault (or_because no_repertoire (repertoire_of input.repertoire)) (with_repertoire m) h)
+    -- where the migration is read, the verdict on the parts with it is that on the parts of the input
+    pub verdict_gives : CheckGives r (parts_of input)
+    verdict_gives = subst (λ (said : Result Parts Unread). CheckGives r said) (sym after_migration) (verdict_alone r (certified m) given)
 
-    module _ (r : Repertoire) (r_read : IsRead (or_because no_repertoire (repertoire_of input.repertoire)) r) where
-      after_repertoire : parts_of input ≡ (or_because no_certificate (certificate_of input.certificate) >>= with_certificate m r)
-      after_repertoire = after_migration ∙ ap (λ x. x >>= with_repertoire m) (is_read (or_because no_repertoire (repertoire_of input.repertoire)) r r_read)
-
-      -- where the migration and the repertoire are read, a fault of the certificate is the fault of the whole input
-      pub certificate_refused : (fault : InputFault) → InputRefused fault (or_because no_certificate (certificate_of input.certificate)) → InputRefused fault (parts_of input)
-      certificate_refused fault h =
-          subst (λ (s : Result Parts Unread). InputRefused fault s) (sym after_repertoire) (step_refused fault (or_because no_certificate (certificate_of input.certificate)) (with_certificate m r) h)
-
-      -- where the migration, the repertoire and the certificate are read, the input says these parts
-      pub all_read : (c : Certificate) → IsRead (or_because no_certificate (certificate_of input.certificate)) c
-          → parts_of input ≡ Ok (record { names = m.names; old = m.old; new = m.new; repertoire = r; certificate = c })
-      all_read c c_read = after_repertoire ∙ ap (λ x. x >>= with_certificate m r) (is_read (or_because no_certificate (certificate_of input.certificate)) c c_read)
+    -- and where it is yes, the parts of the input are as it promises
+    pub yes_promises : (p : Parts) → parts_of input ≡ Ok p → r ≡ Ok Yes → Promises p
+    yes_promises p e is = promised r (certified m) given p (sym after_migration ∙ e) is

@@ -1,6 +1,8 @@
 -- What a check on bytes answers, beside memory that is refused.
 use Rattle.std.specs.Prelude.{◌≡◌, [], Result, Ok, Err}
 use Rattle.keysym_core.specs.declared.fault.NameFault.TheVariants as name_faults
+use Rattle.compose_model.specs.Certificate.{IsValid, TypesAll}
+use Rattle.compose_model.specs.Follows.{Follows, Waits}
 use Rattle.compose_tree.specs.TableGives.{NoTable}
 use Rattle.compose_migration.specs.Migration.{no_names, no_table}
 use Rattle.compose_migration.specs.MigrationGives.{TableFails}
@@ -9,6 +11,7 @@ use Rattle.compose_cert.specs.declared.CertFault.TheVariants as cert_faults
 use Rattle.compose_cert.specs.declared.RepertoireFault.TheVariants as repertoire_faults
 use Rattle.compose_check.specs.Input.{Input, Parts, Unread, no_migration, no_repertoire, no_certificate, verdict_on}
 use Rattle.compose_check.specs.declared.verdict.Verdict.{Verdict}
+use Rattle.compose_check.specs.declared.verdict.Verdict.TheVariants.{Yes}
 use Rattle.compose_check.specs.declared.input.CheckInput.{CheckInput}
 use Rattle.compose_check.specs.declared.input.InputFault.{InputFault}
 use Rattle.compose_check.specs.declared.input.InputFault.TheVariants.{Names, Old, New, Repertoire, Certificate, NoMemory}
@@ -41,6 +44,17 @@ InputRefused NoMemory said = Unit {0}
 abbrev pub InputGives : {P A : Type 0} → (P → A → Type 0) → Result A InputFault → Result P Unread → Type 0
 InputGives {P} reads (Ok read) said = (parts : P) × (said ≡ Ok parts) × reads parts read
 InputGives reads (Err fault) said = InputRefused fault said
+
+-- what yes promises
+pub record Promises (p : Parts) : Type 0 where
+  pub valid : IsValid p.names p.old p.new p.repertoire p.certificate
+  pub follows : Follows p.names p.certificate.fresh p.old p.new
+  pub waits : Waits p.new p.certificate.bound
+  pub types : TypesAll p.names p.new p.repertoire p.certificate.typings
+
+-- this is the verdict on the parts, and where it is yes they are as it promises
+abbrev pub IsVerdict : Parts → Verdict → Type 0
+IsVerdict p verdict = (verdict ≡ verdict_on p) × (verdict ≡ Yes → Promises p)
 
 -- the verdict on the parts that are said
 abbrev pub CheckGives : Result Verdict InputFault → Result Parts Unread → Type 0

@@ -4,6 +4,7 @@ use Rattle.compose_text.specs.Results.{◌>>=◌}
 use Rattle.keysym_core.specs.Names.{KeysymNames}
 use Rattle.compose_model.specs.Table.{Definition}
 use Rattle.compose_model.specs.Certificate.{Certificate, Repertoire}
+use Rattle.compose_migration.specs.Migration as migrations
 use Rattle.compose_migration.specs.Migration.{GivenMigration, NoMigration, or_because, migration_of}
 use Rattle.compose_cert.specs.Reading.{certificate_of}
 use Rattle.compose_cert.specs.Repertoire.{repertoire_of}
@@ -40,6 +41,13 @@ parts_of input = do
   repertoire ← or_because no_repertoire (repertoire_of input.repertoire)
   certificate ← or_because no_certificate (certificate_of input.certificate)
   Ok (record { names = m.names; old = m.old; new = m.new; repertoire = repertoire; certificate = certificate })
+
+-- the parts of a migration that is read, or the first of the other two that says nothing
+abbrev pub certified_parts : migrations.Parts → List ℕ → List ℕ → Result Parts Unread
+certified_parts m repertoire certificate = do
+  r ← or_because no_repertoire (repertoire_of repertoire)
+  c ← or_because no_certificate (certificate_of certificate)
+  Ok (record { names = m.names; old = m.old; new = m.new; repertoire = r; certificate = c })
 
 -- the verdict on them
 abbrev pub verdict_on : Parts → Verdict

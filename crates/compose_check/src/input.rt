@@ -6,8 +6,8 @@ ghost use Rattle.compose_cert.specs.Reading.{certificate_of};
 ghost use Rattle.compose_cert.specs.Repertoire.{repertoire_of};
 ghost use Rattle.compose_migration.specs.Migration.{Parts as GivenParts, NoMigration, or_because, migration_of};
 ghost use Rattle.compose_migration.specs.MigrationGives.{MigrationRefused, parts};
-ghost use Rattle.compose_check.specs.Input.{Parts, parts_of, no_migration, no_repertoire, no_certificate};
-ghost use Rattle.compose_check.specs.CheckGives.{CheckGives, InputGives, InputRefused, input_of};
+ghost use Rattle.compose_check.specs.Input.{Parts, certified_parts, parts_of, no_migration, no_repertoire, no_certificate};
+ghost use Rattle.compose_check.specs.CheckGives.{CheckGives, InputGives, InputRefused, IsVerdict, input_of};
 
 use crate::verdict::{Verdict, check};
 use compose_cert::{CertFault, Certificate, Repertoire, RepertoireFault};
@@ -81,6 +81,19 @@ pub fn check_bytes<T: ComposeTable>(
         → result ≡ Ok Verdict.Yes → TypesAll p.names p.new p.repertoire p.certificate.typings }
 {
     let migration: Migration<T> = read_migration(alloc, input)?;
+    check_migration(alloc, input, &migration)
+}
+
+/// The verdict on a migration that was read, with the repertoire and the certificate of the input.
+fn check_migration<T: ComposeTable>(
+    alloc: Global,
+    input: &CheckInput<'_>,
+    migration: &Migration<T>,
+) -> Result<Verdict, InputFault>
+    ensures { InputGives IsVerdict result
+        (certified_parts (parts T.definitions migration.now)
+        input.entry.now.repertoire.now input.entry.now.certificate.now) }
+{
     let repertoire = read_repertoire(alloc, input.repertoire)?;
     let certificate = read_certificate(alloc, input.certificate)?;
     Ok(check(

@@ -1,5 +1,5 @@
 -- What `diff` answers on two tables in their sources and on the changes that are meant (this project's profile).
-use Rattle.std.specs.Prelude.{◌≡◌, ℕ, Bool, true, false, not, List, [], ◌∷◌, ◌++◌, map, Result, Ok, Err, string_bytes, IsTrue}
+use Rattle.std.specs.Prelude.{◌≡◌, ℕ, Bool, true, false, not, List, [], ◌∷◌, ◌++◌, map, Option, Result, Ok, Err, string_bytes, IsTrue}
 use Rattle.std.specs.Option.{option_map_or}
 use Rattle.std.specs.Ordering.{nat_cmp}
 use Rattle.std.specs.List.Sorted.{IsPermutation}
@@ -13,7 +13,7 @@ use Rattle.compose_migration.specs.MigrationGives.{given_of}
 use Rattle.compose_fresh.specs.Fresh.{fresh_conditions}
 use Rattle.compose_fresh.specs.Conditions.{first_unmet}
 use Rattle.compose_walk.specs.declared.fault.MakeFault.TheVariants.{BadFresh}
-use Rattle.compose_places.specs.Counting.{counting_line, read_lines}
+use Rattle.compose_places.specs.Counting.{WrittenLine, counting_line, read_lines}
 use Rattle.compose_answer.specs.Parts.{Explainable, NoAnswer, no_fresh, migration_parts}
 use Rattle.compose_answer.specs.Refused.{IsRefused}
 use Rattle.compose_answer.specs.declared.answer.Answer.{Answer}
@@ -69,11 +69,15 @@ abbrev pub root_of : List Source → List ℕ
 root_of [] = []
 root_of (s ∷ sources) = s.name
 
+-- the lines that count for the sequences of a table whose root is the first source
+abbrev pub lines_in : KeysymNames → List Source → List Definition → List (Option WrittenLine)
+lines_in names sources table = map (counting_line names (read_lines sources (root_of sources))) (leaves table)
+
 -- a table as its sources write it, of which the first is its root
 abbrev pub written_in : KeysymNames → List Source → List (List ℕ) → List Definition → Written
 written_in names sources paths table = record {
   table = table;
-  lines = map (counting_line names (read_lines sources (root_of sources))) (leaves table);
+  lines = lines_in names sources table;
   paths = paths;
 }
 

@@ -4,7 +4,8 @@ use Rattle.std.specs.declared.vec.Vec.{Vec}
 use Rattle.std.specs.declared.alloc.Global.{Global}
 use Rattle.compose_model.specs.Certificate.{keys_rise}
 use Rattle.compose_model.specs.Table.{Definition}
-use Rattle.compose_migration.specs.Migration.{Parts}
+use Rattle.compose_migration.specs.Migration.{Parts, migration_of}
+use Rattle.compose_migration.specs.MigrationGives.{given_of}
 use Rattle.compose_answer.specs.Parts.{Explainable}
 use Rattle.compose_answer.specs.Refused.{IsRefused}
 use Rattle.compose_answer.specs.declared.answer.Answer.{Answer}
@@ -13,9 +14,10 @@ use Rattle.compose_diff.specs.Accepted.{Line, left_of}
 use Rattle.compose_diff.specs.declared.accepted.AcceptFault.{AcceptFault}
 use Rattle.compose_diff.specs.declared.accepted.AcceptFault.TheVariants.{Stale, BadLine, NoMemory}
 use Rattle.compose_diff.specs.declared.row.DiffRow.{DiffRow}
-use Rattle.compose_diff_rows.specs.Answers.{Asked, compared, AreRows, IsTold}
+use Rattle.compose_diff_rows.specs.Answers.{Asked, compared, lines_in, AreRows, IsTold}
 use Rattle.compose_diff_rows.specs.declared.asking.Form.{Form}
 use Rattle.compose_diff_rows.specs.declared.placed.PlacedMigration.{PlacedMigration}
+use Rattle.compose_diff_rows.specs.declared.asking.DiffInput.{DiffInput}
 use Rattle.compose_diff_rows.specs.declared.asking.DiffFault.{DiffFault}
 use Rattle.compose_diff_rows.specs.declared.asking.DiffFault.TheVariants.{Input, Accept}
 
@@ -28,6 +30,14 @@ accept_raised NoMemory = Input refusals.NoMemory
 -- what is read of a migration, seen as values
 abbrev pub placed_parts : {T : Type 0} → (T → List Definition) → PlacedMigration T → Parts
 placed_parts view m = record { names = m.names; keys = m.keys.items; old = view m.old.table; new = view m.new.table }
+
+-- a migration is what the input says, with the lines that count in both tables
+pub record ArePlaced {T : Type 0} (view : T → List Definition) (input : DiffInput) (m : PlacedMigration T) : Type 0 where
+  pub said : Parts
+  pub read : migration_of (given_of input.tables) ≡ Ok said
+  pub is : said ≡ placed_parts view m
+  pub old_lines : m.old.lines.items ≡ lines_in m.names input.tables.old.sources.now (view m.old.table)
+  pub new_lines : m.new.lines.items ≡ lines_in m.names input.tables.new.sources.now (view m.new.table)
 
 -- the fresh keysyms of what is compared, which rise; or the condition that they do not meet
 abbrev pub GivesFresh : Parts → Result (Vec ℕ Global) DiffFault → Type 0

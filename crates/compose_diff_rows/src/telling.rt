@@ -1,14 +1,11 @@
 //! The answer of `diff`: both tables are read, and what happens to their sequences is told.
-ghost use Rattle.std.specs.Prelude.{◌≡◌, ◌++◌, List, map, Ok, IfOk, IsTrue, string_bytes};
+ghost use Rattle.std.specs.Prelude.{◌≡◌, ◌++◌, List, map, IfOk, IsTrue, string_bytes};
 ghost use Rattle.std.specs.List.Sorted.{IsPermutation};
 ghost use Rattle.compose_model.specs.Certificate.{keys_rise};
-ghost use Rattle.compose_model.specs.Nodes.{leaves};
-ghost use Rattle.compose_places.specs.Counting.{counting_line, read_lines};
-ghost use Rattle.compose_tree.specs.TableGives.{first_table};
 ghost use Rattle.compose_diff_rows.specs.Answers as answers;
-ghost use Rattle.compose_diff_rows.specs.Answers.{AnswersDiff, IsTold, asked, form_text, root_of};
+ghost use Rattle.compose_diff_rows.specs.Answers.{AnswersDiff, IsTold, asked, form_text};
 ghost use Rattle.compose_diff_rows.specs.Rows as words;
-ghost use Rattle.compose_diff_rows.specs.Steps.{GivesFresh, TellsDiff, TellsRows, placed_parts};
+ghost use Rattle.compose_diff_rows.specs.Steps.{ArePlaced, GivesFresh, TellsDiff, TellsRows, placed_parts};
 ghost use Rattle.compose_diff_rows.specs.declared.asking.Form.{Form};
 ghost use Rattle.compose_diff.specs.Order.{AreInOrder};
 ghost use Rattle.compose_diff.specs.declared.row.DiffRow.{DiffRow};
@@ -38,13 +35,24 @@ pub fn diff_migration<T: ComposeTable>(
 ) -> Result<Answer, DiffFault>
     ensures { AnswersDiff (asked input.now) result }
 {
-    let migration: PlacedMigration<T> = match PlacedMigration::read(alloc, &input.tables) {
-        Ok(migration) => migration,
-        Err(fault) => return Err(DiffFault::Input(Refusal::from(fault))),
-    };
-    let fresh = fresh_keysyms(alloc, &migration)?;
+    match PlacedMigration::<T>::read(alloc, &input.tables) {
+        Ok(migration) => diff_tables(alloc, input, &migration),
+        Err(fault) => Err(DiffFault::Input(Refusal::from(fault))),
+    }
+}
+
+/// The same, once both tables are read.
+fn diff_tables<T: ComposeTable>(
+    alloc: Global,
+    input: &DiffInput<'_, '_>,
+    migration: &PlacedMigration<T>,
+) -> Result<Answer, DiffFault>
+    requires { ArePlaced T.definitions input.now migration.now }
+    ensures { AnswersDiff (asked input.now) result }
+{
+    let fresh = fresh_keysyms(alloc, migration)?;
     let accepted = Accepted::read(alloc, input.accepted)?;
-    answer_tables(alloc, input, &migration, &fresh, &accepted)
+    answer_tables(alloc, input, migration, &fresh, &accepted)
 }
 
 /// The fresh keysyms of a migration in rising order, each once, if the old table has none of them.
@@ -72,20 +80,7 @@ fn answer_tables<T: ComposeTable>(
     accepted: &Accepted<'_>,
 ) -> Result<Answer, DiffFault>
     requires rise { IsTrue (keys_rise fresh.now) }
-    requires old_read { first_table migration.now.names input.now.tables.old.sources.now
-        input.now.tables.old.rule ≡ Ok (T.definitions migration.now.old.table) }
-    requires old_lines { migration.now.old.lines.items
-        ≡ map
-        (counting_line migration.now.names
-        (read_lines input.now.tables.old.sources.now
-        (root_of input.now.tables.old.sources.now)))
-        (leaves (T.definitions migration.now.old.table)) }
-    requires new_lines { migration.now.new.lines.items
-        ≡ map
-        (counting_line migration.now.names
-        (read_lines input.now.tables.new.sources.now
-        (root_of input.now.tables.new.sources.now)))
-        (leaves (T.definitions migration.now.new.table)) }
+    requires placed { ArePlaced T.definitions input.now migration.now }
     ensures { TellsDiff (asked input.now)
         (record { move = placed_parts T.definitions migration.now; fresh = fresh.now })
         accepted.now result }

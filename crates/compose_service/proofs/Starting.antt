@@ -1,5 +1,5 @@
 -- How a service starts.
-use Rattle.std.proofs.Common.{◌≡◌, List, refl, sym, ◌∙◌, ap, ap₂, subst, rules}
+use Rattle.std.proofs.Common.{◌≡◌, List, refl, sym, ◌∙◌, ap, subst, rules}
 use Rattle.std.specs.Result.{IsErrAnd}
 use Rattle.std.specs.Prelude.{Option, Some, None, Result, Ok, Err}
 use Rattle.keysym_core.specs.Names.{KeysymNames}
@@ -56,15 +56,23 @@ module _ (names : KeysymNames) (repertoire : Repertoire) where
       go (table_faults.Build build_faults.TooManyNodes) h = fails (table_faults.Build build_faults.TooManyNodes) said certificate h
       go (table_faults.Build build_faults.NoMemory) h = absurd h
 
-  module _ (said : Result (List Definition) NoTable) (spelt : Result Certificate CertFault) (table : List Definition) (certificate : Certificate) (t : said ≡ Ok table)
-      (c : spelt ≡ Ok certificate) where
-    both : started names repertoire said spelt ≡ begun_by (fault_of names table table repertoire certificate) table certificate
-    both = ap₂ (λ x y. started names repertoire x y) t c
+  -- where the certificate of the table that is read is not valid for it, no service starts, by the same fault
+  pub not_begun : (result : Result ServiceState StartFault) (fault : StartFault) (said : Result (List Definition) NoTable) (spelt : Result Certificate CertFault) (table : List Definition)
+      → said ≡ Ok table → IsErrAnd result (λ e. e ≡ fault) → StartGives names repertoire (Err fault) (started names repertoire (Ok table) spelt)
+      → StartGives names repertoire result (started names repertoire said spelt)
+  not_begun (Ok s) fault said spelt table t is h = absurd is
+  not_begun (Err e) fault said spelt table t is h =
+      subst (λ (x : StartFault). StartGives names repertoire (Err x) (started names repertoire said spelt)) (sym is)
+      (subst (λ (x : Result (List Definition) NoTable). StartGives names repertoire (Err fault) (started names repertoire x spelt)) (sym t) h)
 
-    -- where the verdict on its own certificate is yes, the service starts with that table and certificate
-    pub starts : Yes ≡ verdict_of (fault_of names table table repertoire certificate) → started names repertoire said spelt ≡ Ok (record { table = table; certificate = certificate })
-    starts e = both ∙ ap (λ o. begun_by o table certificate) (verdict_yes (fault_of names table table repertoire certificate) e)
+  module _ (spelt : Result Certificate CertFault) (table : List Definition) (certificate : Certificate) (c : spelt ≡ Ok certificate) where
+    read : started names repertoire (Ok table) spelt ≡ begun_by (fault_of names table table repertoire certificate) table certificate
+    read = ap (started names repertoire (Ok table)) c
+
+    -- where the verdict on its own certificate is yes, the service starts with this table and certificate
+    pub begins : Yes ≡ verdict_of (fault_of names table table repertoire certificate) → started names repertoire (Ok table) spelt ≡ Ok (record { table = table; certificate = certificate })
+    begins e = read ∙ ap (λ o. begun_by o table certificate) (verdict_yes (fault_of names table table repertoire certificate) e)
 
     -- where the verdict on its own certificate is no, the service does not start, by the checker's fault
-    pub starts_not : (f : CheckFault) → No f ≡ verdict_of (fault_of names table table repertoire certificate) → started names repertoire said spelt ≡ Err (not_valid f)
-    starts_not f e = both ∙ ap (λ o. begun_by o table certificate) (verdict_no (fault_of names table table repertoire certificate) f e)
+    pub begins_not : (f : CheckFault) → No f ≡ verdict_of (fault_of names table table repertoire certificate) → started names repertoire (Ok table) spelt ≡ Err (not_valid f)
+    begins_not f e = read ∙ ap (λ o. begun_by o table certificate) (verdict_no (fault_of names table table repertoire certificate) f e)

@@ -59,3 +59,9 @@ StartGives names repertoire (Err (start_faults.Table fault)) said = (why : NoTab
 StartGives names repertoire (Err (start_faults.Certificate fault)) said = CertificateSaid fault said
 StartGives names repertoire (Err (start_faults.No fault)) said = said ≡ Err (not_valid fault)
 StartGives names repertoire (Err start_faults.NoMemory) said = Unit {0}
+
+-- the certificate that is said is valid for this table against itself, which waits and types as it says; or the first fault
+abbrev pub BeginsBy : {A : Type 0} → KeysymNames → Repertoire → List Definition → Result A StartFault → Result Certificate CertFault → Type 0
+BeginsBy names repertoire table (Ok begun) said =
+    (c : Certificate) × (started names repertoire (Ok table) said ≡ Ok (record { table = table; certificate = c })) × Waits table c.bound × TypesAll names table repertoire c.typings
+BeginsBy names repertoire table (Err fault) said = StartGives names repertoire (Err fault) (started names repertoire (Ok table) said)

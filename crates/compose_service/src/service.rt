@@ -115,7 +115,7 @@ impl<T: ComposeTable> Service<T> {
     ghost use Rattle.compose_machine.specs.Late.{seen, swapped, LateAnswers, AreKept};
     ghost use Rattle.compose_service.specs.Reading.{reading};
     ghost use Rattle.compose_service.specs.Answered.{Answered, Checked, SayReplies};
-    ghost use Rattle.compose_service.specs.Start.{StartGives, started};
+    ghost use Rattle.compose_service.specs.Start.{BeginsBy, StartGives, started};
     ghost use Rattle.compose_tree.specs.TableGives.{first_table};
     ghost use Rattle.compose_cert.specs.Reading.{certificate_of};
     ghost use Rattle.compose_serve.specs.Ends.{Serves};
@@ -136,11 +136,7 @@ impl<T: ComposeTable> Service<T> {
             (certificate_of certificate.now)) }
     {
         let table: T = read_first_table(alloc, &names, &sources, rule)?;
-        let certificate = Certificate::read(alloc, certificate)?;
-        match check(&table, &table, &names, &repertoire, &certificate) {
-            Verdict::Yes => {}
-            Verdict::No(fault) => return Err(StartFault::No(fault)),
-        }
+        Service::check_own(alloc, &table, &names, &repertoire, certificate)?;
         Ok(Service {
             table,
             names,
@@ -148,6 +144,24 @@ impl<T: ComposeTable> Service<T> {
             loads: 0,
             sessions: Sessions::new(alloc),
         })
+    }
+
+    /// Reads the certificate of a table, and checks the table against itself.
+    fn check_own(
+        alloc: Global,
+        table: &T,
+        names: &Names,
+        repertoire: &Repertoire,
+        certificate: &[u8],
+    ) -> Result<(), StartFault>
+        ensures { BeginsBy names.now repertoire.now (T.definitions table.now) result
+            (certificate_of certificate.now) }
+    {
+        let certificate = Certificate::read(alloc, certificate)?;
+        match check(table, table, names, repertoire, &certificate) {
+            Verdict::Yes => Ok(()),
+            Verdict::No(fault) => Err(StartFault::No(fault)),
+        }
     }
 
     /// The current table. O(1).

@@ -1,14 +1,20 @@
 -- What a service that does not start says of how it begins.
 use Rattle.std.proofs.Common.{◌≡◌, ℕ, List}
-use Rattle.std.specs.Prelude.{Result, Err}
+use Rattle.std.specs.Prelude.{Result, Ok, Err}
 use Rattle.keysym_core.specs.Names.{KeysymNames}
+use Rattle.keysym_core.specs.Header.{names_of}
 use Rattle.compose_model.specs.Certificate.{Repertoire}
+use Rattle.compose_cert.specs.Repertoire.{repertoire_of}
+use Rattle.compose_cert.specs.CertificateGives.{RepertoireGives}
+use Rattle.compose_cert.specs.declared.RepertoireFault.{RepertoireFault}
+use Rattle.compose_cert.specs.declared.RepertoireFault.TheVariants as repertoire_faults
 use Rattle.compose_cert.specs.declared.CertFault.{CertFault}
 use Rattle.compose_cert.specs.declared.CertFault.TheVariants as cert_faults
 use Rattle.compose_service.specs.Start.{Begun, NoStart, without_certificate, StartGives, CertificateSaid}
 use Rattle.compose_service.specs.declared.service.StartFault.{StartFault}
 use Rattle.compose_service.specs.declared.service.StartFault.TheVariants as start_faults
-use Rattle.compose_serving.specs.Begin.{Start, AreRead, BeginGives, start_refused}
+use Rattle.compose_serving.specs.Begin.{Start, AreRead, BeginGives, repertoire_refused, start_refused}
+use Rattle.compose_serving.specs.declared.start.BeginFault.TheVariants.{Refused}
 
 -- a certificate's fault that is told is not memory
 certificate_said : (fault : CertFault) (said : Result Begun NoStart) → CertificateSaid fault said → said ≡ Err (without_certificate fault)
@@ -23,3 +29,11 @@ refused header bytes start names repertoire read (start_faults.Table fault) h = 
 refused header bytes start names repertoire read (start_faults.Certificate fault) h = (names, repertoire, read, certificate_said fault (start names repertoire) h)
 refused header bytes start names repertoire read (start_faults.No fault) h = (names, repertoire, read, h)
 refused header bytes start names repertoire read start_faults.NoMemory h = tt
+
+-- a repertoire that can't be read, once the names are, is why the service does not begin
+pub unread : (header bytes : List ℕ) (start : Start) (names : KeysymNames) → names_of header ≡ Ok names
+    → (fault : RepertoireFault) → RepertoireGives (Err fault) (repertoire_of bytes) → BeginGives header bytes start (Err (Refused (repertoire_refused fault)))
+unread header bytes start names read (repertoire_faults.BadLine line) h = (names, read, h)
+unread header bytes start names read (repertoire_faults.NotRising line) h = (names, read, h)
+unread header bytes start names read repertoire_faults.TooMany h = (names, read, h)
+unread header bytes start names read repertoire_faults.NoMemory h = tt

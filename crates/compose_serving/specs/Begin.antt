@@ -4,10 +4,13 @@ use Rattle.keysym_core.specs.Names.{KeysymNames}
 use Rattle.keysym_core.specs.Header.{names_of}
 use Rattle.compose_model.specs.Certificate.{Repertoire}
 use Rattle.compose_cert.specs.Repertoire.{repertoire_of}
-use Rattle.compose_tree.specs.TableGives.{NoTable}
+use Rattle.compose_model.specs.declared.Rule.{Rule}
+use Rattle.compose_read.specs.Lines.{Source}
+use Rattle.compose_cert.specs.Reading.{certificate_of}
+use Rattle.compose_tree.specs.TableGives.{NoTable, first_table}
 use Rattle.compose_migration.specs.MigrationGives.{TableFails}
 use Rattle.compose_machine.specs.Machine.{ServiceState}
-use Rattle.compose_service.specs.Start.{NoStart, without_table, without_certificate, not_valid, Begun, StartGives}
+use Rattle.compose_service.specs.Start.{NoStart, without_table, without_certificate, not_valid, Begun, StartGives, started}
 use Rattle.compose_answer.specs.declared.refusal.Refusal.{Refusal}
 use Rattle.compose_answer.specs.declared.refusal.Refusal.TheVariants as refusals
 use Rattle.keysym_core.specs.declared.fault.NameFault.{NameFault}
@@ -22,6 +25,10 @@ use Rattle.compose_serving.specs.declared.start.BeginFault.TheVariants.{Invalid,
 -- what a service does with names and a repertoire: it starts, or says why not
 abbrev pub Start : Type 0
 Start = KeysymNames → Repertoire → Result Begun NoStart
+
+-- a service over the table of the sources starts so
+abbrev pub start_over : List Source → Rule → List ℕ → Start
+start_over sources rule certificate names repertoire = started names repertoire (first_table names sources rule) (certificate_of certificate)
 
 -- these are the names of the header and the repertoire of the bytes
 pub record AreRead (header bytes : List ℕ) (names : KeysymNames) (repertoire : Repertoire) : Type 0 where

@@ -1,9 +1,7 @@
 //! How a service begins.
-ghost use Rattle.std.specs.Prelude.{◌≡◌};
-ghost use Rattle.compose_tree.specs.TableGives.{first_table};
-ghost use Rattle.compose_cert.specs.Reading.{certificate_of};
-ghost use Rattle.compose_service.specs.Start.{started};
-ghost use Rattle.compose_serving.specs.Begin.{BeginGives, names_refused, repertoire_refused, start_refused};
+ghost use Rattle.std.specs.Prelude.{◌≡◌, Ok};
+ghost use Rattle.keysym_core.specs.Header.{names_of};
+ghost use Rattle.compose_serving.specs.Begin.{AreRead, BeginGives, names_refused, repertoire_refused, start_over, start_refused};
 
 use compose_answer::Refusal;
 use compose_cert::{Repertoire, RepertoireFault};
@@ -46,18 +44,43 @@ pub fn begin<T: ComposeTable>(
     sources: Sources,
 ) -> Result<Service<T>, BeginFault>
     ensures { BeginGives input.entry.now.header.now input.entry.now.repertoire.now
-        (λ names repertoire. started names repertoire
-        (first_table names sources input.entry.now.rule)
-        (certificate_of input.entry.now.certificate.now)) result }
+        (start_over sources input.entry.now.rule input.entry.now.certificate.now) result }
 {
-    let names = match Names::read(alloc, input.header) {
-        Ok(names) => names,
-        Err(fault) => return Err(BeginFault::Refused(of_names(fault))),
-    };
-    let repertoire = match Repertoire::read(alloc, input.repertoire) {
-        Ok(repertoire) => repertoire,
-        Err(fault) => return Err(BeginFault::Refused(of_repertoire(fault))),
-    };
+    match Names::read(alloc, input.header) {
+        Ok(names) => begin_with(alloc, input, sources, names),
+        Err(fault) => Err(BeginFault::Refused(of_names(fault))),
+    }
+}
+
+/// The same with the names of the header.
+fn begin_with<T: ComposeTable>(
+    alloc: Global,
+    input: &BeginInput<'_>,
+    sources: Sources,
+    names: Names,
+) -> Result<Service<T>, BeginFault>
+    ensures { names_of input.entry.now.header.now ≡ Ok names
+        → BeginGives input.entry.now.header.now input.entry.now.repertoire.now
+        (start_over sources input.entry.now.rule input.entry.now.certificate.now) result }
+{
+    match Repertoire::read(alloc, input.repertoire) {
+        Ok(repertoire) => start_with(alloc, input, sources, names, repertoire),
+        Err(fault) => Err(BeginFault::Refused(of_repertoire(fault))),
+    }
+}
+
+/// The same with the names of the header and the repertoire.
+fn start_with<T: ComposeTable>(
+    alloc: Global,
+    input: &BeginInput<'_>,
+    sources: Sources,
+    names: Names,
+    repertoire: Repertoire,
+) -> Result<Service<T>, BeginFault>
+    ensures { AreRead input.entry.now.header.now input.entry.now.repertoire.now names repertoire
+        → BeginGives input.entry.now.header.now input.entry.now.repertoire.now
+        (start_over sources input.entry.now.rule input.entry.now.certificate.now) result }
+{
     match Service::start(
         alloc,
         names,

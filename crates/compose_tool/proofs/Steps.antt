@@ -17,7 +17,7 @@ use Rattle.compose_check.specs.Input as checks
 use Rattle.compose_check.specs.Input.{Unread, no_repertoire, no_certificate, parts_of}
 use Rattle.compose_answer.specs.Parts.{NoAnswer, TypedParts, AllowedParts, allowed_parts, Explainable, Needs, unread, no_only_table, given_key_names, type_parts, migration_parts, explainable, explain_parts, makeable, make_parts}
 use Rattle.compose_answer.specs.Refused.{IsRefused, Gives}
-use Rattle.compose_tool.specs.Answers.{IsChecked, IsCheckedFor}
+use Rattle.compose_tool.specs.Answers.{IsChecked, IsCheckedFor, among_parts, needs_of}
 use Rattle.compose_answer.specs.declared.answer.Answer.{Answer}
 use Rattle.compose_answer.specs.declared.answer.Answer.TheVariants.{Yes, No, Invalid, FreshNotAllowed}
 use Rattle.compose_answer.specs.declared.refusal.Refusal.{Refusal}
@@ -107,17 +107,14 @@ certificate_read input p e = go (or_because checks.no_migration (migration_of in
     go (Ok m) (Err f) c e = cc
     go (Err f) r c e = cc
 
-module _ (key_names : List (List ℕ)) (input : checks.Input) where
-  abbrev with_parts : NamedParts → checks.Parts → Result AllowedParts NoAnswer
-  with_parts n p = Ok (record { checked = p; allowed = n.keys })
+-- of `check`, where the keysyms that may be fresh are read, the parts are those of a check among them
+pub allowed_read : (key_names : List (List ℕ)) (input : checks.Input) (n : NamedParts) → IsRead (given_key_names input.migration.header key_names) n
+    → allowed_parts key_names input ≡ among_parts n.keys input
+allowed_read key_names input n n_read = ap (λ r. r >>= (λ n. among_parts n.keys input)) (is_read (given_key_names input.migration.header key_names) n n_read)
 
-  abbrev with_key_names : NamedParts → Result AllowedParts NoAnswer
-  with_key_names n = or_because unread (parts_of input) >>= with_parts n
-
-  -- of `check`, where the keysyms that may be fresh and the parts of a check are read, these are its parts
-  pub allowed_read : (n : NamedParts) → IsRead (given_key_names input.migration.header key_names) n → (p : checks.Parts) → or_because unread (parts_of input) ≡ Ok p
-      → allowed_parts key_names input ≡ with_parts n p
-  allowed_read n n_read p p_read = ap (λ r. r >>= with_key_names) (is_read (given_key_names input.migration.header key_names) n n_read) ∙ ap (λ r. r >>= with_parts n) p_read
+-- of a check among allowed keysyms, where the parts of the check are read, these are its parts
+pub among_read : (allowed : List ℕ) (input : checks.Input) (p : checks.Parts) → or_because unread (parts_of input) ≡ Ok p → among_parts allowed input ≡ Ok (record { checked = p; allowed = allowed })
+among_read allowed input p p_read = ap (λ (r : Result checks.Parts NoAnswer). r >>= (λ p. Ok (record { checked = p; allowed = allowed }))) p_read
 
 -- an answer of the check that is not yes stays as it is
 pub other_checked : (p : AllowedParts) (answer : Answer) → ((text : String Global) → answer ≡ Yes text → ⊥) → IsChecked p.checked answer → IsCheckedFor p answer
@@ -136,34 +133,28 @@ module _ (given : GivenMigration) where
   pub explain_refused : (refusal : Refusal) → IsRefused refusal (migration_parts given) → IsRefused refusal (explain_parts given)
   explain_refused refusal h = step_refused refusal (migration_parts given) with_fresh h
 
-  module _ (bytes : List ℕ) where
-    abbrev with_repertoire : Parts → Repertoire → Result Needs NoAnswer
-    with_repertoire move r = makeable move r (rising nat_cmp move.keys)
-
-    abbrev with_move : Parts → Result Needs NoAnswer
-    with_move move = or_because (λ why. unread (no_repertoire why)) (repertoire_of bytes) >>= with_repertoire move
-
-    -- of `make`, a refusal of the migration is the refusal of the command
-    pub make_refused : (refusal : Refusal) → IsRefused refusal (migration_parts given) → IsRefused refusal (make_parts given bytes)
-    make_refused refusal h = step_refused refusal (migration_parts given) with_move h
+  -- of `make`, a refusal of the migration is the refusal of the command
+  pub make_refused : (bytes : List ℕ) (refusal : Refusal) → IsRefused refusal (migration_parts given) → IsRefused refusal (make_parts given bytes)
+  make_refused bytes refusal h = step_refused refusal (migration_parts given) (λ move. needs_of move bytes) h
 
   module _ (move : Parts) (move_read : IsRead (migration_parts given) move) where
     -- of `explain`, once the migration is read, the parts depend on it and on its fresh keysyms in rising order
     pub explain_read : (fresh : List ℕ) → fresh ≡ rising nat_cmp move.keys → explain_parts given ≡ explainable move fresh
     explain_read fresh is = ap (λ r. r >>= with_fresh) (is_read (migration_parts given) move move_read) ∙ ap (explainable move) (sym is)
 
-    module _ (bytes : List ℕ) where
-      after_move : make_parts given bytes ≡ (or_because (λ why. unread (no_repertoire why)) (repertoire_of bytes) >>= with_repertoire bytes move)
-      after_move = ap (λ r. r >>= with_move bytes) (is_read (migration_parts given) move move_read)
+    -- of `make`, once the migration is read, the parts depend on it and on the repertoire's text
+    pub make_read : (bytes : List ℕ) → make_parts given bytes ≡ needs_of move bytes
+    make_read bytes = ap (λ r. r >>= (λ move. needs_of move bytes)) (is_read (migration_parts given) move move_read)
 
-      -- of `make`, where the migration is read, a refusal of the repertoire is the refusal of the command
-      pub repertoire_refused : (refusal : Refusal) → IsRefused refusal (or_because (λ why. unread (no_repertoire why)) (repertoire_of bytes)) → IsRefused refusal (make_parts given bytes)
-      repertoire_refused refusal h =
-          subst (λ (s : Result Needs NoAnswer). IsRefused refusal s) (sym after_move)
-          (step_refused refusal (or_because (λ why. unread (no_repertoire why)) (repertoire_of bytes)) (with_repertoire bytes move) h)
+module _ (move : Parts) (bytes : List ℕ) where
+  abbrev with_repertoire : Repertoire → Result Needs NoAnswer
+  with_repertoire r = makeable move r (rising nat_cmp move.keys)
 
-      -- of `make`, once migration and repertoire are read, the parts depend on these and on the fresh keysyms in rising order
-      pub make_read : (r : Repertoire) → IsRead (or_because (λ why. unread (no_repertoire why)) (repertoire_of bytes)) r → (fresh : List ℕ) → fresh ≡ rising nat_cmp move.keys
-          → make_parts given bytes ≡ makeable move r fresh
-      make_read r r_read fresh is =
-          after_move ∙ ap (λ x. x >>= with_repertoire bytes move) (is_read (or_because (λ why. unread (no_repertoire why)) (repertoire_of bytes)) r r_read) ∙ ap (makeable move r) (sym is)
+  -- of `make` on these tables, a refusal of the repertoire is the refusal of the command
+  pub repertoire_refused : (refusal : Refusal) → IsRefused refusal (or_because (λ why. unread (no_repertoire why)) (repertoire_of bytes)) → IsRefused refusal (needs_of move bytes)
+  repertoire_refused refusal h = step_refused refusal (or_because (λ why. unread (no_repertoire why)) (repertoire_of bytes)) with_repertoire h
+
+  -- of `make` on these tables, once the repertoire is read, the parts depend on it and on the fresh keysyms in rising order
+  pub needs_read : (r : Repertoire) → IsRead (or_because (λ why. unread (no_repertoire why)) (repertoire_of bytes)) r → (fresh : List ℕ) → fresh ≡ rising nat_cmp move.keys
+      → needs_of move bytes ≡ makeable move r fresh
+  needs_read r r_read fresh is = ap (λ x. x >>= with_repertoire) (is_read (or_because (λ why. unread (no_repertoire why)) (repertoire_of bytes)) r r_read) ∙ ap (makeable move r) (sym is)

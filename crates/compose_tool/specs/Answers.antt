@@ -1,22 +1,26 @@
 -- What each command answers on its parts.
-use Rattle.std.specs.Prelude.{◌≡◌, ◌≢◌, ◌⊎◌, ℕ, List, [], ◌∷◌, ◌++◌, length, filter, flat_map, if◌then◌else◌, Option, Some, None, string_bytes, codes, true, not}
+use Rattle.std.specs.Prelude.{◌≡◌, ◌≢◌, ◌⊎◌, ℕ, List, [], ◌∷◌, ◌++◌, length, filter, flat_map, if◌then◌else◌, Option, Some, None, Result, Ok, string_bytes, codes, true, not}
 use Rattle.std.specs.List.{find}
 use Rattle.std.specs.Fmt.{decimal, digits}
+use Rattle.std.specs.Ordering.{nat_cmp}
+use Rattle.compose_text.specs.Results.{◌>>=◌}
 use Rattle.keysym_core.specs.Names.{KeysymNames}
 use Rattle.keysym_core.specs.Printed.{at_least_four}
 use Rattle.compose_model.specs.Table.{Definition, has_key}
+use Rattle.compose_model.specs.Nodes.{rising}
 use Rattle.compose_model.specs.Follows as model
 use Rattle.compose_model.specs.Certificate as certificates
+use Rattle.compose_cert.specs.Repertoire.{repertoire_of}
 use Rattle.compose_cert.specs.Spelling.{Spells}
 use Rattle.compose_check.specs.Input as checks
-use Rattle.compose_check.specs.Input.{verdict_on}
+use Rattle.compose_check.specs.Input.{no_repertoire, parts_of, verdict_on}
 use Rattle.compose_check.specs.declared.verdict.Verdict.TheVariants as verdicts
 use Rattle.compose_walk.specs.Evidence.{Evidence, IsLeast, AreDifferences}
 use Rattle.compose_walk.specs.Explained.{explained, all_explained}
 use Rattle.compose_make.specs.Least.{AreUntypable, IsUnreachable}
 use Rattle.compose_make.specs.IsMade.{IsMadeFor}
-use Rattle.compose_migration.specs.Migration.{Parts}
-use Rattle.compose_answer.specs.Parts.{TypedParts, AllowedParts, Explainable, Needs}
+use Rattle.compose_migration.specs.Migration.{Parts, or_because}
+use Rattle.compose_answer.specs.Parts.{NoAnswer, TypedParts, AllowedParts, Explainable, Needs, unread, makeable}
 use Rattle.compose_tool.specs.Typed.{typed_lines}
 use Rattle.compose_answer.specs.declared.answer.Answer.{Answer}
 use Rattle.compose_answer.specs.declared.answer.Answer.TheVariants.{Yes, No, Invalid, FreshNotAllowed}
@@ -46,6 +50,12 @@ IsChecked p (FreshNotAllowed keysym) = ⊥
 -- the first of the keysyms that is not among the allowed ones
 abbrev pub first_not_among : List ℕ → List ℕ → Option ℕ
 first_not_among allowed keysyms = find (λ k. not (has_key allowed k)) keysyms
+
+-- the parts of a check whose fresh keysyms have to be among allowed ones that are read already
+abbrev pub among_parts : List ℕ → checks.Input → Result AllowedParts NoAnswer
+among_parts allowed input = do
+  checked ← or_because unread (parts_of input)
+  Ok (record { checked = checked; allowed = allowed })
 
 -- the verdict; and where it is yes, the first fresh keysym of the certificate that is not allowed, if there is one
 abbrev pub IsCheckedFor : AllowedParts → Answer → Type 0
@@ -84,6 +94,12 @@ IsAllExplained e (Invalid fault) = ⊥
 IsAllExplained e (FreshNotAllowed keysym) = ⊥
 
 -- ---- make
+
+-- what a certificate is made of, once the migration is read
+abbrev pub needs_of : Parts → List ℕ → Result Needs NoAnswer
+needs_of move repertoire = do
+  r ← or_because (λ why. unread (no_repertoire why)) (repertoire_of repertoire)
+  makeable move r (rising nat_cmp move.keys)
 
 -- the bytes are the text of a certificate that is to be made
 pub record SpellsMade (needs : Needs) (bytes : List ℕ) : Type 0 where

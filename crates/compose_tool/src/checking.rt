@@ -6,7 +6,7 @@ ghost use Rattle.compose_check.specs.Input.{parts_of, no_certificate};
 ghost use Rattle.compose_check.specs.CheckGives.{input_of};
 ghost use Rattle.compose_answer.specs.Parts.{unread, allowed_parts};
 ghost use Rattle.compose_answer.specs.Refused.{Gives};
-ghost use Rattle.compose_tool.specs.Answers.{IsChecked, IsCheckedFor, first_not_among};
+ghost use Rattle.compose_tool.specs.Answers.{IsChecked, IsCheckedFor, among_parts, first_not_among};
 
 use crate::parts::read_named;
 use compose_answer::{Answer, Refusal};
@@ -43,16 +43,37 @@ pub fn check_allowed<T: ComposeTable>(
         (allowed_parts (map (λ word. word.now) key_names.now) (input_of input.entry.now)) }
 {
     let named = read_named(alloc, input.header, key_names)?;
+    check_among::<T>(alloc, input, &named.keys)
+}
+
+/// Checks a certificate, and then that its fresh keysyms are all among the allowed ones.
+fn check_among<T: ComposeTable>(
+    alloc: Global,
+    input: &CheckInput<'_>,
+    allowed: &[Keysym],
+) -> Result<Answer, Refusal>
+    ensures { Gives IsCheckedFor result (among_parts allowed.now (input_of input.entry.now)) }
+{
     match check_migration::<T>(alloc, input)? {
-        Answer::Yes(text) => {
-            let certificate = read_certificate(alloc, input.certificate)?;
-            match first_not_allowed(certificate.fresh_keys(), &named.keys) {
-                Some(keysym) => Ok(Answer::FreshNotAllowed(keysym)),
-                None => Ok(Answer::Yes(text)),
-            }
-        }
+        Answer::Yes(text) => match fresh_not_allowed(alloc, input.certificate, allowed)? {
+            Some(keysym) => Ok(Answer::FreshNotAllowed(keysym)),
+            None => Ok(Answer::Yes(text)),
+        },
         answer => Ok(answer),
     }
+}
+
+/// The first fresh keysym of a certificate's text that is not among the allowed ones.
+fn fresh_not_allowed(
+    alloc: Global,
+    certificate: &[u8],
+    allowed: &[Keysym],
+) -> Result<Option<Keysym>, Refusal>
+    ensures { Gives (λ said found. found ≡ first_not_among allowed.now said.fresh) result
+        (or_because (λ why. unread (no_certificate why)) (certificate_of certificate.now)) }
+{
+    let certificate = read_certificate(alloc, certificate)?;
+    Ok(first_not_allowed(certificate.fresh_keys(), allowed))
 }
 
 /// The certificate of a text.

@@ -6,7 +6,7 @@ ghost use Rattle.compose_migration.specs.MigrationGives.{given_of, parts};
 ghost use Rattle.compose_cert.specs.Spelling.{Spells};
 ghost use Rattle.compose_answer.specs.Parts.{makeable, make_parts};
 ghost use Rattle.compose_answer.specs.Refused.{Gives};
-ghost use Rattle.compose_tool.specs.Answers.{IsMadeText, one_line};
+ghost use Rattle.compose_tool.specs.Answers.{IsMadeText, needs_of, one_line};
 
 use crate::explaining::tell;
 use crate::parts::{in_rising_order, read_migration, read_repertoire};
@@ -30,9 +30,20 @@ pub fn make_migration<T: ComposeTable>(
     ensures { Gives IsMadeText result (make_parts (given_of input.entry.now) repertoire.now) }
 {
     let migration: Migration<T> = read_migration(alloc, input)?;
+    make_from(alloc, &migration, repertoire)
+}
+
+/// Makes the text of a certificate for these tables.
+fn make_from<T: ComposeTable>(
+    alloc: Global,
+    migration: &Migration<T>,
+    repertoire: &[u8],
+) -> Result<Answer, Refusal>
+    ensures { Gives IsMadeText result (needs_of (parts T.definitions migration.now) repertoire.now) }
+{
     let repertoire = read_repertoire(alloc, repertoire)?;
     let fresh = in_rising_order(alloc, &migration.keys)?;
-    tell_made(alloc, &migration, &repertoire, &fresh)
+    tell_made(alloc, migration, &repertoire, &fresh)
 }
 
 /// Tells what is made of these tables.

@@ -5,7 +5,7 @@ ghost use Rattle.compose_make.specs.Least.{AreUntypable};
 ghost use Rattle.compose_answer.specs.Parts.{makeable, make_parts};
 ghost use Rattle.compose_answer.specs.Refused.{Gives};
 ghost use Rattle.compose_tool.specs.Answers as answers;
-ghost use Rattle.compose_tool.specs.Answers.{IsAllMadeText, IsUntypableText, count_alone, count_of_both, each_untypable, tables_words, untypable_count, untypable_line};
+ghost use Rattle.compose_tool.specs.Answers.{IsAllMadeText, IsUntypableText, count_alone, count_of_both, each_untypable, needs_of, tables_words, untypable_count, untypable_line};
 
 use crate::explaining::tell;
 use crate::making::spell;
@@ -30,9 +30,20 @@ pub fn make_all_migration<T: ComposeTable>(
     ensures { Gives IsAllMadeText result (make_parts (given_of input.entry.now) repertoire.now) }
 {
     let migration: Migration<T> = read_migration(alloc, input)?;
+    make_all_from(alloc, &migration, repertoire)
+}
+
+/// Makes a certificate for these tables, or tells all characters that can't be typed.
+fn make_all_from<T: ComposeTable>(
+    alloc: Global,
+    migration: &Migration<T>,
+    repertoire: &[u8],
+) -> Result<Answer, Refusal>
+    ensures { Gives IsAllMadeText result (needs_of (parts T.definitions migration.now) repertoire.now) }
+{
     let repertoire = read_repertoire(alloc, repertoire)?;
     let fresh = in_rising_order(alloc, &migration.keys)?;
-    tell_all_made(alloc, &migration, &repertoire, &fresh)
+    tell_all_made(alloc, migration, &repertoire, &fresh)
 }
 
 /// Tells what is made of these tables, and all characters that can't be typed.

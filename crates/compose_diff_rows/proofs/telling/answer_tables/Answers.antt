@@ -4,7 +4,7 @@ use Rattle.compose_answer.specs.Parts.{Explainable}
 use Rattle.compose_diff_rows.specs.Answers.{Asked, asked}
 use Rattle.compose_diff_rows.specs.Rows.{Written, told_sequence}
 use Rattle.compose_diff_rows.specs.Steps.{placed_parts}
-use Rattle.compose_diff_rows.proofs.FirstRead.{root_lines_are}
+use Rattle.compose_diff_rows.proofs.FirstRead.{both_read, root_lines_are}
 use Rattle.compose_diff_rows.proofs.RowsAre.{rows_are, rows_told}
 use Rattle.compose_diff_rows.proofs.telling.answer_tables.Goals as goal
 
@@ -15,15 +15,17 @@ returns g c =
     let e : Explainable = record { move = move; fresh = c.args.fresh.now } in
     let old : Written = record { table = move.old; lines = c.deref.result.now; paths = map (λ path. path.now) c.args.input.now.old_paths.now } in
     let new : Written = record { table = move.new; lines = c.deref-2.result.now; paths = map (λ path. path.now) c.args.input.now.new_paths.now } in
-    let old_lines = c.deref.ensures.value ∙ c.requires.old_lines in
-    let new_lines = c.deref-2.ensures.value ∙ c.requires.new_lines in
+    let placed = c.requires.placed in
+    let both = both_read given.migration placed.said move placed.is placed.read in
+    let old_lines = c.deref.ensures.value ∙ placed.old_lines in
+    let new_lines = c.deref-2.ensures.value ∙ placed.new_lines in
     let changes = c.old_changes.ensures ∙ c.in_ok-comparison.ensures.of_old in
     let added = c.new_changes.ensures ∙ c.in_ok-comparison.ensures.of_new in
     let kept = c.in_ok-add_kept_rows.ensures move.names c.args.fresh.now new (c.old_changes-2.ensures ∙ c.in_ok-comparison.ensures.of_old) in
     rows_told given e c.args.accepted.now c.deref-5.result.now
     (rows_are given e old new (λ i. record { table = move.old; lines = old_lines i; paths = given.old_paths }) (λ i. record { table = move.new; lines = new_lines i; paths = given.new_paths })
     c.tells_kept-whole.result c.tells_kept-whole.ensures
-    (subst (AreLines move.names move.old) (sym old_lines) (root_lines_are move.names given.migration.old.rule move.old given.migration.old.sources c.requires.old_read))
+    (subst (AreLines move.names move.old) (sym old_lines) (root_lines_are move.names given.migration.old.rule move.old given.migration.old.sources both.0))
     (map told_sequence c.deref-3.result.now) (map told_sequence c.deref-4.result.now)
     (ap (map told_sequence) c.deref-3.ensures.value ∙ c.in_ok-of_old.ensures move.names c.args.fresh.now new changes)
     (ap (map told_sequence) c.deref-4.ensures.value ∙ c.in_ok-of_new.ensures move.names c.args.fresh.now old added)
