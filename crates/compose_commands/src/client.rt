@@ -4,18 +4,20 @@ use compose_answer::{Ended, Refusal};
 use compose_arguments::{LoadArguments, SessionArguments};
 use compose_bundle::BundleFault;
 use compose_client::{ReplyFeeder, RequestFault, put_request};
-use compose_details::Given;
-use compose_migration::Named;
+use compose_migration::{MigrationFault, Named};
+use compose_model::Rule;
+use compose_read::Sources;
 use compose_report::{no_memory, refused, report_exchange, report_given};
 use compose_session::{Asked, load_request, report_replies, session_requests};
 use compose_shown::Shown;
 use compose_tree::ComposeTable;
 use compose_wire::{Answer, Reply, Request};
-use keysym_core::Names;
+use keysym_core::{Keysym, Names};
 use std::io::{Read, Write};
 use std::net::Net;
 use std::os::unix::net::UnixStream;
 use std::rt::Files;
+use std::slice;
 
 /// The most bytes that are read at once.
 const PIECE: usize = 4096;
@@ -26,15 +28,45 @@ pub fn load_files(
     verbose: bool,
     arguments: &LoadArguments<'_>,
 ) -> Result<Ended, Ended> {
+    let request = read_load(rt, verbose, arguments)?;
+    exchange_unnamed(rt, arguments.socket, &request)
+}
+
+/// Reads the files of a new table, and its certificate, into the request that loads them.
+fn read_load(
+    rt: &(impl Files + Eprint + AllocGlobal),
+    verbose: bool,
+    arguments: &LoadArguments<'_>,
+) -> Result<Request, Ended> {
     let (sources, rule) = TableFiles::read(rt, verbose, "new", arguments.new)?.into_parts();
-    let certificate = read_file(rt, verbose, arguments.certificate)?;
-    let Ok(names) = Names::core(rt.alloc()) else {
-        return Err(no_memory(rt));
-    };
-    match load_request(rt.alloc(), &sources, rule, &certificate) {
-        Ok(request) => exchange(rt, arguments.socket, &names, &[request]),
+    read_certified(rt, verbose, &sources, rule, arguments.certificate)
+}
+
+/// Reads the certificate of a new table into the request that loads both.
+fn read_certified(
+    rt: &(impl Files + Eprint + AllocGlobal),
+    verbose: bool,
+    sources: &Sources,
+    rule: Rule,
+    certificate: &str,
+) -> Result<Request, Ended> {
+    let certificate = read_file(rt, verbose, certificate)?;
+    match load_request(rt.alloc(), sources, rule, &certificate) {
+        Ok(request) => Ok(request),
         Err(BundleFault::NoMemory) => Err(no_memory(rt)),
         Err(fault) => Err(refused(eprintln!(rt; "refused: load: {fault}"))),
+    }
+}
+
+/// Sends a request without keys, and prints what is told of the reply.
+fn exchange_unnamed(
+    rt: &(impl Net + Print + Eprint + AllocGlobal),
+    path: &str,
+    request: &Request,
+) -> Result<Ended, Ended> {
+    match Names::core(rt.alloc()) {
+        Ok(names) => exchange(rt, path, &names, slice::from_ref(request)),
+        Err(_) => Err(no_memory(rt)),
     }
 }
 
@@ -46,19 +78,45 @@ pub fn session_files<T: ComposeTable>(
     arguments: &SessionArguments<'_>,
 ) -> Result<Ended, Ended> {
     let files = NameFiles::read(rt, verbose, names)?;
-    let named = read_names::<T>(rt, verbose, &files, &arguments.keys)?;
+    session_in::<T>(rt, verbose, &files, arguments)
+}
+
+/// Types in a session, with the names of these files.
+fn session_in<T: ComposeTable>(
+    rt: &(impl Net + Print + Eprint + AllocGlobal),
+    verbose: bool,
+    files: &NameFiles<'_>,
+    arguments: &SessionArguments<'_>,
+) -> Result<Ended, Ended> {
+    let named = read_names::<T>(rt, verbose, files, &arguments.keys)?;
+    session_with(rt, &named, arguments)
+}
+
+/// Types these keys in a session.
+fn session_with(
+    rt: &(impl Net + Print + Eprint + AllocGlobal),
+    named: &Named,
+    arguments: &SessionArguments<'_>,
+) -> Result<Ended, Ended> {
+    let requests = requests_of(rt, &named.keys, arguments)?;
+    exchange(rt, arguments.socket, &named.names, &requests)
+}
+
+/// The requests of a session.
+fn requests_of(
+    rt: &(impl Eprint + AllocGlobal),
+    keys: &[Keysym],
+    arguments: &SessionArguments<'_>,
+) -> Result<Vec<Request>, Ended> {
     let asked = Asked {
         session: arguments.session,
         open: arguments.open,
         reset: arguments.reset,
-        keys: &named.keys,
+        keys,
         ask: arguments.ask,
         close: arguments.close,
     };
-    match session_requests(rt.alloc(), &asked) {
-        Ok(requests) => exchange(rt, arguments.socket, &named.names, &requests),
-        Err(_) => Err(no_memory(rt)),
-    }
+    session_requests(rt.alloc(), &asked).map_err(|_| no_memory(rt))
 }
 
 /// The names of a header, and the keysyms of the arguments.
@@ -70,21 +128,20 @@ fn read_names<T: ComposeTable>(
 ) -> Result<Named, Ended> {
     match Named::read(rt.alloc(), &files.lines, arguments) {
         Ok(named) => Ok(named),
-        Err(fault) => {
-            let given = Given {
-                headers: &files.files,
-                header: &files.lines,
-                arguments,
-                tables: &[],
-                repertoire: "",
-                certificate: "",
-                certificate_text: &[],
-                all: false,
-            };
-            let answered = Err(Refusal::from(fault));
-            Err(report_given::<T>(rt, verbose, &given, &answered))
-        }
+        Err(fault) => Err(report_names::<T>(rt, verbose, files, arguments, fault)),
     }
+}
+
+/// Prints why the names or the arguments are refused.
+fn report_names<T: ComposeTable>(
+    rt: &(impl Print + Eprint + AllocGlobal),
+    verbose: bool,
+    files: &NameFiles<'_>,
+    arguments: &[&str],
+    fault: MigrationFault,
+) -> Ended {
+    let given = files.given(arguments, &[]);
+    report_given::<T>(rt, verbose, &given, &Err(Refusal::from(fault)))
 }
 
 /// Sends the requests one after another, and prints what is told of the replies.

@@ -56,8 +56,12 @@ pub fn answer<T: ComposeTable>(
             repertoire,
             output,
         } => {
-            let files = MoveFiles::read(rt, verbose, names, tables, fresh)?;
-            make_files::<T>(rt, verbose, tables, &files, *all, *repertoire, *output)
+            let paths = MakePaths {
+                tables: *tables,
+                repertoire: *repertoire,
+                output: *output,
+            };
+            make_files::<T>(rt, verbose, names, &paths, fresh, *all)
         }
         Request::Manifest(arguments) => manifest_files(rt, verbose, arguments),
         Request::Serve(arguments) => serve_files::<T>(rt, verbose, process_id, names, arguments),
@@ -90,31 +94,17 @@ struct CheckPaths<'a> {
     certificate: &'a str,
 }
 
-/// The files of a check.
-#[derive(Drop)]
-struct CheckFiles<'w> {
-    tables: MoveFiles<'w>,
-    repertoire: Vec<u8>,
-    certificate: Vec<u8>,
+/// What the files of a check hold.
+#[derive(Clone, Copy)]
+struct CheckFiles<'a, 'w> {
+    tables: &'a MoveFiles<'w>,
+    repertoire: &'a [u8],
+    certificate: &'a [u8],
 }
 
-impl<'w> CheckFiles<'w> {
-    /// Reads the names, both tables, the repertoire and the certificate.
-    fn read(
-        rt: &(impl Files + Eprint + AllocGlobal),
-        verbose: bool,
-        names: &[&'w str],
-        paths: &CheckPaths<'_>,
-    ) -> Result<CheckFiles<'w>, Ended> {
-        Ok(CheckFiles {
-            tables: MoveFiles::read(rt, verbose, names, &paths.tables, &[])?,
-            repertoire: read_file(rt, verbose, paths.repertoire)?,
-            certificate: read_file(rt, verbose, paths.certificate)?,
-        })
-    }
-
+impl<'a, 'w> CheckFiles<'a, 'w> {
     /// The check that they are for.
-    fn input(&self) -> CheckInput<'_> {
+    fn input(&self) -> CheckInput<'a> {
         let (old, new) = (self.tables.old.input(), self.tables.new.input());
         CheckInput {
             header: &self.tables.names.lines,
@@ -122,8 +112,8 @@ impl<'w> CheckFiles<'w> {
             new: new.sources,
             old_rule: old.rule,
             new_rule: new.rule,
-            repertoire: &self.repertoire,
-            certificate: &self.certificate,
+            repertoire: self.repertoire,
+            certificate: self.certificate,
         }
     }
 }
@@ -136,9 +126,38 @@ fn check_files<T: ComposeTable>(
     paths: &CheckPaths<'_>,
     allowed: Option<&[&str]>,
 ) -> Result<Ended, Ended> {
-    let files = CheckFiles::read(rt, verbose, names, paths)?;
-    let answered = check_answer::<T>(rt.alloc(), &files, allowed);
-    let tables = &files.tables;
+    let tables = MoveFiles::read(rt, verbose, names, &paths.tables, &[])?;
+    check_tables::<T>(rt, verbose, paths, &tables, allowed)
+}
+
+/// Checks the certificate of these tables.
+fn check_tables<T: ComposeTable>(
+    rt: &(impl Files + Print + Eprint + AllocGlobal),
+    verbose: bool,
+    paths: &CheckPaths<'_>,
+    tables: &MoveFiles<'_>,
+    allowed: Option<&[&str]>,
+) -> Result<Ended, Ended> {
+    let repertoire = read_file(rt, verbose, paths.repertoire)?;
+    let certificate = read_file(rt, verbose, paths.certificate)?;
+    let files = CheckFiles {
+        tables,
+        repertoire: &repertoire,
+        certificate: &certificate,
+    };
+    Ok(report_check::<T>(rt, verbose, paths, &files, allowed))
+}
+
+/// Prints what is answered to a certificate.
+fn report_check<T: ComposeTable>(
+    rt: &(impl Print + Eprint + AllocGlobal),
+    verbose: bool,
+    paths: &CheckPaths<'_>,
+    files: &CheckFiles<'_, '_>,
+    allowed: Option<&[&str]>,
+) -> Ended {
+    let answered = check_answer::<T>(rt.alloc(), files, allowed);
+    let tables = files.tables;
     let given = Given {
         headers: &tables.names.files,
         header: &tables.names.lines,
@@ -149,16 +168,16 @@ fn check_files<T: ComposeTable>(
         ],
         repertoire: paths.repertoire,
         certificate: paths.certificate,
-        certificate_text: &files.certificate,
+        certificate_text: files.certificate,
         all: false,
     };
-    Ok(report_given::<T>(rt, verbose, &given, &answered))
+    report_given::<T>(rt, verbose, &given, &answered)
 }
 
 /// What is answered to a certificate, whose fresh keysyms have to be among the allowed ones where these are given.
 fn check_answer<T: ComposeTable>(
     alloc: Global,
-    files: &CheckFiles<'_>,
+    files: &CheckFiles<'_, '_>,
     allowed: Option<&[&str]>,
 ) -> Result<Answer, Refusal> {
     match allowed {
@@ -206,25 +225,45 @@ fn explain_files<T: ComposeTable>(
     Ok(report_given::<T>(rt, verbose, &given, &answered))
 }
 
+/// The paths of the files of a certificate that is made, and where it is written to.
+#[derive(Clone, Copy)]
+struct MakePaths<'a> {
+    tables: TablePaths<'a>,
+    repertoire: &'a str,
+    output: Option<&'a str>,
+}
+
 /// Makes a certificate, and prints it or writes it to a file.
 fn make_files<T: ComposeTable>(
     rt: &(impl Files + Print + Eprint + AllocGlobal),
     verbose: bool,
-    paths: &TablePaths<'_>,
+    names: &[&str],
+    paths: &MakePaths<'_>,
+    fresh: &[&str],
+    all: bool,
+) -> Result<Ended, Ended> {
+    let files = MoveFiles::read(rt, verbose, names, &paths.tables, fresh)?;
+    make_with::<T>(rt, verbose, paths, &files, all)
+}
+
+/// Makes a certificate for these tables.
+fn make_with<T: ComposeTable>(
+    rt: &(impl Files + Print + Eprint + AllocGlobal),
+    verbose: bool,
+    paths: &MakePaths<'_>,
     files: &MoveFiles<'_>,
     all: bool,
-    repertoire: &str,
-    output: Option<&str>,
 ) -> Result<Ended, Ended> {
-    let characters = read_file(rt, verbose, repertoire)?;
+    let characters = read_file(rt, verbose, paths.repertoire)?;
     let answered = if all {
         make_all_migration::<T>(rt.alloc(), &files.input(), &characters)
     } else {
         make_migration::<T>(rt.alloc(), &files.input(), &characters)
     };
-    let tables = [files.old.given(paths.old), files.new.given(paths.new)];
-    let given = given_move(files, &tables, repertoire, false);
-    match output {
+    let (old, new) = (paths.tables.old, paths.tables.new);
+    let tables = [files.old.given(old), files.new.given(new)];
+    let given = given_move(files, &tables, paths.repertoire, false);
+    match paths.output {
         Some(path) => Ok(report_into::<T>(rt, verbose, path, &given, &answered)),
         None => Ok(report_given::<T>(rt, verbose, &given, &answered)),
     }

@@ -24,11 +24,22 @@ pub fn diff_files<T: ComposeTable>(
     is_terminal: bool,
 ) -> Result<Ended, Ended> {
     let colored = is_colored(rt, arguments, is_terminal)?;
-    let files = DiffFiles::read(rt, names, arguments, fresh)?;
-    match diff_answer::<T>(rt.alloc(), arguments, &files) {
+    let files = DiffFiles::read(rt, names, arguments)?;
+    diff_read::<T>(rt, arguments, &files, fresh, colored)
+}
+
+/// Tells what the new Compose file of these changes.
+fn diff_read<T: ComposeTable>(
+    rt: &(impl Print + Eprint + AllocGlobal),
+    arguments: &DiffArguments<'_>,
+    files: &DiffFiles<'_>,
+    fresh: &[&str],
+    colored: bool,
+) -> Result<Ended, Ended> {
+    match diff_answer::<T>(rt.alloc(), arguments, files, fresh) {
         Ok(answer) => report_answer(rt, answer, fresh, colored),
         Err(DiffFault::Input(refusal)) => {
-            Ok(report_refusal::<T>(rt, arguments, &files, refusal))
+            Ok(report_refusal::<T>(rt, arguments, files, fresh, refusal))
         }
         Err(DiffFault::Accept(fault)) => Ok(tell_accept_fault(rt, arguments.accept, &fault)),
     }
@@ -36,43 +47,37 @@ pub fn diff_files<T: ComposeTable>(
 
 /// What a comparison of two tables is read from.
 #[derive(Drop)]
-struct DiffFiles<'w> {
-    names: NameFiles<'w>,
+struct DiffFiles<'n> {
+    names: NameFiles<'n>,
     old: FoundTable,
     new: FoundTable,
     accepted: Vec<u8>,
-    fresh: Vec<&'w str>,
 }
 
-impl<'w> DiffFiles<'w> {
+impl<'n> DiffFiles<'n> {
     /// Reads the files of names, both tables as they lie on the system, and the list of the changes that are meant.
     fn read(
         rt: &(impl Env + Files + Eprint + AllocGlobal),
-        names: &[&'w str],
+        names: &[&'n str],
         arguments: &DiffArguments<'_>,
-        fresh: &[&'w str],
-    ) -> Result<DiffFiles<'w>, Ended> {
+    ) -> Result<DiffFiles<'n>, Ended> {
         let names = read_names(rt, names)?;
         let old = FoundTable::read(rt, "old", arguments, arguments.old)?;
         let new = FoundTable::read(rt, "new", arguments, arguments.new)?;
         let accepted = read_accepted(rt, arguments.accept)?;
-        let Ok(fresh) = Vec::from_slice(rt.alloc(), fresh) else {
-            return Err(no_memory(rt));
-        };
         Ok(DiffFiles {
             names,
             old,
             new,
             accepted,
-            fresh,
         })
     }
 
-    /// The migration that they are to give.
-    fn input(&self, rule: Rule) -> MigrationInput<'_, 'w> {
+    /// The migration that they are to give, with the names of the fresh keysyms.
+    fn input<'a, 'w>(&'a self, rule: Rule, fresh: &'a [&'w str]) -> MigrationInput<'a, 'w> {
         MigrationInput {
             header: &self.names.lines,
-            key_names: &self.fresh,
+            key_names: fresh,
             old: self.old.input(rule),
             new: self.new.input(rule),
         }
@@ -84,10 +89,11 @@ fn diff_answer<T: ComposeTable>(
     alloc: Global,
     arguments: &DiffArguments<'_>,
     files: &DiffFiles<'_>,
+    fresh: &[&str],
 ) -> Result<Answer, DiffFault> {
     let (old_paths, new_paths) = (files.old.paths(alloc)?, files.new.paths(alloc)?);
     let input = DiffInput {
-        tables: files.input(rule_of(arguments.longest)),
+        tables: files.input(rule_of(arguments.longest), fresh),
         old_paths: &old_paths,
         new_paths: &new_paths,
         accepted: &files.accepted,
@@ -168,6 +174,7 @@ fn report_refusal<T: ComposeTable>(
     rt: &(impl Print + Eprint + AllocGlobal),
     arguments: &DiffArguments<'_>,
     files: &DiffFiles<'_>,
+    fresh: &[&str],
     refusal: Refusal,
 ) -> Ended {
     let rule = rule_of(arguments.longest);
@@ -175,7 +182,7 @@ fn report_refusal<T: ComposeTable>(
         files.old.given(arguments.old, rule),
         files.new.given(arguments.new, rule),
     ];
-    let given = files.names.given(&files.fresh, &tables);
+    let given = files.names.given(fresh, &tables);
     report_given::<T>(rt, true, &given, &Err(refusal))
 }
 

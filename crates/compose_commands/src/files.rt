@@ -219,16 +219,16 @@ fn read_sources(
     Ok(sources)
 }
 
-/// Tells why a file of the manifest at this path is not among the sources.
-fn tell_source_fault(
+/// Tells why a file is not among the sources of this part, and with `verbose` more of it, at this path.
+pub fn tell_source_fault(
     rt: &impl Eprint,
     verbose: bool,
     part: &str,
-    at: &str,
+    path: &str,
     fault: SourceFault,
 ) -> Ended {
     let ended = refused(eprintln!(rt; "refused: {part}: {fault}"));
-    tell_about(rt, verbose, at, source_words(fault));
+    tell_about(rt, verbose, path, source_words(fault));
     ended
 }
 

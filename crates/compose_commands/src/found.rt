@@ -1,15 +1,14 @@
 //! A Compose file as it lies on a system, with the files that it includes. An error is the end of a run whose refusal was told.
-use crate::files::read_file;
+use crate::files::{read_file, tell_source_fault};
 use crate::manifest::found_files;
 use compose_answer::Ended;
 use compose_arguments::DiffArguments;
 use compose_details::GivenTable;
 use compose_find::FoundSource;
-use compose_messages::source_words;
 use compose_migration::TableInput;
 use compose_model::Rule;
 use compose_read::{SourceFault, Sources};
-use compose_report::{no_memory, refused, tell_about};
+use compose_report::no_memory;
 use std::alloc::{AllocError, Global};
 use std::rt::{Env, Files};
 
@@ -87,15 +86,8 @@ fn read_found(
         match sources.add(&source.name, bytes) {
             Ok(()) => {}
             Err(SourceFault::NoMemory) => return Err(no_memory(rt)),
-            Err(fault) => return Err(tell_source_fault(rt, part, &source.path, fault)),
+            Err(fault) => return Err(tell_source_fault(rt, true, part, &source.path, fault)),
         }
     }
     Ok(sources)
-}
-
-/// Tells why a file is not among the sources.
-fn tell_source_fault(rt: &impl Eprint, part: &str, path: &str, fault: SourceFault) -> Ended {
-    let ended = refused(eprintln!(rt; "refused: {part}: {fault}"));
-    tell_about(rt, true, path, source_words(fault));
-    ended
 }

@@ -26,16 +26,36 @@ pub fn serve_files<T: ComposeTable>(
     arguments: &ServeArguments<'_>,
 ) -> Result<Ended, Ended> {
     let mut service = begin_files::<T>(rt, verbose, names, arguments)?;
+    serve_on_socket(rt, process_id, &mut service, arguments)
+}
+
+/// Serves on the socket, and then takes its file away where that is asked for.
+fn serve_on_socket<T: ComposeTable>(
+    rt: &(impl Env + Files + Net + Print + Eprint + AllocGlobal),
+    process_id: u32,
+    service: &mut Service<T>,
+    arguments: &ServeArguments<'_>,
+) -> Result<Ended, Ended> {
     let listener = bind(rt, process_id, arguments)?;
     written(rt, println!(rt; "listening"), Ended::Yes);
-    let ended = match arguments.at_once {
-        Some(at_once) => serve_many(rt, listener, &mut service, arguments, at_once)?,
-        None => serve_connections(rt, &listener, &mut service, arguments)?,
-    };
+    let ended = serve_listener(rt, listener, service, arguments)?;
     if arguments.unlink {
         let _ = fs::remove_file(rt, arguments.socket);
     }
     Ok(ended)
+}
+
+/// Serves the connections to a listener, many at once or one after another.
+fn serve_listener<T: ComposeTable>(
+    rt: &(impl Net + Print + Eprint + AllocGlobal),
+    listener: UnixListener,
+    service: &mut Service<T>,
+    arguments: &ServeArguments<'_>,
+) -> Result<Ended, Ended> {
+    match arguments.at_once {
+        Some(at_once) => serve_many(rt, listener, service, arguments, at_once),
+        None => serve_connections(rt, &listener, service, arguments),
+    }
 }
 
 /// The files of a service.

@@ -13,8 +13,21 @@ mod sessions;
 mod stopwatch;
 mod typing;
 
+use crate::bench::serving::start;
 use crate::failure::Failure;
+use compose_service::Service;
 use compose_tree::PackedTable;
+
+/// What is measured of a service.
+#[derive(Clone, Copy)]
+enum Measured<'a> {
+    /// Loads of the same table.
+    Loads,
+    /// Opening and closing as many sessions.
+    Sessions(&'a str),
+    /// The keys of a file, in as many sessions.
+    Keys(&'a str, &'a str),
+}
 
 /// Measures what the arguments say.
 pub fn run(rt: &HostRuntime, arguments: &[&str]) -> Result<(), Failure> {
@@ -25,18 +38,44 @@ pub fn run(rt: &HostRuntime, arguments: &[&str]) -> Result<(), Failure> {
         ["compile", header, table] => compiling::compile(rt, header, table),
         ["type", header, table, keys] => typing::type_keys(rt, header, table, keys),
         ["load", header, table, certificate] => {
-            loading::load::<PackedTable>(rt, header, table, certificate)
+            serve(rt, &[header, table, certificate], Measured::Loads)
         }
         ["sessions", header, table, certificate, sessions] => {
-            sessions::open_and_close::<PackedTable>(rt, header, table, certificate, sessions)
+            serve(
+                rt,
+                &[header, table, certificate],
+                Measured::Sessions(sessions),
+            )
         }
         ["keys", header, table, certificate, keys, sessions] => {
-            sessions::type_in_sessions::<PackedTable>(
+            serve(
                 rt,
-                &[header, table, certificate, keys],
-                sessions,
+                &[header, table, certificate],
+                Measured::Keys(keys, sessions),
             )
         }
         _ => Err(Failure::Arguments),
+    }
+}
+
+/// Measures a service over the packed table of a file; the files are those of the names, the table and its certificate.
+fn serve(rt: &HostRuntime, files: &[&str; 3], measured: Measured<'_>) -> Result<(), Failure> {
+    let mut service: Service<PackedTable> = start(rt, files)?;
+    measure(rt, &mut service, files, measured)
+}
+
+/// Measures this service, whose files are these.
+fn measure(
+    rt: &HostRuntime,
+    service: &mut Service<PackedTable>,
+    files: &[&str; 3],
+    measured: Measured<'_>,
+) -> Result<(), Failure> {
+    match measured {
+        Measured::Loads => loading::load(rt, service, files),
+        Measured::Sessions(count) => sessions::open_and_close(rt, service, count),
+        Measured::Keys(keys, count) => {
+            sessions::type_in_sessions(rt, service, files, keys, count)
+        }
     }
 }

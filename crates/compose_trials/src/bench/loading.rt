@@ -1,6 +1,5 @@
 //! Loads of a table into a service over the same table, beside `check_bytes` on the same bytes.
 use crate::bench::figures::print;
-use crate::bench::serving::start;
 use crate::bench::stopwatch::{Stopwatch, now};
 use crate::failure::Failure;
 use crate::input::{read_file, read_sources};
@@ -26,33 +25,16 @@ struct Parts {
 /// Loads the table of a file into a service over it, and checks the same bytes, by turns; prints the quickest times.
 pub fn load<T: ComposeTable>(
     rt: &HostRuntime,
-    header: &str,
-    path: &str,
-    certificate: &str,
-) -> Result<(), Failure> {
-    let mut service: Service<T> = start(rt, header, path, certificate)?;
-    load_files(rt, &mut service, header, path, certificate)
-}
-
-/// The same by this service.
-fn load_files<T: ComposeTable>(
-    rt: &HostRuntime,
     service: &mut Service<T>,
-    header: &str,
-    path: &str,
-    certificate: &str,
+    files: &[&str; 3],
 ) -> Result<(), Failure> {
-    let parts = read_parts(rt, header, path, certificate)?;
+    let parts = read_parts(rt, files)?;
     load_parts(rt, service, &parts)
 }
 
 /// The parts in these files.
-fn read_parts(
-    rt: &HostRuntime,
-    header: &str,
-    path: &str,
-    certificate: &str,
-) -> Result<Parts, Failure> {
+fn read_parts(rt: &HostRuntime, files: &[&str; 3]) -> Result<Parts, Failure> {
+    let [header, path, certificate] = files;
     let header = read_file(rt, header)?;
     let sources = read_sources(rt, path)?;
     let certificate = read_file(rt, certificate)?;

@@ -9,12 +9,8 @@ use compose_wire::{Answer, Body, Reply, Request};
 use keysym_core::Names;
 
 /// A service over the table of a file, without a repertoire; the certificate is that of the table against itself.
-pub fn start<T: ComposeTable>(
-    rt: &HostRuntime,
-    header: &str,
-    path: &str,
-    certificate: &str,
-) -> Result<Service<T>, Failure> {
+pub fn start<T: ComposeTable>(rt: &HostRuntime, files: &[&str; 3]) -> Result<Service<T>, Failure> {
+    let [header, path, certificate] = files;
     let certificate = read_file(rt, certificate)?;
     let names = read_names(rt, header)?;
     start_with(rt, names, path, &certificate)

@@ -1,6 +1,6 @@
 //! Keys in the sessions of a service, beside the same keys in as many compose states without one.
 use crate::bench::figures::print;
-use crate::bench::serving::{close_sessions, open_sessions, read_count, start};
+use crate::bench::serving::{close_sessions, open_sessions, read_count};
 use crate::bench::stopwatch::{Stopwatch, now};
 use crate::bench::typing::{Counts, read_keys};
 use crate::failure::Failure;
@@ -37,25 +37,15 @@ struct Times {
 /// Types the keys of a file in as many sessions by turns, each from another place of the file: through a service, and without one.
 pub fn type_in_sessions<T: ComposeTable>(
     rt: &HostRuntime,
-    files: &[&str; 4],
+    service: &mut Service<T>,
+    files: &[&str; 3],
+    keys: &str,
     count: &str,
 ) -> Result<(), Failure> {
-    let [header, path, certificate, keys] = files;
+    let [header, _, _] = files;
     let count = read_count(count)?;
     let presses = read_presses(rt, keys, count)?;
-    type_presses::<T>(rt, &[header, path, certificate], &presses, count)
-}
-
-/// Types these keys; the files are those of the names, the table and its certificate.
-fn type_presses<T: ComposeTable>(
-    rt: &HostRuntime,
-    files: &[&str; 3],
-    presses: &[Press],
-    count: u32,
-) -> Result<(), Failure> {
-    let [header, path, certificate] = files;
-    let mut service: Service<T> = start(rt, header, path, certificate)?;
-    measure_keys(rt, header, &mut service, presses, count)
+    measure_keys(rt, header, service, &presses, count)
 }
 
 /// Measures the keys with the names of a file.
@@ -266,14 +256,11 @@ fn fed_of(reply: &Reply) -> Option<(Status, &str)> {
 /// Opens as many sessions, and closes them from the first one to the last: the first apart, before which all others stand.
 pub fn open_and_close<T: ComposeTable>(
     rt: &HostRuntime,
-    header: &str,
-    path: &str,
-    certificate: &str,
+    service: &mut Service<T>,
     count: &str,
 ) -> Result<(), Failure> {
     let count = read_count(count)?;
-    let mut service: Service<T> = start(rt, header, path, certificate)?;
-    measure_opening(rt, &mut service, count)
+    measure_opening(rt, service, count)
 }
 
 /// Prints the quickest times of opening and closing the sessions.
