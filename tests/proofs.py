@@ -100,17 +100,16 @@ class Gate:
 
     def in_measured_lanes(self, tasks):
         """Runs rt's tasks with the measured seconds of proofs in the place of lines, and with the memory that the checks of a crate took. A proof
-        that most others wait for gets two jobs at least, and shares the processors with edits, which nothing waits for."""
+        on a long chain of proofs gets two jobs at least, and shares the processors with edits, which nothing waits for."""
         crates = {it.name: it for it in self.rt.rtlib.crates_below(os.getcwd())}
-        awaited = on_long_chains([*crates.values()]) if self.rt.processors() >= 4 else set()
+        on_chains = on_long_chains([*crates.values()]) if self.rt.processors() >= 4 else set()
 
         def weighed(name, kind, waits, work, memory, call):
             # (a task of some edits is named after its crate and their number)
             crate = crates[name.partition(" ")[0]]
-            memory = measured.memory_of(crate, memory)
-            if kind == "proof" and name in awaited:
-                return waits, work and measured.seconds_of(crate), 1.6 * memory, lambda given, jobs: call(given, max(jobs, 2))
-            return waits, work if kind == "edits" else work and measured.seconds_of(crate, kind), memory, call
+            seconds = work if kind == "edits" else work and measured.seconds_of(crate, kind)
+            least = 2 if kind == "proof" and name in on_chains else 1
+            return waits, seconds, measured.memory_of(crate, memory), lambda given, jobs: call(given, max(jobs, least))
 
         return self.in_lanes({it: weighed(*it, *task) for it, task in tasks.items()})
 
