@@ -28,7 +28,7 @@ pub fn diff_files<T: ComposeTable>(
     diff_read::<T>(rt, arguments, &files, fresh, colored)
 }
 
-/// Tells what the new Compose file of these changes.
+/// Tells what the new Compose file changes, once all files are read.
 fn diff_read<T: ComposeTable>(
     rt: &(impl Print + Eprint + AllocGlobal),
     arguments: &DiffArguments<'_>,

@@ -31,8 +31,8 @@ accept_raised NoMemory = Input refusals.NoMemory
 abbrev pub placed_parts : {T : Type 0} → (T → List Definition) → PlacedMigration T → Parts
 placed_parts view m = record { names = m.names; keys = m.keys.items; old = view m.old.table; new = view m.new.table }
 
--- a migration is what the input says, with the lines that count in both tables
-pub record ArePlaced {T : Type 0} (view : T → List Definition) (input : DiffInput) (m : PlacedMigration T) : Type 0 where
+-- the migration is the one that the input says, with the lines that count in both tables
+pub record IsPlaced {T : Type 0} (view : T → List Definition) (input : DiffInput) (m : PlacedMigration T) : Type 0 where
   pub said : Parts
   pub read : migration_of (given_of input.tables) ≡ Ok said
   pub is : said ≡ placed_parts view m

@@ -5,7 +5,7 @@ ghost use Rattle.compose_model.specs.Certificate.{keys_rise};
 ghost use Rattle.compose_diff_rows.specs.Answers as answers;
 ghost use Rattle.compose_diff_rows.specs.Answers.{AnswersDiff, IsTold, asked, form_text};
 ghost use Rattle.compose_diff_rows.specs.Rows as words;
-ghost use Rattle.compose_diff_rows.specs.Steps.{ArePlaced, GivesFresh, TellsDiff, TellsRows, placed_parts};
+ghost use Rattle.compose_diff_rows.specs.Steps.{GivesFresh, IsPlaced, TellsDiff, TellsRows, placed_parts};
 ghost use Rattle.compose_diff_rows.specs.declared.asking.Form.{Form};
 ghost use Rattle.compose_diff.specs.Order.{AreInOrder};
 ghost use Rattle.compose_diff.specs.declared.row.DiffRow.{DiffRow};
@@ -47,7 +47,7 @@ fn diff_tables<T: ComposeTable>(
     input: &DiffInput<'_, '_>,
     migration: &PlacedMigration<T>,
 ) -> Result<Answer, DiffFault>
-    requires { ArePlaced T.definitions input.now migration.now }
+    requires { IsPlaced T.definitions input.now migration.now }
     ensures { AnswersDiff (asked input.now) result }
 {
     let fresh = fresh_keysyms(alloc, migration)?;
@@ -80,7 +80,7 @@ fn answer_tables<T: ComposeTable>(
     accepted: &Accepted<'_>,
 ) -> Result<Answer, DiffFault>
     requires rise { IsTrue (keys_rise fresh.now) }
-    requires placed { ArePlaced T.definitions input.now migration.now }
+    requires placed { IsPlaced T.definitions input.now migration.now }
     ensures { TellsDiff (asked input.now)
         (record { move = placed_parts T.definitions migration.now; fresh = fresh.now })
         accepted.now result }
