@@ -3,6 +3,7 @@
 
 A case is one text file, NAME.case, whose form tests/README.md says. The last line is `N passed, M failed`."""
 import concurrent.futures
+import contextlib
 import os
 import re
 import shlex
@@ -50,12 +51,12 @@ class Case:
             subprocess.run([sys.executable, "files.py"], cwd=folder, check=True)
 
 
-    def user(self, program, folder):
-        """The program's path, and the user that runs it: for an unprivileged case not root, for whom each file is open."""
+    def user(self, folder):
+        """The user that runs the program in the folder: for an unprivileged case not root, for whom each file is open."""
         if not self.is_unprivileged or os.geteuid():
-            return program, {}
+            return {}
         os.chmod(folder, 0o755)
-        return shutil.copy(program, os.path.join(folder, "composecheck")), {"user": NOBODY, "group": NOBODY, "extra_groups": []}
+        return {"user": NOBODY, "group": NOBODY, "extra_groups": []}
 
 
 def case_names(word=""):
@@ -69,27 +70,34 @@ def run(program, name):
     case = Case(name)
     with tempfile.TemporaryDirectory() as folder:
         case.prepare(folder)
-        executable, user = case.user(program, folder)
         ran = subprocess.run(
             [b"composecheck"] + case.args,
-            executable=executable,
+            executable=program,
             cwd=folder,
             env=os.environ | case.environment,
             stdin=subprocess.DEVNULL,
             capture_output=True,
             timeout=300,
-            **user,
+            **case.user(folder),
         )
     got = {"stdout": ran.stdout, "stderr": ran.stderr, "status": ran.returncode}
     wanted = case.expected
     return [f"{part}: got {got[part]!r:.400}, expected {wanted[part]!r:.400}" for part in EXPECTED if got[part] != wanted[part]]
 
 
+@contextlib.contextmanager
+def copy_for_all(program):
+    """Yields the path of a copy of the program that every user can run. It is whole before the first case runs: a process that starts while a
+    program is written has it open for writing too, and until that ends the program can't be run ("text file busy")."""
+    with tempfile.TemporaryDirectory() as folder:
+        os.chmod(folder, 0o755)
+        yield shutil.copy(program, folder)
+
+
 def main():
-    program = os.path.abspath(sys.argv[1])
     names = case_names(sys.argv[2] if len(sys.argv) > 2 else "")
     failed = 0
-    with concurrent.futures.ThreadPoolExecutor(os.cpu_count()) as pool:
+    with copy_for_all(sys.argv[1]) as program, concurrent.futures.ThreadPoolExecutor(os.cpu_count()) as pool:
         for name, differences in zip(names, pool.map(lambda name: run(program, name), names)):
             if differences:
                 failed += 1
