@@ -50,7 +50,6 @@ class Case:
         if "files.py" in self.files:
             subprocess.run([sys.executable, "files.py"], cwd=folder, check=True)
 
-
     def user(self, folder):
         """The user that runs the program in the folder: for an unprivileged case not root, for whom each file is open."""
         if not self.is_unprivileged or os.geteuid():
