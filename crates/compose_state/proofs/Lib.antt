@@ -1,2 +1,3 @@
 pub mod PathNodes
 pub mod Feeding
+pub mod Alone

@@ -1,9 +1,9 @@
 -- What a state answers to a key (xkb_compose_state_feed, xkb_compose_state_get_status, xkb_compose_state_get_utf8).
-use Rattle.std.specs.Prelude.{◌≡◌, ◌≢◌, ℕ, not, List, if◌then◌else◌, codes}
+use Rattle.std.specs.Prelude.{◌≡◌, ◌≢◌, ℕ, not, List, [], ◌∷◌, ◌++◌, if◌then◌else◌, codes, unwrap_or}
 use Rattle.keysym_core.specs.Keysym.{is_ignored}
 use Rattle.keysym_core.specs.Names.{KeysymNames}
-use Rattle.compose_model.specs.Table.{Definition}
-use Rattle.compose_model.specs.Step.{Effect, completes, passes, effect, step}
+use Rattle.compose_model.specs.Table.{Definition, text_at}
+use Rattle.compose_model.specs.Step.{Effect, ignores, extends, completes, passes, cancels, effect, step}
 use Rattle.compose_model.specs.Session.{Session, fed}
 use Rattle.compose_model.specs.declared.Status.{Status}
 use Rattle.compose_model.specs.declared.Status.TheVariants.{Nothing, Composing, Composed, Cancelled}
@@ -24,6 +24,20 @@ pub record IsFed (names : KeysymNames) (table : List Definition) (before : Sessi
   pub status : answer.status ≡ (fed table before k).status
   pub text : text_bytes answer.text ≡ (step names table before.pending k).text
   pub source : ComesFrom (effect table before.pending k) answer.text
+
+-- the text of the sequence that a key with this effect completes, if it does
+abbrev pub sequence_text : Effect → List Definition → List ℕ → ℕ → List ℕ
+sequence_text ignores table u k = []
+sequence_text extends table u k = []
+sequence_text completes table u k = unwrap_or (text_at table (u ++ k ∷ [])) []
+sequence_text passes table u k = []
+sequence_text cancels table u k = []
+
+-- the answer to the keysym k where no names are known (xkb_compose_state_get_utf8): as IsFed, but a key that passes has no text
+pub record IsFedAlone (table : List Definition) (before : Session) (k : ℕ) (answer : Fed) : Type 0 where
+  pub accepted : answer.accepted ≡ not (is_ignored k)
+  pub status : answer.status ≡ (fed table before k).status
+  pub text : text_bytes answer.text ≡ sequence_text (effect table before.pending k) table before.pending k
 
 abbrev pub status_word : Status → List ℕ
 status_word Nothing = codes "nothing"

@@ -6,7 +6,7 @@ ghost use Rattle.compose_model.specs.Step as steps;
 ghost use Rattle.compose_model.specs.Nodes as words;
 ghost use Rattle.compose_model.specs.Nodes.{nodes, leaves};
 ghost use Rattle.compose_model.specs.Session.{Session, rest, fed, loaded};
-ghost use Rattle.compose_state.specs.Answers.{IsFed, ComesFrom};
+ghost use Rattle.compose_state.specs.Answers.{IsFed, IsFedAlone, ComesFrom};
 ghost use Rattle.compose_state.specs.NodeIds.{node_id};
 ghost use Rattle.compose_state.specs.Texts.{text_bytes};
 ghost use Rattle.compose_tree.specs.Targets.{target_of};
@@ -97,6 +97,49 @@ impl ComposeState {
         }
     }
 
+    /// The state with these pending keysyms and this status, and a hint for each pending keysym of where its edge stood: any numbers
+    /// are hints. O(1).
+    pub fn restored(
+        pending: ArrayVec<Keysym, 31>,
+        edge_indexes: [u32; 31],
+        status: Status,
+    ) -> ComposeState
+        ensures { result ≡ record { pending = pending.items; status = status } }
+    {
+        ComposeState {
+            pending,
+            edge_indexes,
+            status,
+        }
+    }
+
+    /// The hints, for `restored`. O(1).
+    pub fn edge_indexes(&self) -> [u32; 31] {
+        self.edge_indexes
+    }
+
+    /// Feeds one key as `feed` does, and knows no names: a key that passes commits no text, as in libxkbcommon, where its text is the
+    /// caller's to find. Takes no memory; as fast as `feed`.
+    #[inline(always)]
+    pub fn feed_alone<'t, T: ComposeTable>(&mut self, table: &'t T, keysym: Keysym) -> Fed<'t>
+        ensures state { self.new ≡ fed (T.definitions table.now) self.old keysym }
+        ensures told { IsFedAlone (T.definitions table.now) self.old keysym result }
+    {
+        let ignored = keysym.is_ignored();
+        if ignored {
+            return Fed {
+                accepted: false,
+                status: self.status,
+                text: FedText::Empty,
+            };
+        }
+        let pending = self.pending.as_slice();
+        match target(table, pending, &self.edge_indexes, keysym) {
+            Some((edge_index, target)) => return self.follow(table, keysym, edge_index, target),
+            None => return self.break_off(),
+        }
+    }
+
     /// Goes over to the table, and feeds one key to it: `refeed` and then `feed`. Takes no memory. Where a sequence of the table goes on
     /// behind the pending keysyms with the key, or nothing is pending, it costs what `feed` alone does, and else what both cost.
     #[inline(always)]
@@ -133,6 +176,14 @@ impl ComposeState {
     pub fn refeed<T: ComposeTable>(&mut self, table: &T, names: &Names)
         ensures { self.new ≡ loaded (T.definitions table.now) self.old }
     {
+        let _ = names;
+        self.refeed_alone(table);
+    }
+
+    /// Goes over to the table as `refeed` does, and knows no names.
+    pub fn refeed_alone<T: ComposeTable>(&mut self, table: &T)
+        ensures { self.new ≡ loaded (T.definitions table.now) self.old }
+    {
         if self.pending.is_empty() && self.status != Status::Composing {
             return;
         }
@@ -142,7 +193,7 @@ impl ComposeState {
             self.status = Status::Composing;
             return;
         }
-        let refed = state_after(table, names, self.pending());
+        let refed = state_after(table, self.pending());
         if !refed.pending().is_empty() {
             self.status = Status::Composing;
         } else if self.status == Status::Composing {
@@ -227,13 +278,40 @@ impl ComposeState {
     }
 }
 
+impl ComposeState {
+    /// Takes a key that no sequence has behind what is pending, and commits nothing.
+    fn break_off(&mut self) -> Fed<'static>
+        ensures state { self.new
+            ≡ (if is_empty self.old.pending then record {
+              pending = [];
+              status =
+                  Nothing;
+            } else record { pending = []; status = Cancelled }) }
+        ensures accepted { result.accepted ≡ true }
+        ensures status { result.status ≡ self.new.status }
+        ensures text { text_bytes result.text ≡ [] }
+    {
+        self.status = if self.pending.is_empty() {
+            Status::Nothing
+        } else {
+            Status::Cancelled
+        };
+        self.pending = ArrayVec::new();
+        Fed {
+            accepted: true,
+            status: self.status,
+            text: FedText::Empty,
+        }
+    }
+}
+
 /// What is pending in the table after these keysyms, from rest.
-fn state_after<T: ComposeTable>(table: &T, names: &Names, keysyms: &[Keysym]) -> ComposeState
+fn state_after<T: ComposeTable>(table: &T, keysyms: &[Keysym]) -> ComposeState
     ensures { result.pending ≡ pending (T.definitions table.now) keysyms.now }
 {
     let mut state = ComposeState::new();
     for keysym in keysyms {
-        state.feed(table, names, *keysym);
+        state.feed_alone(table, *keysym);
     }
     state
 }

@@ -31,25 +31,35 @@ impl Hints {
 
     /// The hint for the edge of this keysym at the node. O(1).
     pub fn index_of(&self, node: NodeId, keysym: Keysym) -> usize {
-        match self.indexes.get(self.slot(node, keysym)) {
-            Some(index) => usize::from(*index),
-            None => 0,
-        }
+        hint_in(self.indexes.as_slice(), node, keysym)
+    }
+
+    /// The hints as bytes. O(1).
+    pub fn bytes(&self) -> &[u8] {
+        self.indexes.as_slice()
     }
 
     /// Notes that the edge of this keysym stands at this index among the node's edges. O(1).
     pub fn note(&mut self, node: NodeId, keysym: Keysym, index: usize) {
-        let slot = self.slot(node, keysym);
+        let slot = slot(self.indexes.len(), node, keysym);
         if let (Some(hint), Ok(index)) = (self.indexes.get_mut(slot), u8::try_from(index)) {
             *hint = index;
         }
     }
+}
 
-    /// Which hint is that for this keysym at the node: a hash of both, scaled to the number of hints.
-    fn slot(&self, node: NodeId, keysym: Keysym) -> usize {
-        let of_node = node.0.wrapping_mul(NODE_MULTIPLIER);
-        let of_keysym = keysym.value().wrapping_mul(KEYSYM_MULTIPLIER);
-        let hash = u64::from(of_node.wrapping_add(of_keysym));
-        (hash.wrapping_mul(self.indexes.len() as u64) >> 32) as usize
+/// The hint among these for the edge of this keysym at the node. O(1).
+pub fn hint_in(indexes: &[u8], node: NodeId, keysym: Keysym) -> usize {
+    match indexes.get(slot(indexes.len(), node, keysym)) {
+        Some(index) => usize::from(*index),
+        None => 0,
     }
+}
+
+/// Which of so many hints is that for this keysym at the node: a hash of both, scaled to the number of hints.
+fn slot(count: usize, node: NodeId, keysym: Keysym) -> usize {
+    let of_node = node.0.wrapping_mul(NODE_MULTIPLIER);
+    let of_keysym = keysym.value().wrapping_mul(KEYSYM_MULTIPLIER);
+    let hash = u64::from(of_node.wrapping_add(of_keysym));
+    (hash.wrapping_mul(count as u64) >> 32) as usize
 }

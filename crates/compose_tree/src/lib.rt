@@ -13,6 +13,7 @@
 
 mod edge;
 mod hints;
+mod lent_table;
 mod list_table;
 mod packed;
 mod packed_table;
@@ -20,7 +21,9 @@ mod reading;
 mod rows;
 mod table;
 
+pub use lent_table::{LentArrays, LentTable};
 pub use list_table::ListTable;
+pub use packed::{PackedEdge, PackedNode};
 pub use packed_table::PackedTable;
 pub use reading::{TableFault, read_first_table, read_table};
 pub use table::{BuildFault, ComposeTable, LeafId, NodeId, Target};

@@ -28,6 +28,7 @@ ghost use Rattle.compose_tree.specs.Packed.{keys_of, packed_edge, packed_target,
 
 use crate::edge::{Edge, NodeEdge};
 use crate::hints::Hints;
+use crate::lent_table::LentTable;
 use crate::packed::{PackedEdge, PackedNode};
 use crate::rows::build_rows;
 use crate::table::{BuildFault, ComposeTable, LeafId, NodeId, Target};
@@ -80,7 +81,7 @@ fn pack_target(target: Target) -> u32
 }
 
 /// The target of a code.
-fn unpack_target(code: u32) -> Target
+pub fn unpack_target(code: u32) -> Target
     ensures { result ≡ unpacked_target code }
 {
     if code % 2 == 0 {
@@ -226,7 +227,7 @@ fn index_of(edges: &[PackedEdge], keysym: Keysym) -> Option<usize>
 }
 
 /// Where a keysym stands among rising edges. O(1) where the hint is right, and else O(log edges).
-fn index_by_hint(edges: &[PackedEdge], keysym: Keysym, hint: usize) -> Option<usize>
+pub fn index_by_hint(edges: &[PackedEdge], keysym: Keysym, hint: usize) -> Option<usize>
     requires { IsStrictlyIncreasing (keys_of edges.now) }
     ensures { MatchOption result
         ((k : ℕ) → k < length edges.now → slice_index (keys_of edges.now) k ≡ keysym → ⊥)
@@ -263,10 +264,23 @@ fn from_arrays(
 }
 
 impl PackedTable {
-    ghost use Rattle.std.specs.Prelude.{◌<◌, length};
+    ghost use Rattle.std.specs.Prelude.{◌≡◌, ◌<◌, length};
     ghost use Rattle.compose_model.specs.Nodes as model;
     ghost use Rattle.compose_read.specs.Settle.{IsSettled};
     ghost use Rattle.compose_tree.specs.Rows.{row_of};
+
+    /// The table in the memory of this one. O(1).
+    pub fn lend(&self) -> LentTable<'_>
+        ensures { result ≡ self.now }
+    {
+        LentTable::of(
+            self.nodes.as_slice(),
+            self.edges.as_slice(),
+            self.offsets.as_slice(),
+            self.texts.as_str().as_bytes(),
+            self.hints.bytes(),
+        )
+    }
 
     /// The edges of a node. O(1).
     fn edges_of(&self, node: NodeId) -> &[PackedEdge]

@@ -6,6 +6,7 @@ use std::marker::Model;
 
 /// A keysym: a number from 0 to `0x1fffffff` (keysymdef.h: the three highest bits of the 32 are never set).
 #[derive(Clone, Copy, Debug, PartialEq, Eq, PartialOrd, Ord, Hash)]
+#[repr(C)]
 pub struct Keysym {
     number: u32,
 }
