@@ -37,6 +37,8 @@ import tempfile
 import threading
 from typing import NamedTuple
 
+import kit
+
 # More edits in one check save little, and lose more where one of them does not compile. (Of a check that takes 27 seconds with one edit,
 # each further edit of compose_cert took 2.4 seconds.)
 LARGEST_BATCH = 40
@@ -269,7 +271,7 @@ class Trial:
         self.is_alone = True
         with self.copy_of_kept() as kept:
             kind, text = self.rt.must_fail(self.crate, file, ["--jobs", "1"], kept)
-        text, passes = text.partition(f"{os.path.basename(file)}: ")[2], kind in (self.rt.REFUSED, self.rt.AT_LIMIT)
+        text, passes = text.partition(f"{os.path.basename(file)}: ")[2], kit.is_refused(self.rt, kind)
         self.tell(file, passes, "refused alone: " + text.partition(": ")[2] if passes else text)
 
     def together(self, batch):

@@ -9,6 +9,7 @@ All else of `rt ci` stays as it is: what a run passed is kept on this machine, b
 is not proved or tried again, but with --anew. With names it does these crates and those below them, on a copy, as `rt ci CRATE ..`
 does. What each check took is written to FILE. Tests are not proved here, but run by examples.py.
 """
+import contextlib
 import hashlib
 import json
 import os
@@ -16,6 +17,7 @@ import shutil
 import sys
 
 import edits
+import kit
 import measured
 
 
@@ -63,24 +65,31 @@ class Gate:
     """`rt ci` with some of its calls replaced."""
 
     def __init__(self, rt, file):
-        self.rt = rt
+        self.rt, self.trials = rt, {}
         self.crate_ci, self.in_lanes = rt.Crate.ci, rt.in_lanes
         measured.measure(rt.rtlib, file)
         rt.Crate.ci = lambda crate, flags, tests: self.prove(crate, flags, tests)
         rt.Crate.has_tests = lambda crate: False
-        rt.add_edits, rt.in_lanes = self.add_edits, self.in_measured_lanes
+        if kit.has_store(rt):
+            rt.add_edits, rt.in_lanes = self.add_edits, self.in_measured_lanes
+        else:
+            rt.must_fail_all = lambda crate, files, flags: self.trials[crate.name].end() if files else []
+            rt.in_lanes = lambda tasks: self.in_measured_lanes(self.with_trials(tasks))
 
     def prove(self, crate, flags, tests):
         """Proves a library that has edits from nothing, with its proofs in what the crates above it use."""
         if tests or not crate.makes_rlib() or not self.rt.edits_of(crate)[0]:
             return self.crate_ci(crate, flags, tests)
         crate.cuts_libraries = False
-        return self.crate_ci(crate, flags, tests)
+        status = self.crate_ci(crate, flags, tests)
+        if not kit.has_store(self.rt):
+            # (with no stamp, later commands build their own, as after rt ci)
+            with contextlib.suppress(FileNotFoundError):
+                os.remove(f"{os.path.dirname(crate.rlib)}/stamp")
+        return status
 
-    def add_edits(self, tasks, crate, files, first, waits, is_well, kept):
-        """Adds the tasks that try a crate's edits, so that several lanes can share them. As rt's, it returns what gives their results, in order, and what gives those of earlier runs."""
-        if not files:
-            return lambda given: [], dict
+    def add_trial(self, tasks, crate, waits, is_well, last, results=None):
+        """Adds the tasks that try a crate's edits, so that several lanes can share them, and returns their trial. `last` is the call that ends it."""
         kept_work = f"{crate.folder}/out/proved"
 
         def prepare():
@@ -89,14 +98,33 @@ class Gate:
 
         def end(given, jobs):
             try:
-                return trial.end() if is_well(given) else []
+                return last(given, jobs)
             finally:
                 shutil.rmtree(kept_work, ignore_errors=True)
 
-        trial = edits.Trial(self.rt, crate, kept_work, f"{crate.folder}/out/edits", results=Results(self.rt, kept, crate), prepare=prepare)
+        trial = edits.Trial(self.rt, crate, kept_work, f"{crate.folder}/out/edits", results=results, prepare=prepare)
         tasks.update(trial.tasks(waits, measured.seconds_of(crate, "edits"), is_well, end))
+        return trial
+
+    def add_edits(self, tasks, crate, files, first, waits, is_well, kept):
+        """Adds the tasks that try a crate's edits. As rt's, it returns what gives their results, in order, and what gives those of earlier runs."""
+        if not files:
+            return lambda given: [], dict
+        last = lambda given, jobs: trial.end() if is_well(given) else []
+        trial = self.add_trial(tasks, crate, waits, is_well, last, Results(self.rt, kept, crate))
         # (an edit that cannot be read fails here)
         return lambda given: [(self.rt.REFUSED if passes else self.rt.MISSED, line) for passes, line in given[crate.name, "edits"]], lambda: trial.earlier
+
+    def with_trials(self, tasks):
+        """Returns the tasks of a kit that has no `add_edits`, with one of edits as several. The last of them is the kit's own, which calls `must_fail_all`."""
+        crates, more = {it.name: it for it in self.rt.rtlib.crates_below(os.getcwd())}, {}
+        for (name, kind), task in tasks.items():
+            if kind == "edits" and self.rt.edits_of(crates[name])[0]:
+                is_well = lambda given, name=name: given[name, "proof"] and given[name, "tests"]
+                self.trials[name] = self.add_trial(more, crates[name], task[0], is_well, task[-1])
+            else:
+                more[name, kind] = task
+        return more
 
     def in_measured_lanes(self, tasks):
         """Runs rt's tasks with the measured seconds of proofs in the place of lines, and with the memory that the checks of a crate took. A proof
@@ -131,6 +159,8 @@ def main():
     file, *words = sys.argv[1:]
     rt = edits.load_rt()
     Gate(rt, os.path.abspath(file))
+    if not kit.has_store(rt):
+        return rt.ci()
     return rt.ci("--anew" in words, [it for it in words if it != "--anew"])
 
 
