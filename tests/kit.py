@@ -1,5 +1,11 @@
 """How the kits differ that the gate runs on. Newer ones keep what `rt ci` passed in a store, and hand over the edits of a crate as tasks of their
-own (`rt.add_edits`). In older ones `rt ci` proves all from nothing, and tries the edits of a crate in one call (`rt.must_fail_all`)."""
+own (`rt.add_edits`). In older ones `rt ci` proves all from nothing, takes no names, and tries the edits of a crate in one call (`rt.must_fail_all`).
+For these the gate has a store of its own (store.py)."""
+import os
+import re
+import shutil
+import sys
+import tempfile
 
 
 def has_store(rt):
@@ -9,3 +15,29 @@ def has_store(rt):
 def is_refused(rt, kind):
     """Returns whether the first answer of `rt.must_fail` says that the prover refuses an edit. In older kits it is yes or no."""
     return kind in (rt.REFUSED, rt.AT_LIMIT) if hasattr(rt, "REFUSED") else kind
+
+
+def ci(rt, is_anew, names):
+    """Runs `rt ci`, of the named crates and those below them if any are named, and returns its status. Where a kit takes no names it does so on a copy."""
+    if has_store(rt):
+        return rt.ci(is_anew, names)
+    if not names:
+        return rt.ci()
+    with tempfile.TemporaryDirectory(prefix="gate-crates-") as room:
+        copy_crates(rt, names, room)
+        os.chdir(room)
+        return rt.ci()
+
+
+def copy_crates(rt, names, room):
+    """Copies the named crates and those below them, with their lines of crates.txt, into a folder. What was built of them is left out."""
+    known = {it.name: it for it in rt.rtlib.crates_below(os.getcwd())}
+    if {*names} - {*known}:
+        sys.exit(f"proofs: no crate is called {' or '.join(sorted({*names} - {*known}))}")
+    wanted = {crate.name for it in names for crate in [known[it], *known[it].below()]}
+    for it in wanted:
+        shutil.copytree(f"crates/{it}", f"{room}/crates/{it}", ignore=lambda at, names, top=f"crates/{it}": ["out"] if at == top else [])
+    if os.path.isfile("HANDLES"):
+        shutil.copy("HANDLES", room)
+    with open("crates.txt", encoding="utf-8") as old, open(f"{room}/crates.txt", "w", encoding="utf-8") as new:
+        new.writelines(line for line in old if re.match(r"\w*", line)[0] in wanted)

@@ -19,6 +19,7 @@ import sys
 import edits
 import kit
 import measured
+import store
 
 
 def take_checked(crate, kept):
@@ -64,31 +65,35 @@ class Results:
 class Gate:
     """`rt ci` with some of its calls replaced."""
 
-    def __init__(self, rt, file):
-        self.rt, self.trials = rt, {}
+    def __init__(self, rt, file, kept):
+        """`kept` is the gate's own store, where the kit has none."""
+        self.rt, self.trials, self.kept = rt, {}, kept
         self.crate_ci, self.in_lanes = rt.Crate.ci, rt.in_lanes
         measured.measure(rt.rtlib, file)
         rt.Crate.ci = lambda crate, flags, tests: self.prove(crate, flags, tests)
         rt.Crate.has_tests = lambda crate: False
-        if kit.has_store(rt):
-            rt.add_edits, rt.in_lanes = self.add_edits, self.in_measured_lanes
-        else:
+        if kept:
             rt.must_fail_all = lambda crate, files, flags: self.trials[crate.name].end() if files else []
             rt.in_lanes = lambda tasks: self.in_measured_lanes(self.with_trials(tasks))
+        else:
+            rt.add_edits, rt.in_lanes = self.add_edits, self.in_measured_lanes
 
     def prove(self, crate, flags, tests):
-        """Proves a library that has edits from nothing, with its proofs in what the crates above it use."""
-        if tests or not crate.makes_rlib() or not self.rt.edits_of(crate)[0]:
+        """Proves a crate, over what the gate's own store has, if there is one. A library that has edits is built with its proofs in it."""
+        if tests:
             return self.crate_ci(crate, flags, tests)
-        crate.cuts_libraries = False
-        status = self.crate_ci(crate, flags, tests)
-        if not kit.has_store(self.rt):
-            # (with no stamp, later commands build their own, as after rt ci)
-            with contextlib.suppress(FileNotFoundError):
-                os.remove(f"{os.path.dirname(crate.rlib)}/stamp")
+        if store.has_proofs(self.rt, crate):
+            crate.cuts_libraries = False
+        prove = lambda: self.crate_ci(crate, flags, tests)
+        return self.kept.pass_crate(crate, lambda: self.without_stamp(crate, prove())) if self.kept else prove()
+
+    def without_stamp(self, crate, status):
+        """Takes away the stamp of a library that was just built, so that later commands build their own, as after `rt ci`."""
+        with contextlib.suppress(FileNotFoundError):
+            os.remove(f"{os.path.dirname(crate.rlib)}/stamp")
         return status
 
-    def add_trial(self, tasks, crate, waits, is_well, last, results=None):
+    def add_trial(self, tasks, crate, waits, is_well, last, results):
         """Adds the tasks that try a crate's edits, so that several lanes can share them, and returns their trial. `last` is the call that ends it."""
         kept_work = f"{crate.folder}/out/proved"
 
@@ -121,7 +126,7 @@ class Gate:
         for (name, kind), task in tasks.items():
             if kind == "edits" and self.rt.edits_of(crates[name])[0]:
                 is_well = lambda given, name=name: given[name, "proof"] and given[name, "tests"]
-                self.trials[name] = self.add_trial(more, crates[name], task[0], is_well, task[-1])
+                self.trials[name] = self.add_trial(more, crates[name], task[0], is_well, task[-1], store.Results(self.kept, crates[name]))
             else:
                 more[name, kind] = task
         return more
@@ -157,11 +162,9 @@ def on_long_chains(crates):
 
 def main():
     file, *words = sys.argv[1:]
-    rt = edits.load_rt()
-    Gate(rt, os.path.abspath(file))
-    if not kit.has_store(rt):
-        return rt.ci()
-    return rt.ci("--anew" in words, [it for it in words if it != "--anew"])
+    rt, is_anew = edits.load_rt(), "--anew" in words
+    Gate(rt, os.path.abspath(file), None if kit.has_store(rt) else store.Store(rt, is_anew))
+    return kit.ci(rt, is_anew, [it for it in words if it != "--anew"])
 
 
 if __name__ == "__main__":
