@@ -1,16 +1,20 @@
 #!/usr/bin/env python3
-"""The runner of must-fail edits (edits.py) against a small crate, whose edits are good, useless or bad, and against a prover that only says what it is told to.
+"""The runner of must-fail edits (edits.py) against a small crate, whose edits are good, useless or bad, and against a prover that only says what it is told to;
+and the gate's own store of what passed (store.py), in a folder of its own.
 
 It prints a line for each test and last 'N passed, M failed'."""
 import os
 import re
+import shutil
 import subprocess
 import sys
 import tempfile
 import types
+import unittest.mock
 
 import edits
 import gate
+import store
 
 SOURCE = """//! Numbers and their neighbours.
 #![tactic(auto)]
@@ -166,9 +170,77 @@ def tests_of_words():
     yield "an edit without a line is found", lost == ["low/b.edit"]
 
 
+def write(path, text):
+    os.makedirs(os.path.dirname(path), exist_ok=True)
+    with open(path, "w", encoding="utf-8") as file:
+        file.write(text)
+
+
+class Repository:
+    """A library with an edit, and a library over it, which are proved by a prover that counts how often it is asked."""
+
+    def __init__(self, room):
+        self.room, self.asked, self.status, self.rt = room, 0, 0, types.SimpleNamespace(KIT=f"{room}/kit", say=lambda *given: None, edits_of=self.edits_of)
+        write(f"{room}/kit/KIT-ID", "a kit")
+        self.low, self.high = self.crate("low", []), self.crate("high", ["low"])
+        self.edit = f"{self.low.folder}/must-fail/wrong.edit"
+        write(self.edit, "file: src/lib.rt")
+
+    def edits_of(self, crate):
+        return [self.edit] if crate.name == "low" else [], []
+
+    def crate(self, name, below):
+        folder = f"{self.room}/crates/{name}"
+        write(f"{folder}/src/lib.rt", name)
+        made = types.SimpleNamespace(name=name, folder=folder, rlib=f"{folder}/out/rlib/{name}.rlib", said={"deps": below}, out=None)
+        made.makes_rlib, made.words, made.below = lambda: True, lambda flags, keeps: [*flags, folder], lambda: [self.low] if below else []
+        return made
+
+    def prove(self, crate):
+        self.asked += 1
+        write(f"{crate.rlib}/format", f"built of {store.read(f'{crate.folder}/src/lib.rt')}")
+        return self.status
+
+    def run(self, is_anew=False):
+        """Does both crates, and returns how often the prover was asked and the line of the edit, which is kept where the run finds none."""
+        self.asked, kept = 0, store.Store(self.rt, is_anew)
+        for it in (self.low, self.high):
+            kept.pass_crate(it, lambda it=it: self.prove(it))
+        results = store.Results(kept, self.low)
+        line = results.find(self.edit)
+        if not line:
+            results.keep(self.edit, "it was refused")
+        return self.asked, line
+
+
+def tests_of_the_store():
+    with tempfile.TemporaryDirectory(prefix="edits-test-") as room, unittest.mock.patch.dict(os.environ, XDG_CACHE_HOME=f"{room}/cache"):
+        its, line = Repository(room), "it was refused"
+        yield "the first run proves and tries all", its.run() == (2, None)
+        shutil.rmtree(its.low.rlib)
+        yield "the next run takes all from the store", its.run() == (0, line) and os.path.isfile(f"{its.low.rlib}/format")
+        yield "a run from nothing takes nothing", its.run(is_anew=True) == (2, None) and its.run() == (0, line)
+        write(f"{its.high.folder}/src/lib.rt", "higher")
+        yield "a crate that has changed is proved, and none below it", its.run() == (1, line)
+        write(f"{its.low.folder}/src/lib.rt", "lower")
+        yield "so is what stands on it", its.run() == (2, None)
+        write(its.edit, "file: src/main.rt")
+        yield "an edit that has changed is tried", its.run() == (0, None) and its.run() == (0, line)
+        write(f"{room}/HANDLES", "Handles allowed: none.")
+        yield "all is proved under other handles", its.run() == (2, None)
+        write(f"{room}/kit/bin/rattle", "another prover")
+        yield "all is proved by another kit", its.run() == (2, None) and its.run() == (0, line)
+        for it in os.scandir(f"{room}/cache/composecheck-gate"):
+            write(f"{it.path}/kept/rlib/low.rlib/format", "something else")
+        yield "what is not as it was kept is not taken", its.run() == (2, None)
+        write(f"{its.low.folder}/src/lib.rt", "wrong")
+        its.status = 1
+        yield "what failed is not kept", (its.run(), its.run()) == ((2, None), (2, None))
+
+
 def main():
     passed = failed = 0
-    for tests in (tests_of_words, tests_of_the_control, tests_of_the_runner):
+    for tests in (tests_of_words, tests_of_the_store, tests_of_the_control, tests_of_the_runner):
         for name, is_well in tests():
             print(f"{'ok' if is_well else 'FAILED'}: {name}", flush=True)
             passed, failed = passed + is_well, failed + (not is_well)

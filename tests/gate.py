@@ -1,16 +1,16 @@
 #!/usr/bin/env python3
 """The gate:
 
-  - the runner of must-fail edits against a small crate of its own (edits_test.py), and the worked examples (examples.py),
+  - the runner of must-fail edits against a small crate of its own, and the gate's store (edits_test.py), and the worked examples (examples.py),
   - `rt ci`, with the edits tried over the proofs of their crates, several in one check (proofs.py),
   - the command-line cases against both built programs, `composecheck` and the same on the plain form of a table, some of them again
     with each allocation refused in turn, the second reading of lines, inputs at their limits and files that are written by `composecheck`,
   - the service of both programs over real sockets, many connections at once, random streams against a second reading of them, README's script, and both packages,
   - single calls with each growth of their memory refused in turn, and streams over devices that fail.
 
-What a run proved is kept on this machine by the checksums of all that it read, and so is which edits were refused: a later run proves and
-tries only what has changed, and what stands on it. With --anew it proves and tries all, from nothing. With --whole it is `rt ci` as the
-kit has it, which tries each edit in a check of its own.
+What a run proved is kept on this machine by the checksums of all that it read, and so is which edits were refused: in the kit's store, or
+in one of the gate's own where the kit has none (store.py). A later run proves and tries only what has changed, and what stands on it. With
+--anew it proves and tries all, from nothing. With --whole it is `rt ci` as the kit has it, which tries each edit in a check of its own.
 
 The first two run beside the proofs, whenever these leave a processor free, and the scripts side by side, one a processor; what each prints is
 printed in one piece.

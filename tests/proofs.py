@@ -5,9 +5,10 @@
 
 `rt ci` proves a crate that has edits a second time, to keep work for them, and then tries each edit in a check of its own. Here each
 library is built with its proofs in it, which `rt ci` leaves out. These are the kept work over which its edits are tried (edits.py).
-All else of `rt ci` stays as it is: what a run passed is kept on this machine, by the checksums of all that it read, and what is kept
-is not proved or tried again, but with --anew. With names it does these crates and those below them, on a copy, as `rt ci CRATE ..`
-does. What each check took is written to FILE. Tests are not proved here, but run by examples.py.
+All else of `rt ci` stays as it is. What a run passed is kept on this machine, by the checksums of all that it read, and what is kept is
+not proved or tried again, but with --anew: in the kit's store, where the kit has one, and else in the gate's own (store.py). With names it
+does these crates and those below them, on a copy, and leaves what was built here as it was. What each check took is written to FILE. Tests
+are not proved here, but run by examples.py.
 """
 import contextlib
 import hashlib
@@ -43,7 +44,7 @@ def take_checked(crate, kept):
 
 
 class Results:
-    """What the edits of a crate came to, kept on this machine beside the proofs that they stand on."""
+    """What the edits of a crate came to, kept in the kit's store beside the proofs that they stand on."""
 
     def __init__(self, rt, kept, crate):
         self.rt, self.kept, self.crate = rt, kept, crate
