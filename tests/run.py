@@ -39,6 +39,7 @@ class Case:
         lines = os.fsdecode(sections.pop("env", b"")).splitlines()
         self.environment = dict(line.split("=", 1) for line in lines)
         self.is_unprivileged = sections.pop("unprivileged", None) is not None
+        self.standard_input = sections.pop("stdin", b"")
         self.files = sections
 
     def prepare(self, folder):
@@ -74,7 +75,7 @@ def run(program, name):
             executable=program,
             cwd=folder,
             env=os.environ | case.environment,
-            stdin=subprocess.DEVNULL,
+            input=case.standard_input,
             capture_output=True,
             timeout=300,
             **case.user(folder),

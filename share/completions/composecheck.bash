@@ -10,7 +10,7 @@ _composecheck() {
         --names) COMPREPLY=($(compgen -f -- "$word") $(compgen -W builtin -- "$word")); return ;;
         -o | --output | --accept) COMPREPLY=($(compgen -f -- "$word")); return ;;
         --fresh | --at-once | --unsent | --locale) return ;;
-        --system) COMPREPLY=($(compgen -d -- "$word")); return ;;
+        --system|--root) COMPREPLY=($(compgen -d -- "$word")); return ;;
         --overlap) COMPREPLY=($(compgen -W "refuse longest" -- "$word")); return ;;
         --format) COMPREPLY=($(compgen -W "text json" -- "$word")); return ;;
         --color) COMPREPLY=($(compgen -W "auto always never" -- "$word")); return ;;
@@ -21,8 +21,8 @@ _composecheck() {
         check) options="--names --fresh --verbose --help" ;;
         explain) options="--names --fresh --all --verbose --help" ;;
         make) options="--names --fresh --all --output --verbose --help" ;;
-        diff) options="--names --fresh --overlap --accept --write-accept --no-fold --format --color --system --locale --help" ;;
-        manifest) options="--system --locale --verbose --help" ;;
+        diff) options="--names --fresh --overlap --accept --write-accept --no-fold --format --color --system --locale --root --help" ;;
+        manifest) options="--system --locale --root --verbose --help" ;;
         serve) options="--names --at-once --unsent --mode --replace --unlink --verbose --help" ;;
         load) options="--verbose --help" ;;
         session) options="--names --open --reset --ask --close --verbose --help" ;;

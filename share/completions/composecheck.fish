@@ -19,6 +19,7 @@ complete -c composecheck -n "__fish_seen_subcommand_from make" -l all -d "All ch
 complete -c composecheck -n "__fish_seen_subcommand_from serve" -l at-once -x -d "Serve so many connections at once"
 complete -c composecheck -n "__fish_seen_subcommand_from serve" -l unsent -x -d "Bytes of replies that may be unsent on a connection"
 complete -c composecheck -n "__fish_seen_subcommand_from diff manifest" -l system -x -a "(__fish_complete_directories)" -d "Folder of the tables of the system"
+complete -c composecheck -n "__fish_seen_subcommand_from diff manifest" -l root -x -a "(__fish_complete_directories)" -d "Folder of an unpacked package"
 complete -c composecheck -n "__fish_seen_subcommand_from diff manifest" -l locale -x -d "Name of the locale"
 complete -c composecheck -n "__fish_seen_subcommand_from diff" -l overlap -x -a "refuse longest" -d "What is done with overlapping sequences"
 complete -c composecheck -n "__fish_seen_subcommand_from diff" -l accept -r -F -d "The changes that are meant"

@@ -83,6 +83,14 @@ const LOCALE: OptionRow = OptionRow {
     help: "The locale for %L in place of $LC_ALL, $LC_CTYPE or $LANG",
 };
 
+/// The folder below which absolute paths are looked for first.
+const ROOT: OptionRow = OptionRow {
+    name: "root",
+    letter: None,
+    takes: Takes::Value("DIR"),
+    help: "Look for an include's absolute path below DIR first, as in an unpacked package",
+};
+
 /// The table that is used.
 const TABLE: ArgumentRow = ArgumentRow {
     name: "TABLE",
@@ -208,6 +216,12 @@ static DIFF: CommandRow = CommandRow {
         },
         SYSTEM,
         LOCALE,
+        OptionRow {
+            name: "root",
+            letter: None,
+            takes: Takes::Values("DIR"),
+            help: "Look for an include's absolute path below DIR first, as in an unpacked package; given twice, the first is OLD's and the last NEW's",
+        },
     ],
     arguments: &[
         ArgumentRow {
@@ -272,7 +286,7 @@ static MANIFEST: CommandRow = CommandRow {
     name: "manifest",
     about: "Print the manifest of a Compose file as it lies on the system, includes followed",
     after_help: "Exit status: 0 printed, 2 input refused, 3 out of memory\nExample: composecheck manifest --locale en_US.UTF-8 ~/.XCompose > table.manifest",
-    options: &[VERBOSE, SYSTEM, LOCALE],
+    options: &[VERBOSE, SYSTEM, LOCALE, ROOT],
     arguments: &[ArgumentRow {
         name: "FILE",
         given: Given::Text,

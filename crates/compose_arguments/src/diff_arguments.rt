@@ -20,6 +20,10 @@ pub struct DiffArguments<'a> {
     pub system: Option<&'a str>,
     /// The name of a locale.
     pub locale: Option<&'a str>,
+    /// The folder below which an absolute path of an include is looked for first, where a file of the old table includes it.
+    pub old_root: Option<&'a str>,
+    /// The same for the new table.
+    pub new_root: Option<&'a str>,
 }
 
 /// How `diff` tells changes.
@@ -46,6 +50,7 @@ pub enum DiffColor {
 
 /// The arguments of `diff`, if they are all there.
 pub fn diff_arguments<'a>(given: &ArgMatches<'a>) -> Option<DiffArguments<'a>> {
+    let (old_root, new_root) = roots_of(given.get_strs("root").unwrap_or(&[]));
     Some(DiffArguments {
         old: given.get_str("OLD")?,
         new: given.get_str("NEW")?,
@@ -55,7 +60,14 @@ pub fn diff_arguments<'a>(given: &ArgMatches<'a>) -> Option<DiffArguments<'a>> {
         color: color_of(given),
         system: given.get_str("system"),
         locale: given.get_str("locale"),
+        old_root,
+        new_root,
     })
+}
+
+/// The roots of the old and the new table: the first and the last that is given.
+fn roots_of<'a>(roots: &[&'a str]) -> (Option<&'a str>, Option<&'a str>) {
+    (roots.first().copied(), roots.last().copied())
 }
 
 /// How the changes are to be told.

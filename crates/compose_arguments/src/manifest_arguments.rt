@@ -8,6 +8,8 @@ pub struct ManifestArguments<'a> {
     pub system: Option<&'a str>,
     /// The name of a locale.
     pub locale: Option<&'a str>,
+    /// The folder below which an absolute path of an include is looked for first.
+    pub root: Option<&'a str>,
     /// The path of the Compose file.
     pub file: &'a str,
 }
@@ -17,6 +19,7 @@ pub fn manifest_arguments<'a>(given: &ArgMatches<'a>) -> Option<ManifestArgument
     Some(ManifestArguments {
         system: given.get_str("system"),
         locale: given.get_str("locale"),
+        root: given.get_str("root"),
         file: given.get_str("FILE")?,
     })
 }

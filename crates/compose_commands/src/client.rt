@@ -1,12 +1,12 @@
-//! `load` and `session`: a client of a running service. An error is the end of a run whose refusal was told.
-use crate::files::{NameFiles, TableFiles, read_file};
+//! `load` and `session`: a client of a running service. What can't be read is a fault; any other error is the end of a run whose refusal was
+//! told.
 use compose_answer::{Ended, Refusal};
 use compose_arguments::{LoadArguments, SessionArguments};
 use compose_bundle::BundleFault;
 use compose_client::{ReplyFeeder, RequestFault, put_request};
+use compose_folder::{Folder, ReadOnce};
+use compose_input::{Fault, NameFiles, TableFiles, read_text};
 use compose_migration::{MigrationFault, Named};
-use compose_model::Rule;
-use compose_read::Sources;
 use compose_report::{no_memory, refused, report_exchange, report_given};
 use compose_session::{Asked, load_request, report_replies, session_requests};
 use compose_shown::Shown;
@@ -16,42 +16,40 @@ use keysym_core::{Keysym, Names};
 use std::io::{Read, Write};
 use std::net::Net;
 use std::os::unix::net::UnixStream;
-use std::rt::Files;
 use std::slice;
 
 /// The most bytes that are read at once.
 const PIECE: usize = 4096;
 
 /// Loads a new table into a running service.
-pub fn load_files(
-    rt: &(impl Files + Net + Print + Eprint + AllocGlobal),
-    verbose: bool,
+pub fn load_files<F: Folder>(
+    rt: &(impl Net + Print + Eprint + AllocGlobal),
+    files: &mut ReadOnce<F>,
     arguments: &LoadArguments<'_>,
+) -> Result<Ended, Fault> {
+    let table = TableFiles::listed(files, rt.alloc(), "new", arguments.new)?;
+    let certificate = read_text(files, rt.alloc(), arguments.certificate)?;
+    Ok(load_table(rt, arguments.socket, &table, &certificate).unwrap_or_else(|ended| ended))
+}
+
+/// Loads this table into a running service.
+fn load_table(
+    rt: &(impl Net + Print + Eprint + AllocGlobal),
+    socket: &str,
+    table: &TableFiles,
+    certificate: &[u8],
 ) -> Result<Ended, Ended> {
-    let request = read_load(rt, verbose, arguments)?;
-    exchange_unnamed(rt, arguments.socket, &request)
+    let request = request_to_load(rt, table, certificate)?;
+    exchange_unnamed(rt, socket, &request)
 }
 
-/// Reads the files of a new table, and its certificate, into the request that loads them.
-fn read_load(
-    rt: &(impl Files + Eprint + AllocGlobal),
-    verbose: bool,
-    arguments: &LoadArguments<'_>,
+/// The request that loads a new table by its certificate.
+fn request_to_load(
+    rt: &(impl Eprint + AllocGlobal),
+    table: &TableFiles,
+    certificate: &[u8],
 ) -> Result<Request, Ended> {
-    let (sources, rule) = TableFiles::read(rt, verbose, "new", arguments.new)?.into_parts();
-    read_certified(rt, verbose, &sources, rule, arguments.certificate)
-}
-
-/// Reads the certificate of a new table into the request that loads both.
-fn read_certified(
-    rt: &(impl Files + Eprint + AllocGlobal),
-    verbose: bool,
-    sources: &Sources,
-    rule: Rule,
-    certificate: &str,
-) -> Result<Request, Ended> {
-    let certificate = read_file(rt, verbose, certificate)?;
-    match load_request(rt.alloc(), sources, rule, &certificate) {
+    match load_request(rt.alloc(), &table.sources, table.rule, certificate) {
         Ok(request) => Ok(request),
         Err(BundleFault::NoMemory) => Err(no_memory(rt)),
         Err(fault) => Err(refused(eprintln!(rt; "refused: load: {fault}"))),
@@ -71,14 +69,15 @@ fn exchange_unnamed(
 }
 
 /// Types in a session of a running service.
-pub fn session_files<T: ComposeTable>(
-    rt: &(impl Files + Net + Print + Eprint + AllocGlobal),
+pub fn session_files<T: ComposeTable, F: Folder>(
+    rt: &(impl Net + Print + Eprint + AllocGlobal),
+    files: &mut ReadOnce<F>,
     verbose: bool,
     names: &[&str],
     arguments: &SessionArguments<'_>,
-) -> Result<Ended, Ended> {
-    let files = NameFiles::read(rt, verbose, names)?;
-    session_in::<T>(rt, verbose, &files, arguments)
+) -> Result<Ended, Fault> {
+    let named = NameFiles::read(files, rt.alloc(), names)?;
+    Ok(session_in::<T>(rt, verbose, &named, arguments).unwrap_or_else(|ended| ended))
 }
 
 /// Types in a session, with the names of these files.

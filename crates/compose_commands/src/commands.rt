@@ -1,14 +1,15 @@
-//! The commands. Each reads its files in their order, and prints what is answered on their bytes. An error is the end of a run whose
-//! refusal was told.
+//! The commands. Each reads its files in their order, and prints what is answered on their bytes; an error is why these can't be read.
 use crate::client::{load_files, session_files};
 use crate::differing::diff_files;
-use crate::files::{MoveFiles, NameFiles, TableFiles, read_file};
+use crate::files::MigrationFiles;
 use crate::manifest::manifest_files;
 use crate::serving::serve_files;
 use compose_answer::{Answer, Ended, Refusal};
 use compose_arguments::{CommandLine, Request, TablePaths};
 use compose_check::CheckInput;
 use compose_details::{Given, GivenTable};
+use compose_folder::{Folder, ReadOnce};
+use compose_input::{Fault, NameFiles, TableFiles, read_text};
 use compose_report::{report_given, report_into};
 use compose_tool::{
     check_allowed, check_migration, explain_all_migration, explain_migration, make_all_migration,
@@ -20,16 +21,17 @@ use std::net::Net;
 use std::rt::{Env, Files};
 
 /// Does what is asked for.
-pub fn answer<T: ComposeTable>(
+pub fn answer<T: ComposeTable, F: Folder>(
     rt: &(impl Env + Files + Net + Print + Eprint + AllocGlobal),
+    files: &mut ReadOnce<F>,
     process_id: u32,
     is_terminal: bool,
     arguments: &CommandLine<'_>,
-) -> Result<Ended, Ended> {
+) -> Result<Ended, Fault> {
     let names = arguments.names.as_slice();
     let verbose = arguments.verbose;
     match &arguments.request {
-        Request::Type { table, keys } => type_files::<T>(rt, verbose, names, *table, keys),
+        Request::Type { table, keys } => type_files::<T, F>(rt, files, verbose, names, *table, keys),
         Request::Check {
             tables,
             fresh,
@@ -41,13 +43,13 @@ pub fn answer<T: ComposeTable>(
                 repertoire: *repertoire,
                 certificate: *certificate,
             };
-            check_files::<T>(rt, verbose, names, &paths, fresh.as_deref())
+            check_files::<T, F>(rt, files, verbose, names, &paths, fresh.as_deref())
         }
         Request::Explain { tables, fresh, all } => {
-            explain_files::<T>(rt, verbose, names, tables, fresh, *all)
+            explain_files::<T, F>(rt, files, verbose, names, tables, fresh, *all)
         }
         Request::Diff { arguments, fresh } => {
-            diff_files::<T>(rt, names, arguments, fresh, is_terminal)
+            diff_files::<T, F>(rt, files, names, arguments, fresh, is_terminal)
         }
         Request::Make {
             tables,
@@ -61,27 +63,30 @@ pub fn answer<T: ComposeTable>(
                 repertoire: *repertoire,
                 output: *output,
             };
-            make_files::<T>(rt, verbose, names, &paths, fresh, *all)
+            make_files::<T, F>(rt, files, verbose, names, &paths, fresh, *all)
         }
-        Request::Manifest(arguments) => manifest_files(rt, verbose, arguments),
-        Request::Serve(arguments) => serve_files::<T>(rt, verbose, process_id, names, arguments),
-        Request::Load(arguments) => load_files(rt, verbose, arguments),
-        Request::Session(arguments) => session_files::<T>(rt, verbose, names, arguments),
+        Request::Manifest(arguments) => manifest_files(rt, files, arguments),
+        Request::Serve(arguments) => {
+            serve_files::<T, F>(rt, files, verbose, process_id, names, arguments)
+        }
+        Request::Load(arguments) => load_files(rt, files, arguments),
+        Request::Session(arguments) => session_files::<T, F>(rt, files, verbose, names, arguments),
     }
 }
 
 /// Types keys with a table.
-fn type_files<T: ComposeTable>(
+fn type_files<T: ComposeTable, F: Folder>(
     rt: &(impl Files + Print + Eprint + AllocGlobal),
+    files: &mut ReadOnce<F>,
     verbose: bool,
     names: &[&str],
     table: &str,
     keys: &[&str],
-) -> Result<Ended, Ended> {
-    let header = NameFiles::read(rt, verbose, names)?;
-    let files = TableFiles::read(rt, verbose, "table", table)?;
-    let answered = type_keys::<T>(rt.alloc(), &header.lines, keys, &files.input());
-    let tables = [files.given(table)];
+) -> Result<Ended, Fault> {
+    let header = NameFiles::read(files, rt.alloc(), names)?;
+    let table = TableFiles::listed(files, rt.alloc(), "table", table)?;
+    let answered = type_keys::<T>(rt.alloc(), &header.lines, keys, &table.input());
+    let tables = [table.given()];
     let given = header.given(keys, &tables);
     Ok(report_given::<T>(rt, verbose, &given, &answered))
 }
@@ -97,7 +102,7 @@ struct CheckPaths<'a> {
 /// What the files of a check hold.
 #[derive(Clone, Copy)]
 struct CheckFiles<'a, 'w> {
-    tables: &'a MoveFiles<'w>,
+    tables: &'a MigrationFiles<'w>,
     repertoire: &'a [u8],
     certificate: &'a [u8],
 }
@@ -119,33 +124,23 @@ impl<'a, 'w> CheckFiles<'a, 'w> {
 }
 
 /// Checks a certificate.
-fn check_files<T: ComposeTable>(
+fn check_files<T: ComposeTable, F: Folder>(
     rt: &(impl Files + Print + Eprint + AllocGlobal),
+    files: &mut ReadOnce<F>,
     verbose: bool,
     names: &[&str],
     paths: &CheckPaths<'_>,
     allowed: Option<&[&str]>,
-) -> Result<Ended, Ended> {
-    let tables = MoveFiles::read(rt, verbose, names, &paths.tables, &[])?;
-    check_tables::<T>(rt, verbose, paths, &tables, allowed)
-}
-
-/// Checks the certificate of these tables.
-fn check_tables<T: ComposeTable>(
-    rt: &(impl Files + Print + Eprint + AllocGlobal),
-    verbose: bool,
-    paths: &CheckPaths<'_>,
-    tables: &MoveFiles<'_>,
-    allowed: Option<&[&str]>,
-) -> Result<Ended, Ended> {
-    let repertoire = read_file(rt, verbose, paths.repertoire)?;
-    let certificate = read_file(rt, verbose, paths.certificate)?;
-    let files = CheckFiles {
-        tables,
+) -> Result<Ended, Fault> {
+    let tables = MigrationFiles::read(files, rt.alloc(), names, &paths.tables, &[])?;
+    let repertoire = read_text(files, rt.alloc(), paths.repertoire)?;
+    let certificate = read_text(files, rt.alloc(), paths.certificate)?;
+    let given = CheckFiles {
+        tables: &tables,
         repertoire: &repertoire,
         certificate: &certificate,
     };
-    Ok(report_check::<T>(rt, verbose, paths, &files, allowed))
+    Ok(report_check::<T>(rt, verbose, paths, &given, allowed))
 }
 
 /// Prints what is answered to a certificate.
@@ -163,8 +158,8 @@ fn report_check<T: ComposeTable>(
         header: &tables.names.lines,
         arguments: allowed.unwrap_or(&[]),
         tables: &[
-            tables.old.given(paths.tables.old),
-            tables.new.given(paths.tables.new),
+            tables.old.given(),
+            tables.new.given(),
         ],
         repertoire: paths.repertoire,
         certificate: paths.certificate,
@@ -187,8 +182,8 @@ fn check_answer<T: ComposeTable>(
 }
 
 /// What a command on two tables was given.
-fn given_move<'a>(
-    files: &'a MoveFiles<'_>,
+fn given_migration<'a>(
+    files: &'a MigrationFiles<'_>,
     tables: &'a [GivenTable<'a>],
     repertoire: &'a str,
     all: bool,
@@ -206,22 +201,23 @@ fn given_move<'a>(
 }
 
 /// Explains how two tables differ.
-fn explain_files<T: ComposeTable>(
+fn explain_files<T: ComposeTable, F: Folder>(
     rt: &(impl Files + Print + Eprint + AllocGlobal),
+    files: &mut ReadOnce<F>,
     verbose: bool,
     names: &[&str],
     paths: &TablePaths<'_>,
     fresh: &[&str],
     all: bool,
-) -> Result<Ended, Ended> {
-    let files = MoveFiles::read(rt, verbose, names, paths, fresh)?;
+) -> Result<Ended, Fault> {
+    let both = MigrationFiles::read(files, rt.alloc(), names, paths, fresh)?;
     let answered = if all {
-        explain_all_migration::<T>(rt.alloc(), &files.input())
+        explain_all_migration::<T>(rt.alloc(), &both.input())
     } else {
-        explain_migration::<T>(rt.alloc(), &files.input())
+        explain_migration::<T>(rt.alloc(), &both.input())
     };
-    let tables = [files.old.given(paths.old), files.new.given(paths.new)];
-    let given = given_move(&files, &tables, "", all);
+    let tables = [both.old.given(), both.new.given()];
+    let given = given_migration(&both, &tables, "", all);
     Ok(report_given::<T>(rt, verbose, &given, &answered))
 }
 
@@ -234,37 +230,38 @@ struct MakePaths<'a> {
 }
 
 /// Makes a certificate, and prints it or writes it to a file.
-fn make_files<T: ComposeTable>(
+fn make_files<T: ComposeTable, F: Folder>(
     rt: &(impl Files + Print + Eprint + AllocGlobal),
+    files: &mut ReadOnce<F>,
     verbose: bool,
     names: &[&str],
     paths: &MakePaths<'_>,
     fresh: &[&str],
     all: bool,
-) -> Result<Ended, Ended> {
-    let files = MoveFiles::read(rt, verbose, names, &paths.tables, fresh)?;
-    make_with::<T>(rt, verbose, paths, &files, all)
+) -> Result<Ended, Fault> {
+    let both = MigrationFiles::read(files, rt.alloc(), names, &paths.tables, fresh)?;
+    let characters = read_text(files, rt.alloc(), paths.repertoire)?;
+    Ok(make_with::<T>(rt, verbose, paths, &both, &characters, all))
 }
 
-/// Makes a certificate for these tables.
+/// Makes a certificate for these tables, by which these characters can be typed.
 fn make_with<T: ComposeTable>(
     rt: &(impl Files + Print + Eprint + AllocGlobal),
     verbose: bool,
     paths: &MakePaths<'_>,
-    files: &MoveFiles<'_>,
+    both: &MigrationFiles<'_>,
+    characters: &[u8],
     all: bool,
-) -> Result<Ended, Ended> {
-    let characters = read_file(rt, verbose, paths.repertoire)?;
+) -> Ended {
     let answered = if all {
-        make_all_migration::<T>(rt.alloc(), &files.input(), &characters)
+        make_all_migration::<T>(rt.alloc(), &both.input(), characters)
     } else {
-        make_migration::<T>(rt.alloc(), &files.input(), &characters)
+        make_migration::<T>(rt.alloc(), &both.input(), characters)
     };
-    let (old, new) = (paths.tables.old, paths.tables.new);
-    let tables = [files.old.given(old), files.new.given(new)];
-    let given = given_move(files, &tables, paths.repertoire, false);
+    let tables = [both.old.given(), both.new.given()];
+    let given = given_migration(both, &tables, paths.repertoire, false);
     match paths.output {
-        Some(path) => Ok(report_into::<T>(rt, verbose, path, &given, &answered)),
-        None => Ok(report_given::<T>(rt, verbose, &given, &answered)),
+        Some(path) => report_into::<T>(rt, verbose, path, &given, &answered),
+        None => report_given::<T>(rt, verbose, &given, &answered),
     }
 }

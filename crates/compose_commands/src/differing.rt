@@ -1,31 +1,34 @@
-//! `diff`: what a new Compose file changes for those who type with the old one. An error is the end of a run whose refusal was told.
-use crate::files::{NameFiles, read_file};
-use crate::found::FoundTable;
-use crate::manifest::variable;
+//! `diff`: what a new Compose file changes for those who type with the old one. An error is why its input can't be read.
+use crate::environment::{Environment, PlaceArguments, variable};
 use compose_answer::{Answer, Ended, Refusal};
 use compose_arguments::{DiffArguments, DiffColor, DiffForm};
 use compose_diff::{AcceptFault, colored_text};
 use compose_diff_rows::{DiffFault, DiffInput, Form, diff_migration};
+use compose_folder::{Folder, ReadOnce};
+use compose_input::{Fault, NameFiles, TableFiles, read_text};
 use compose_messages::{FileMessage, Message, Position};
 use compose_migration::MigrationInput;
 use compose_model::Rule;
 use compose_report::{no_memory, refused, report, report_given};
 use compose_tree::ComposeTable;
-use std::alloc::Global;
-use std::rt::{Env, Files};
+use std::alloc::{AllocError, Global};
+use std::rt::Env;
 
 /// Tells what the new Compose file does to the sequences of the old one, and what it adds. `is_terminal` says whether standard output is
 /// a terminal.
-pub fn diff_files<T: ComposeTable>(
-    rt: &(impl Env + Files + Print + Eprint + AllocGlobal),
+pub fn diff_files<T: ComposeTable, F: Folder>(
+    rt: &(impl Env + Print + Eprint + AllocGlobal),
+    files: &mut ReadOnce<F>,
     names: &[&str],
     arguments: &DiffArguments<'_>,
     fresh: &[&str],
     is_terminal: bool,
-) -> Result<Ended, Ended> {
+) -> Result<Ended, Fault> {
     let colored = is_colored(rt, arguments, is_terminal)?;
-    let files = DiffFiles::read(rt, names, arguments)?;
-    diff_read::<T>(rt, arguments, &files, fresh, colored)
+    let environment = Environment::read(rt)?;
+    let read = DiffFiles::read(files, rt.alloc(), &environment, names, arguments)?;
+    let _ = eprint!(rt; "{}{}", read.old.note, read.new.note);
+    Ok(diff_read::<T>(rt, arguments, &read, fresh, colored))
 }
 
 /// Tells what the new Compose file changes, once all files are read.
@@ -35,13 +38,11 @@ fn diff_read<T: ComposeTable>(
     files: &DiffFiles<'_>,
     fresh: &[&str],
     colored: bool,
-) -> Result<Ended, Ended> {
+) -> Ended {
     match diff_answer::<T>(rt.alloc(), arguments, files, fresh) {
         Ok(answer) => report_answer(rt, answer, fresh, colored),
-        Err(DiffFault::Input(refusal)) => {
-            Ok(report_refusal::<T>(rt, arguments, files, fresh, refusal))
-        }
-        Err(DiffFault::Accept(fault)) => Ok(tell_accept_fault(rt, arguments.accept, &fault)),
+        Err(DiffFault::Input(refusal)) => report_refusal::<T>(rt, files, fresh, refusal),
+        Err(DiffFault::Accept(fault)) => tell_accept_fault(rt, arguments.accept, &fault),
     }
 }
 
@@ -49,22 +50,25 @@ fn diff_read<T: ComposeTable>(
 #[derive(Drop)]
 struct DiffFiles<'n> {
     names: NameFiles<'n>,
-    old: FoundTable,
-    new: FoundTable,
+    old: TableFiles,
+    new: TableFiles,
     accepted: Vec<u8>,
 }
 
 impl<'n> DiffFiles<'n> {
     /// Reads the files of names, both tables as they lie on the system, and the list of the changes that are meant.
-    fn read(
-        rt: &(impl Env + Files + Eprint + AllocGlobal),
+    fn read<F: Folder>(
+        files: &mut ReadOnce<F>,
+        alloc: Global,
+        environment: &Environment,
         names: &[&'n str],
         arguments: &DiffArguments<'_>,
-    ) -> Result<DiffFiles<'n>, Ended> {
-        let names = read_names(rt, names)?;
-        let old = FoundTable::read(rt, "old", arguments, arguments.old)?;
-        let new = FoundTable::read(rt, "new", arguments, arguments.new)?;
-        let accepted = read_accepted(rt, arguments.accept)?;
+    ) -> Result<DiffFiles<'n>, Fault> {
+        let (old_root, new_root) = (arguments.old_root, arguments.new_root);
+        let names = read_names(files, alloc, names)?;
+        let old = read_table(files, alloc, environment, arguments, old_root, arguments.old)?;
+        let new = read_table(files, alloc, environment, arguments, new_root, arguments.new)?;
+        let accepted = read_accepted(files, alloc, arguments.accept)?;
         Ok(DiffFiles {
             names,
             old,
@@ -74,14 +78,31 @@ impl<'n> DiffFiles<'n> {
     }
 
     /// The migration that they are to give, with the names of the fresh keysyms.
-    fn input<'a, 'w>(&'a self, rule: Rule, fresh: &'a [&'w str]) -> MigrationInput<'a, 'w> {
+    fn input<'a, 'w>(&'a self, fresh: &'a [&'w str]) -> MigrationInput<'a, 'w> {
         MigrationInput {
             header: &self.names.lines,
             key_names: fresh,
-            old: self.old.input(rule),
-            new: self.new.input(rule),
+            old: self.old.input(),
+            new: self.new.input(),
         }
     }
+}
+
+/// The table at this path, as it lies on the system; an absolute path of an include is looked for below the root first.
+fn read_table<F: Folder>(
+    files: &mut ReadOnce<F>,
+    alloc: Global,
+    environment: &Environment,
+    arguments: &DiffArguments<'_>,
+    root: Option<&str>,
+    path: &str,
+) -> Result<TableFiles, Fault> {
+    let places = environment.places(PlaceArguments {
+        system: arguments.system,
+        locale: arguments.locale,
+        root,
+    });
+    TableFiles::found(files, alloc, places, path, rule_of(arguments.longest))
 }
 
 /// What is answered on these files.
@@ -91,9 +112,9 @@ fn diff_answer<T: ComposeTable>(
     files: &DiffFiles<'_>,
     fresh: &[&str],
 ) -> Result<Answer, DiffFault> {
-    let (old_paths, new_paths) = (files.old.paths(alloc)?, files.new.paths(alloc)?);
+    let (old_paths, new_paths) = (files.old.path_texts(alloc)?, files.new.path_texts(alloc)?);
     let input = DiffInput {
-        tables: files.input(rule_of(arguments.longest), fresh),
+        tables: files.input(fresh),
         old_paths: &old_paths,
         new_paths: &new_paths,
         accepted: &files.accepted,
@@ -103,25 +124,27 @@ fn diff_answer<T: ComposeTable>(
 }
 
 /// The files of names, or else the names that are built in.
-fn read_names<'n>(
-    rt: &(impl Files + Eprint + AllocGlobal),
+fn read_names<'n, F: Folder>(
+    files: &mut ReadOnce<F>,
+    alloc: Global,
     names: &[&'n str],
-) -> Result<NameFiles<'n>, Ended> {
+) -> Result<NameFiles<'n>, Fault> {
     if names.is_empty() {
         let builtin: &'n str = "builtin";
-        return NameFiles::read(rt, true, &[builtin]);
+        return NameFiles::read(files, alloc, &[builtin]);
     }
-    NameFiles::read(rt, true, names)
+    NameFiles::read(files, alloc, names)
 }
 
 /// The list of the changes that are meant; an empty one where no path is given.
-fn read_accepted(
-    rt: &(impl Files + Eprint + AllocGlobal),
+fn read_accepted<F: Folder>(
+    files: &mut ReadOnce<F>,
+    alloc: Global,
     path: Option<&str>,
-) -> Result<Vec<u8>, Ended> {
+) -> Result<Vec<u8>, Fault> {
     match path {
-        Some(path) => read_file(rt, true, path),
-        None => Ok(Vec::new(rt.alloc())),
+        Some(path) => read_text(files, alloc, path),
+        None => Ok(Vec::new(alloc)),
     }
 }
 
@@ -142,10 +165,10 @@ fn form_of(form: DiffForm) -> Form {
 
 /// Whether the lines are told in colours: those for programs never are.
 fn is_colored(
-    rt: &(impl Env + Eprint + AllocGlobal),
+    rt: &(impl Env + AllocGlobal),
     arguments: &DiffArguments<'_>,
     is_terminal: bool,
-) -> Result<bool, Ended> {
+) -> Result<bool, Fault> {
     if matches!(arguments.form, DiffForm::Json | DiffForm::AcceptList) {
         return Ok(false);
     }
@@ -162,26 +185,24 @@ fn report_answer(
     answer: Answer,
     fresh: &[&str],
     colored: bool,
-) -> Result<Ended, Ended> {
-    if colored {
-        return Ok(report(rt, &Ok(in_colors(rt, answer)?), fresh));
+) -> Ended {
+    if !colored {
+        return report(rt, &Ok(answer), fresh);
     }
-    Ok(report(rt, &Ok(answer), fresh))
+    match in_colors(rt.alloc(), answer) {
+        Ok(answer) => report(rt, &Ok(answer), fresh),
+        Err(_) => no_memory(rt),
+    }
 }
 
 /// Prints why there is no answer, and each faulty line of what was given.
 fn report_refusal<T: ComposeTable>(
     rt: &(impl Print + Eprint + AllocGlobal),
-    arguments: &DiffArguments<'_>,
     files: &DiffFiles<'_>,
     fresh: &[&str],
     refusal: Refusal,
 ) -> Ended {
-    let rule = rule_of(arguments.longest);
-    let tables = [
-        files.old.given(arguments.old, rule),
-        files.new.given(arguments.new, rule),
-    ];
+    let tables = [files.old.given(), files.new.given()];
     let given = files.names.given(fresh, &tables);
     report_given::<T>(rt, true, &given, &Err(refusal))
 }
@@ -209,15 +230,10 @@ fn tell_accept_fault(rt: &impl Eprint, path: Option<&str>, fault: &AcceptFault) 
 }
 
 /// The answer with its lines in colours.
-fn in_colors(rt: &(impl Eprint + AllocGlobal), answer: Answer) -> Result<Answer, Ended> {
+fn in_colors(alloc: Global, answer: Answer) -> Result<Answer, AllocError> {
     match answer {
-        Answer::Yes(text) => Ok(Answer::Yes(colored_lines(rt, &text)?)),
-        Answer::No(text) => Ok(Answer::No(colored_lines(rt, &text)?)),
+        Answer::Yes(text) => Ok(Answer::Yes(colored_text(alloc, &text)?)),
+        Answer::No(text) => Ok(Answer::No(colored_text(alloc, &text)?)),
         answer => Ok(answer),
     }
-}
-
-/// Lines in colours.
-fn colored_lines(rt: &(impl Eprint + AllocGlobal), text: &str) -> Result<String, Ended> {
-    colored_text(rt.alloc(), text).map_err(|_| no_memory(rt))
 }

@@ -3,8 +3,10 @@ ghost use Rattle.std.specs.Prelude.{◌≤◌};
 ghost use Rattle.std.specs.Process.{exit_status};
 
 use crate::commands::answer;
+use crate::files::tell_fault;
 use compose_answer::Ended;
-use compose_arguments::read_command_line;
+use compose_arguments::{CommandLine, Request, read_command_line};
+use compose_folder::{Disk, ReadOnce};
 use compose_report::{exit_code, no_memory, refused, report_arguments};
 use compose_tree::ComposeTable;
 use std::net::Net;
@@ -17,7 +19,7 @@ use std::{env, io};
 /// be written, 3 where memory was refused. The answer goes to standard output, why there is none to standard error. At the cost of the
 /// command over its files. `is_terminal` says whether standard output is a terminal.
 pub fn run<T: ComposeTable>(
-    rt: &(impl Env + Files + Net + Print + Eprint + AllocGlobal),
+    rt: &(impl Env + Files + Input + Net + Print + Eprint + AllocGlobal),
     process_id: u32,
     is_terminal: bool,
 ) -> ExitCode
@@ -43,15 +45,34 @@ fn read_arguments(rt: &(impl Env + Eprint + AllocGlobal)) -> Result<Vec<String>,
 
 /// Does what the arguments of the command line say.
 fn answer_arguments<T: ComposeTable>(
-    rt: &(impl Env + Files + Net + Print + Eprint + AllocGlobal),
+    rt: &(impl Env + Files + Input + Net + Print + Eprint + AllocGlobal),
     process_id: u32,
     is_terminal: bool,
     arguments: &[String],
 ) -> Ended {
     match read_command_line(rt.alloc(), arguments) {
-        Ok(said) => answer::<T>(rt, process_id, is_terminal, &said).unwrap_or_else(|ended| ended),
+        Ok(said) => answer_command::<T>(rt, process_id, is_terminal, &said),
         Err(error) => report_error(rt, &error),
     }
+}
+
+/// Does what a command asks for, over files of which each is opened once.
+fn answer_command<T: ComposeTable>(
+    rt: &(impl Env + Files + Input + Net + Print + Eprint + AllocGlobal),
+    process_id: u32,
+    is_terminal: bool,
+    asked: &CommandLine<'_>,
+) -> Ended {
+    let mut files = ReadOnce::new(rt.alloc(), Disk::new(rt));
+    match answer::<T, _>(rt, &mut files, process_id, is_terminal, asked) {
+        Ok(ended) => ended,
+        Err(fault) => tell_fault(rt, asked.verbose || is_diff(asked), &fault),
+    }
+}
+
+/// Whether the command is `diff`, which always tells where a fault is.
+fn is_diff(asked: &CommandLine<'_>) -> bool {
+    matches!(&asked.request, Request::Diff { .. })
 }
 
 /// Prints the help that the arguments ask for, or why they are refused.

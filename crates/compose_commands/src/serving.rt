@@ -1,9 +1,10 @@
-//! `serve`: a service on a socket. An error is the end of a run whose refusal was told.
+//! `serve`: a service on a socket. What can't be read is a fault; any other error is the end of a run whose refusal was told.
 use crate::at_once::{print_end, serve_many};
-use crate::files::{NameFiles, TableFiles, read_file};
 use compose_answer::{Answer, Ended, Refusal};
 use compose_arguments::ServeArguments;
 use compose_details::Given;
+use compose_folder::{Folder, ReadOnce};
+use compose_input::{Fault, NameFiles, TableFiles, read_text};
 use compose_report::{no_memory, refused, report, report_given, written};
 use compose_serve::{Device, serve};
 use compose_service::Service;
@@ -18,15 +19,25 @@ use std::os::unix::net::{UnixListener, UnixStream};
 use std::rt::{Env, Files};
 
 /// Serves typing sessions on a socket, one connection after another.
-pub fn serve_files<T: ComposeTable>(
+pub fn serve_files<T: ComposeTable, F: Folder>(
     rt: &(impl Env + Files + Net + Print + Eprint + AllocGlobal),
+    files: &mut ReadOnce<F>,
     verbose: bool,
     process_id: u32,
     names: &[&str],
     arguments: &ServeArguments<'_>,
-) -> Result<Ended, Ended> {
-    let mut service = begin_files::<T>(rt, verbose, names, arguments)?;
-    serve_on_socket(rt, process_id, &mut service, arguments)
+) -> Result<Ended, Fault> {
+    match ServiceFiles::read(files, rt.alloc(), names, arguments)?.begin::<T>(rt.alloc()) {
+        Ok(mut service) => {
+            let served = serve_on_socket(rt, process_id, &mut service, arguments);
+            Ok(served.unwrap_or_else(|ended| ended))
+        }
+        Err(fault) if verbose => {
+            let read = ServiceFiles::read(files, rt.alloc(), names, arguments)?;
+            Ok(report_fault::<T>(rt, arguments, &read, fault))
+        }
+        Err(fault) => Ok(report(rt, &answered(fault), &[])),
+    }
 }
 
 /// Serves on the socket, and then takes its file away where that is asked for.
@@ -69,16 +80,16 @@ struct ServiceFiles<'n> {
 
 impl<'n> ServiceFiles<'n> {
     /// Reads the names, the table, the repertoire and the certificate.
-    fn read(
-        rt: &(impl Files + Eprint + AllocGlobal),
-        verbose: bool,
+    fn read<F: Folder>(
+        files: &mut ReadOnce<F>,
+        alloc: Global,
         names: &[&'n str],
         arguments: &ServeArguments<'_>,
-    ) -> Result<ServiceFiles<'n>, Ended> {
-        let names = NameFiles::read(rt, verbose, names)?;
-        let table = TableFiles::read(rt, verbose, "table", arguments.table)?;
-        let repertoire = read_file(rt, verbose, arguments.repertoire)?;
-        let certificate = read_file(rt, verbose, arguments.certificate)?;
+    ) -> Result<ServiceFiles<'n>, Fault> {
+        let names = NameFiles::read(files, alloc, names)?;
+        let table = TableFiles::listed(files, alloc, "table", arguments.table)?;
+        let repertoire = read_text(files, alloc, arguments.repertoire)?;
+        let certificate = read_text(files, alloc, arguments.certificate)?;
         Ok(ServiceFiles {
             names,
             table,
@@ -100,23 +111,6 @@ impl<'n> ServiceFiles<'n> {
     }
 }
 
-/// The service that begins with the files.
-fn begin_files<T: ComposeTable>(
-    rt: &(impl Files + Print + Eprint + AllocGlobal),
-    verbose: bool,
-    names: &[&str],
-    arguments: &ServeArguments<'_>,
-) -> Result<Service<T>, Ended> {
-    match ServiceFiles::read(rt, verbose, names, arguments)?.begin(rt.alloc()) {
-        Ok(service) => Ok(service),
-        Err(fault) if verbose => {
-            let files = ServiceFiles::read(rt, verbose, names, arguments)?;
-            Err(report_fault::<T>(rt, arguments, &files, fault))
-        }
-        Err(fault) => Err(report(rt, &answered(fault), &[])),
-    }
-}
-
 /// What is answered where no service begins.
 fn answered(fault: BeginFault) -> Result<Answer, Refusal> {
     match fault {
@@ -125,14 +119,14 @@ fn answered(fault: BeginFault) -> Result<Answer, Refusal> {
     }
 }
 
-/// Prints why no service begins with the files, which were read again, and what there is to say of it. They are gone with the service.
+/// Prints why no service begins with the files, and what there is to say of it. What the service took over is had again of what was read.
 fn report_fault<T: ComposeTable>(
     rt: &(impl Print + Eprint + AllocGlobal),
     arguments: &ServeArguments<'_>,
     files: &ServiceFiles<'_>,
     fault: BeginFault,
 ) -> Ended {
-    let table = files.table.given(arguments.table);
+    let table = files.table.given();
     let given = Given {
         headers: &files.names.files,
         header: &files.names.lines,

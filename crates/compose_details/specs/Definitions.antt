@@ -3,6 +3,7 @@ use Rattle.std.specs.Prelude.{ℕ, List, [], ◌++◌, map, slice_get, string_by
 use Rattle.std.specs.Option.{option_map_or}
 use Rattle.keysym_core.specs.Names.{KeysymNames}
 use Rattle.compose_model.specs.Table.{Definition}
+use Rattle.compose_shown.specs.Shown.{shown_text}
 use Rattle.compose_lex.specs.Escape.{quote}
 use Rattle.compose_read.specs.Read.{definitions_of}
 use Rattle.compose_read.specs.declared.ReadFault.{ReadFault}
@@ -15,9 +16,9 @@ use Rattle.compose_details.specs.Faulty.{root_of, paths_of}
 use Rattle.compose_details.specs.declared.given.GivenTable.{GivenTable}
 use Rattle.compose_details.specs.declared.definitions.PlacedTable.{PlacedTable}
 
--- the sequence by its names, and its text
+-- the sequence by its names, and its text as a terminal may show it
 abbrev pub definition_said : KeysymNames → Definition → List ℕ
-definition_said names d = codes "the sequence" ++ events names d.sequence ++ codes " gives " ++ quote d.text
+definition_said names d = codes "the sequence" ++ events names d.sequence ++ codes " gives " ++ shown_text (quote d.text)
 
 -- a line at the place with this index
 abbrev pub line_at : List (List ℕ) → List DefinitionPlace → ℕ → List ℕ → List ℕ

@@ -1,7 +1,8 @@
 //! Definitions, and where they stand.
-ghost use Rattle.std.specs.Prelude.{◌≡◌, ◌++◌, ◌<◌, if◌then◌else◌, OnOk, IfOk, Some, length, slice_get, string_bytes};
+ghost use Rattle.std.specs.Prelude.{◌≡◌, ◌++◌, ◌<◌, if◌then◌else◌, OnOk, IfOk, Some, length, slice_get, string_bytes, codes};
 ghost use Rattle.compose_model.specs.Table.{Definition};
 ghost use Rattle.compose_places.specs.Last.{last_with};
+ghost use Rattle.compose_shown.specs.Shown.{shown_text};
 ghost use Rattle.compose_details.specs.Definitions as words;
 
 use crate::faulty::root_of;
@@ -11,8 +12,10 @@ use compose_lex::quote;
 use compose_messages::{Message, overlap_words, push_events};
 use compose_places::{DefinitionPlace, definition_places};
 use compose_read::{Definitions, ReadFault, read_definitions};
+use compose_shown::Shown;
 use keysym_core::{Keysym, Names};
 use std::alloc::{AllocError, Global};
+use std::fmt::Write;
 
 /// The definitions of a table, and where they stand.
 #[derive(Clone, Copy)]
@@ -193,9 +196,19 @@ fn definition_words(
     };
     let mut text = String::from_str(alloc, "the sequence")?;
     push_events(alloc, &mut text, names, definitions.sequence(index))?;
-    text.push_str(" gives ")?;
-    text.push_str(&quoted)?;
+    push_given(&mut text, &quoted)?;
     Ok(text)
+}
+
+/// Adds that a sequence gives this quoted text, which a stranger may have written.
+fn push_given(text: &mut String, quoted: &str) -> Result<(), AllocError>
+    ensures { OnOk result
+        (string_bytes text.new
+        ≡ string_bytes text.old ++ (codes " gives " ++ shown_text quoted.now)) }
+{
+    let shown = Shown(quoted);
+    write!(text, " gives {shown}")?;
+    Ok(())
 }
 
 /// Adds a line at the place with this index.

@@ -11,10 +11,8 @@ mod answered;
 mod arguments;
 mod exchange;
 mod given;
-mod headers;
 
 pub use answered::{exit_code, no_memory, refused, report, tell_about, written};
 pub use arguments::report_arguments;
 pub use exchange::report_exchange;
 pub use given::{report_given, report_into};
-pub use headers::add_names;

@@ -1,6 +1,6 @@
 //! Files of names, one after another.
 ghost use Rattle.std.specs.Prelude.{◌≡◌, ◌++◌, OnOk};
-ghost use Rattle.compose_report.specs.Headers.{ended};
+ghost use Rattle.compose_input.specs.Headers.{ended};
 
 use std::alloc::AllocError;
 

@@ -1,0 +1,38 @@
+//! A file as it is.
+use crate::fault::{Fault, Unopened};
+use compose_folder::{Folder, ReadOnce, Unread};
+use std::alloc::Global;
+use std::io::ErrorKind;
+
+/// The bytes of the file at this path; `-` is standard input. O(bytes).
+pub fn read_text<F: Folder>(
+    files: &mut ReadOnce<F>,
+    alloc: Global,
+    path: &str,
+) -> Result<Vec<u8>, Fault> {
+    match files.read(alloc, path) {
+        Ok(bytes) => Ok(bytes),
+        Err(Unread::Refused(kind)) => Err(unread(alloc, path, kind)?),
+        Err(Unread::NoMemory) => Err(Fault::NoMemory),
+    }
+}
+
+/// The bytes of the file at a path that stands in a file, where `-` is a file's name as any other. O(bytes).
+pub(crate) fn read_named<F: Folder>(
+    files: &mut ReadOnce<F>,
+    alloc: Global,
+    path: &str,
+) -> Result<Vec<u8>, Fault> {
+    if path == "-" {
+        return read_text(files, alloc, "./-");
+    }
+    read_text(files, alloc, path)
+}
+
+/// That the file at this path can't be read.
+pub(crate) fn unread(alloc: Global, path: &str, kind: ErrorKind) -> Result<Fault, Fault> {
+    Ok(Fault::Unread(Unopened {
+        path: String::from_str(alloc, path)?,
+        kind,
+    }))
+}
