@@ -307,6 +307,83 @@ def check_handed_over(program, results):
         handed_over.stdout.close()
 
 
+# ---- the client in Python, at services that hold it up
+
+class Interrupt(BaseException):
+    """What a signal raises in the middle of a call."""
+
+
+@contextlib.contextmanager
+def answering_late(*replies):
+    """A service that answers nothing until it is released, and then each request of a key with the next reply. Yields its path and its release."""
+    with tempfile.TemporaryDirectory(prefix="late-") as folder, socket.socket(socket.AF_UNIX, socket.SOCK_STREAM) as listener:
+        path, release = os.path.join(folder, "socket"), threading.Event()
+        listener.bind(path)
+        listener.listen()
+
+        def serve():
+            connection = listener.accept()[0]
+            with connection, contextlib.suppress(BrokenPipeError, ConnectionResetError):
+                release.wait()
+                for reply in replies:
+                    if not connection.recv(len(key(7, X))):
+                        break
+                    connection.sendall(reply)
+
+        serving = threading.Thread(target=serve)
+        serving.start()
+        try:
+            yield path, release
+        finally:
+            release.set()
+            serving.join()
+
+
+def outcome(call, *arguments):
+    """What a call of the client returns, or the name of what it raises."""
+    try:
+        return call(*arguments)
+    except (Interrupt, composecheck_client.ClientError, OSError) as it:
+        return type(it).__name__
+
+
+def interrupt(*_):
+    raise Interrupt
+
+
+def check_late_replies(_, results):
+    """A reply that comes after its call has ended is not taken for that to the next request: the connection is closed."""
+    late, next_one = fed(7, 0, b"e"), fed(7, 0, b"x")
+    with answering_late(late, next_one) as (path, release), Client(path, timeout=0.2) as client:
+        results.expect("a reply that doesn't come in time", outcome(client.key, 7, E), "TimedOut")
+        release.set()
+        results.expect("the call after a timeout", outcome(client.key, 7, X), "ConnectionEnded")
+    with answering_late(late, next_one) as (path, release), Client(path) as client:
+        before = signal.signal(signal.SIGALRM, interrupt)
+        signal.setitimer(signal.ITIMER_REAL, 0.2)
+        results.expect("a call that a signal ends", outcome(client.key, 7, E), "Interrupt")
+        signal.signal(signal.SIGALRM, before)
+        release.set()
+        results.expect("the call after an interrupt", outcome(client.key, 7, X), "ConnectionEnded")
+    with answering_late() as (path, _), Client(path, timeout=0.2) as client:
+        results.expect("a request that isn't read in time", outcome(client.load, [("r", bytes(8_000_000))], b""), "TimedOut")
+        results.expect("the call after half a request", outcome(client.key, 7, X), "ConnectionEnded")
+    with answering_late(late[:5]) as (path, release), Client(path) as client:
+        release.set()
+        results.expect("a reply that is cut", outcome(client.key, 7, E), "ConnectionEnded")
+        results.expect("the call after that", outcome(client.key, 7, X), "ConnectionEnded")
+    with answering_late(frame(0x81, 8), next_one) as (path, release), Client(path) as client:
+        release.set()
+        results.expect("a reply to another request", outcome(client.key, 7, E), "UnexpectedReply")
+        results.expect("the call after a reply to another request", outcome(client.key, 7, X), "ConnectionEnded")
+    with answering_late(refused(7, 2), next_one) as (path, release), Client(path) as client:
+        release.set()
+        results.expect("a request that is refused", outcome(client.key, 7, E), "NoSession")
+        results.expect("the call after a refusal", outcome(client.key, 7, X), ("nothing", True, "x"))
+        client.disconnect()
+        results.expect("a call after the client has closed the connection", outcome(client.key, 7, X), "ConnectionEnded")
+
+
 # ---- the commands that are clients
 
 def ran(program, service, *words):
@@ -354,7 +431,8 @@ def check_client_commands(program, results):
 
 def main():
     program, results = os.path.abspath(sys.argv[1]), Results()
-    for check in (check_worked, check_cuts, check_greatest_load, check_overlaps, check_start, check_clients, check_socket_file, check_signal, check_handed_over, check_client_commands):
+    for check in (check_worked, check_cuts, check_greatest_load, check_overlaps, check_start, check_clients, check_socket_file, check_signal, check_handed_over, check_late_replies,
+                  check_client_commands):
         check(program, results)
     print(f"{results.passed} passed, {results.failed} failed")
     return 1 if results.failed else 0

@@ -10,7 +10,9 @@
         client.close_session(7)
 
 A request that the service refuses raises the subclass of `Refused` that says why; a connection that ends before the reply raises
-`ConnectionEnded`. The frames are those of docs/PROTOCOL.md.
+`ConnectionEnded`, and a wait that is too long `TimedOut`. Whatever ends a call before its reply is read closes the connection: the reply
+may still come, and would be taken for that to the next request. So each later call raises `ConnectionEnded`, and one connects anew and
+asks where the session stands. The frames are those of docs/PROTOCOL.md.
 """
 import socket
 import struct
@@ -42,7 +44,11 @@ class ClientError(Exception):
 
 
 class ConnectionEnded(ClientError):
-    """The service closed the connection before the reply came. Requests that were answered stand."""
+    """The connection was closed before the reply came, by the service or by an earlier failure. Requests that were answered stand."""
+
+
+class TimedOut(ClientError):
+    """The service didn't go on within the timeout; the connection is closed. The request may be answered all the same, and then stands."""
 
 
 class UnexpectedReply(ClientError):
@@ -132,7 +138,10 @@ class Client:
     """A connection to a service. Each call sends one request and waits for its reply."""
 
     def __init__(self, path: str, timeout: Optional[float] = None):
-        """Connects to the socket at `path`. `timeout`, in seconds, is how long a call waits for its reply; by default it waits forever."""
+        """Connects to the socket at `path`, or raises an `OSError`.
+
+        `timeout`, in seconds, is how long a call waits for the service to go on; by default it waits forever.
+        """
         self._socket = socket.socket(socket.AF_UNIX, socket.SOCK_STREAM)
         self._socket.settimeout(timeout)
         try:
@@ -188,26 +197,41 @@ class Client:
         return int.from_bytes(payload, "big")
 
     def _ask(self, kind: int, session: int, payload: bytes, wanted: int) -> bytes:
+        request = HEAD.pack(kind, session, len(payload)) + payload
         try:
-            self._socket.sendall(HEAD.pack(kind, session, len(payload)) + payload)
-        except (BrokenPipeError, ConnectionResetError):
-            pass  # (what the service said before it closed may still be read)
-        answer, of, size = HEAD.unpack(self._read(HEAD.size))
-        reply = self._read(size)
-        if answer == REFUSED and size == 2:
+            answer, of, reply = self._exchange(request)
+        except BaseException:  # (an interrupt, too, leaves a reply that may still come)
+            self.disconnect()
+            raise
+        if answer == REFUSED and len(reply) == 2:
             code = int.from_bytes(reply, "big")
             raise REASONS.get(code, Refused)(f"refused with code {code}")
         if answer != wanted or of != session:
-            raise UnexpectedReply((HEAD.pack(answer, of, size) + reply).hex())
+            self.disconnect()
+            raise UnexpectedReply((HEAD.pack(answer, of, len(reply)) + reply).hex())
         return reply
+
+    def _exchange(self, request: bytes) -> Tuple[int, int, bytes]:
+        """Sends a request, and returns the kind, the session and the payload of the next reply."""
+        try:
+            self._send(request)
+            answer, of, size = HEAD.unpack(self._read(HEAD.size))
+            return answer, of, self._read(size)
+        except socket.timeout as failure:
+            raise TimedOut("the service did not go on in time") from failure
+        except OSError as failure:
+            raise ConnectionEnded("the connection is closed") from failure
+
+    def _send(self, request: bytes) -> None:
+        try:
+            self._socket.sendall(request)
+        except (BrokenPipeError, ConnectionResetError):
+            pass  # (what the service said before it closed may still be read)
 
     def _read(self, size: int) -> bytes:
         parts, left = [], size
         while left:
-            try:
-                part = self._socket.recv(min(left, 65536))
-            except ConnectionResetError:
-                part = b""
+            part = self._socket.recv(min(left, 65536))
             if not part:
                 raise ConnectionEnded("the service closed the connection")
             parts.append(part)
