@@ -1,29 +1,48 @@
-# `make` proves and builds ./composecheck; `make test` is the gate, over what earlier runs of it kept on this machine, and `make test-anew` the
-# same from nothing; `make install PREFIX=/usr/local` installs, `make uninstall` takes it away.
-# `make dist` and `make deb` pack the proved program for others, in packages/; `make test-packages` looks at what they hold.
-# `make test-whole` is the gate with each must-fail edit in a check of its own, as the kit's `rt ci` tries them: for a release.
-# `make names HEADER=FILE` writes the names that are built in anew from keysymdef.h, and prints what changed.
-# `make real` runs the program on the tables that Debian ships, `make bench` measures it; both prove and build ./compose_trials too.
+# make                proves and builds ./composecheck
+# make help           prints these lines
+# make test           the gate: proves what has changed since earlier runs on this machine, and runs all tests but `make real`
+# make test-anew      the gate from nothing
+# make test-whole     the gate with each must-fail edit in a check of its own, as the kit's `rt ci` tries them: for a release
+# make install        installs below PREFIX (/usr/local), in DESTDIR if that is set
+# make uninstall      takes away what `make install` put there
+# make dist           packs the proved program for others into packages/, as an archive
+# make deb            the same, as a Debian package
+# make test-packages  looks at what both packages hold
+# make names          writes the built-in names anew from HEADER (/usr/include/X11/keysymdef.h), and prints what changed
+# make compose_trials proves and builds ./compose_trials, which `make real` and `make bench` need too
+# make real           runs the program on the tables that Debian ships
+# make bench          measures the program
+# make clean          removes what was built, proved and packed here
 PREFIX = /usr/local
 SOURCES = $(shell find crates -name out -prune -o '(' -name '*.rt' -o -name '*.antt' ')' -print) crates.txt
+# In a recipe: ends it where the kit isn't there.
+NEEDS_KIT = $(if $(shell command -v rt 2> /dev/null),,$(error this needs the Rattle kit: `rt` is not on the path; see "Install" in README.md))
 
 all: composecheck
 
+help:
+	@sed -n 's/^# \(make .*\)/\1/p' $(firstword $(MAKEFILE_LIST))
+
 composecheck: $(SOURCES)
+	$(NEEDS_KIT)
 	python3 tests/build.py composecheck --version
 	cp crates/composecheck/out/composecheck composecheck
 
 compose_trials: $(SOURCES)
+	$(NEEDS_KIT)
 	python3 tests/build.py compose_trials bench names ../../share/composecheck/short-unicode-names.h
 	cp crates/compose_trials/out/compose_trials compose_trials
 
 test:
+	$(NEEDS_KIT)
 	python3 tests/gate.py
 
 test-anew:
+	$(NEEDS_KIT)
 	python3 tests/gate.py --anew
 
 test-whole:
+	$(NEEDS_KIT)
 	python3 tests/gate.py --whole
 
 install: composecheck
@@ -70,4 +89,4 @@ bench: composecheck compose_trials
 clean:
 	rm -rf composecheck compose_trials packages crates/*/out
 
-.PHONY: all test test-anew test-whole install uninstall dist deb test-packages names real bench clean
+.PHONY: all help test test-anew test-whole install uninstall dist deb test-packages names real bench clean

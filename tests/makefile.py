@@ -1,0 +1,88 @@
+#!/usr/bin/env python3
+"""makefile.py: runs `make` with Makefile in an empty source tree, with and without a kit on the path, and compares what it says.
+The last line is `N passed, M failed`."""
+import os
+import re
+import shutil
+import subprocess
+import sys
+import tempfile
+
+from service import Results
+
+TOP = os.path.dirname(os.path.dirname(os.path.abspath(__file__)))
+PROVING = ("all", "composecheck", "compose_trials", "test", "test-anew", "test-whole")
+NO_KIT = re.compile(r'Makefile:\d+: \*\*\* this needs the Rattle kit: `rt` is not on the path; see "Install" in README\.md\.  Stop\.\n')
+
+
+class Tree:
+    """A source tree without crates, and a folder with the few programs that `make` finds."""
+
+    def __init__(self, tools):
+        self.parent = tempfile.TemporaryDirectory(prefix="makefile-")
+        self.top, self.tools = (os.path.join(self.parent.name, it) for it in ("top", "tools"))
+        os.makedirs(os.path.join(self.top, "crates"))
+        os.mkdir(self.tools)
+        shutil.copy(os.path.join(TOP, "Makefile"), self.top)
+        self.write("crates.txt")
+        for name in ("find", "sed"):
+            os.symlink(shutil.which(name), os.path.join(self.tools, name))
+        for name in tools:
+            os.symlink("/bin/true", os.path.join(self.tools, name))
+
+    def __enter__(self):
+        return self
+
+    def __exit__(self, *_):
+        self.parent.cleanup()
+
+    def write(self, name):
+        open(os.path.join(self.top, name), "w").close()
+
+    def make(self, *words):
+        ran = subprocess.run([shutil.which("make"), *words], cwd=self.top, env={"PATH": self.tools}, capture_output=True, text=True, timeout=60)
+        return ran.stdout, ran.stderr, ran.returncode
+
+
+def check_without_kit(results):
+    with Tree([]) as tree:
+        for target in PROVING:
+            printed, said, status = tree.make(target)
+            results.expect(f"make {target} without the kit", (printed, NO_KIT.fullmatch(said) is not None, status), ("", True, 2))
+        tree.write("composecheck")
+        results.expect("a program that is built needs no kit", tree.make(), ("make: Nothing to be done for 'all'.\n", "", 0))
+    with open(os.path.join(TOP, "README.md"), encoding="utf-8") as file:
+        install = file.read().split("\n## Install\n", 1)[1].split("\n## ", 1)[0]
+    results.expect("README's section Install tells of the kit", "`rt` on the path" in install, True)
+
+
+def check_build(results):
+    with Tree(["rt"]) as tree:
+        building = "python3 tests/build.py composecheck --version\ncp crates/composecheck/out/composecheck composecheck\n"
+        results.expect("make alone builds the program", tree.make("-n"), (building, "", 0))
+        results.expect("make test runs the gate", tree.make("-n", "test"), ("python3 tests/gate.py\n", "", 0))
+
+
+def check_help(results):
+    """Each target has a line, which is that of the comments."""
+    with open(os.path.join(TOP, "Makefile"), encoding="utf-8") as file:
+        text = file.read()
+    targets = re.search(r"^\.PHONY: all (.*)$", text, re.M)[1].split()
+    with Tree([]) as tree:
+        printed, said, status = tree.make("help")
+    results.expect("make help", (said, status), ("", 0))
+    results.expect("the targets of make help", sorted(re.findall(r"^make (\S+) +\S", printed, re.M)), sorted([*targets, "compose_trials"]))
+    results.expect("the first line of make help", printed.split("\n")[0].split(), "make proves and builds ./composecheck".split())
+    results.expect("the comments at the top", text.startswith(re.sub("^", "# ", printed.rstrip("\n"), flags=re.M) + "\n"), True)
+
+
+def main():
+    results = Results()
+    for check in (check_without_kit, check_build, check_help):
+        check(results)
+    print(f"{results.passed} passed, {results.failed} failed")
+    return 1 if results.failed else 0
+
+
+if __name__ == "__main__":
+    sys.exit(main())
