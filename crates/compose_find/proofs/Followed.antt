@@ -2,17 +2,17 @@
 use Rattle.std.proofs.Common.{◌≡◌, ◌⊎◌, ℕ, suc, zero, ◌+◌, ◌<◌, ◌≤◌, List, [], ◌∷◌, ◌++◌, Bool, true, false, cond, map, length, Option, Some, None, refl, sym, ◌∙◌, ap, subst, inl, inr, arith}
 use Rattle.std.specs.Prelude.{Result, Ok, Err, slice_get, Contains, bytes_eq, nat_le, is_some}
 use Rattle.std.specs.List.{find, IsDistinct, AllByRecursion}
-use Rattle.std.specs.Option.{option_map_or}
+use Rattle.std.specs.Option.{option_and_then, option_map, option_map_or}
 use Rattle.std.proofs.lemmas.Bool.{leb-false, cases_lt}
 use Rattle.std.proofs.lemmas.Slice.Eq.{bytes_eq-Decides}
 use Rattle.std.proofs.lemmas.Option.{slice_get_within, get_or_from_slice_get, slice_get-get_or}
 use Rattle.compose_text.specs.Results.{◌>>=◌}
-use Rattle.compose_find.specs.Expand.{Words, include_path, beside}
-use Rattle.compose_find.specs.Includes.{Include}
-use Rattle.compose_find.specs.Found.{TriedFile, FoundSource, looked_at, includes_at, there_or_missing, at_include, refusal, located, leads_to, with_source, with_include, with_includes, with_includes_of, found_on, missing_file}
+use Rattle.compose_find.specs.Expand.{Words, include_path}
+use Rattle.compose_find.specs.Includes.{Include, includes_of}
+use Rattle.compose_find.specs.Found.{TriedFile, FoundSource, Stop, looked_or, looked_at, held_at, includes_at, there_or_missing, at_include, refusal, places, first_place, located, leads_to, with_source, with_include, with_includes, with_includes_of, found_on, missing_file}
 use Rattle.compose_find.specs.declared.fault.IncludeFault.{IncludeFault}
 use Rattle.compose_find.specs.declared.fault.IncludeFault.TheVariants.{TwoFiles, TooManySources, IncludeDepth}
-use Rattle.compose_find.specs.Sources.{LeadsTo, IncludesSource, IsFollowed, AreSources, FindsSources}
+use Rattle.compose_find.specs.Sources.{IsFirstPlace, LeadsTo, IncludesSource, IsFollowed, AreSources, FindsSources}
 
 -- ---- steps in order
 
@@ -114,45 +114,71 @@ of_known from include path known sources more e = go (bytes_eq known.path path) 
 -- ---- where an include leads
 
 module _ (files : List TriedFile) (words : Words) where
+  -- where a file's includes were found, there are the bytes in which they stand
+  bytes_there : (path : List ℕ) (includes : List Include) → looked_at files path ≡ Ok (Some includes) → (bytes : List ℕ) × (held_at files path ≡ Some bytes) × (includes_of bytes ≡ includes)
+  bytes_there path includes e = go (find (λ f. bytes_eq path f.path) files) e
+    where
+      held : (bytes : Option (List ℕ)) → option_map includes_of bytes ≡ Some includes → (b : List ℕ) × (bytes ≡ Some b) × (includes_of b ≡ includes)
+      held (Some b) e = (b, refl, (cc))
+      held None e = cc
+
+      go : (file : Option TriedFile) → looked_or path file ≡ Ok (Some includes) → (bytes : List ℕ) × (option_and_then (λ f. f.bytes) file ≡ Some bytes) × (includes_of bytes ≡ includes)
+      go None e = cc
+      go (Some file) e = held file.bytes (one_ok (looked_or path (Some file)) (option_map includes_of file.bytes) (Some includes) refl e)
+
+  -- the place that is taken is the first at which there is a file
+  first_lies : (missing : Stop) (places : List (List ℕ)) (to : List ℕ) → first_place files missing places ≡ Ok to → IsFirstPlace files places to
+  unfolding first_place
+  first_lies missing [] to e = cc
+  first_lies missing (place ∷ places) to e =
+      let here = both (looked_at files place) (λ there. cond (is_some there) (Ok place) (first_place files missing places)) to e in
+      go (first_lies missing places to) here.0 here.1 here.2
+    where
+      earlier : (rest : IsFirstPlace files places to) → looked_at files place ≡ Ok None → (i : ℕ) (other : List ℕ) → i < suc rest.index → slice_get (place ∷ places) i ≡ Some other
+          → looked_at files other ≡ Ok None
+      earlier rest is zero other less at = let same : place ≡ other = cc in subst (λ p. looked_at files p ≡ Ok None) same is
+      earlier rest is (suc i) other less at = rest.none_before i other (omega arith) at
+
+      go : (first_place files missing places ≡ Ok to → IsFirstPlace files places to) → (there : Option (List Include)) → looked_at files place ≡ Ok there
+          → cond (is_some there) (Ok place) (first_place files missing places) ≡ Ok to → IsFirstPlace files (place ∷ places) to
+      go rest (Some includes) is e =
+          let here = bytes_there place includes is in
+          let same : place ≡ to = one_ok (Ok to) place to (sym e) refl in
+          subst (IsFirstPlace files (place ∷ places)) same (record {
+            index = zero;
+            taken = refl;
+            bytes = here.0;
+            there = here.1;
+            none_before = λ i other less at. absurd (omega arith);
+          })
+      go rest None is e =
+          let r = rest e in
+          record {
+            index = suc r.index;
+            taken = r.taken;
+            bytes = r.bytes;
+            there = r.there;
+            none_before = λ i other less at. earlier r is i other less at;
+          }
+
   at_include_ok : {A : Type 0} (from : FoundSource) (include : Include) (r : Result A IncludeFault) (x : A) → at_include from include r ≡ Ok x → r ≡ Ok x
   at_include_ok from include (Ok y) x e = ap Ok (one_ok (Ok y) y x refl e)
   at_include_ok from include (Err fault) x e = cc
-
-  located_lies : (from : FoundSource) (include : Include) (path to : List ℕ) → located files from include path ≡ Ok to → (to ≡ path) ⊎ ((looked_at files path ≡ Ok None) × (to ≡ beside from.path path))
-  located_lies from include path to e =
-      let here =
-      both (looked_at files path)
-      (λ here. cond (is_some here) (Ok path)
-      (looked_at files (beside from.path path) >>= (λ there. cond (is_some there) (Ok (beside from.path path)) (Err (missing_file from.path include.line path))))) to e in
-      first here.0 here.1 here.2
-    where
-      second : (there : Option (List Include)) → cond (is_some there) (Ok (beside from.path path)) (Err (missing_file from.path include.line path)) ≡ Ok to → to ≡ beside from.path path
-      second (Some includes) e = one_ok (Ok to) to (beside from.path path) refl (sym e)
-      second None e = cc
-
-      first : (here : Option (List Include)) → looked_at files path ≡ Ok here
-          → cond (is_some here) (Ok path) (looked_at files (beside from.path path) >>= (λ there. cond (is_some there) (Ok (beside from.path path)) (Err (missing_file from.path include.line path))))
-          ≡ Ok to
-          → (to ≡ path) ⊎ ((looked_at files path ≡ Ok None) × (to ≡ beside from.path path))
-      first (Some includes) is e = inl (one_ok (Ok to) to path refl (sym e))
-      first None is e =
-          let there = both (looked_at files (beside from.path path)) (λ there. cond (is_some there) (Ok (beside from.path path)) (Err (missing_file from.path include.line path))) to e in
-          inr (is, second there.0 there.2)
 
   -- the path to which an include leads, for a source of its name
   led : (from : FoundSource) (include : Include) (to : FoundSource) → leads_to files words from include ≡ Ok to.path → to.name ≡ include.raw → LeadsTo files words from include to
   led from include to e named = go (nat_le 8 from.depth) e
     where
-      go : (b : Bool) → cond b (Err (refusal from include IncludeDepth)) (at_include from include (include_path words include.raw) >>= located files from include) ≡ Ok to.path
+      go : (b : Bool) → cond b (Err (refusal from include IncludeDepth)) (at_include from include (include_path words include.raw) >>= located files words from include) ≡ Ok to.path
           → LeadsTo files words from include to
       go true e = cc
       go false e =
-          let path = both (at_include from include (include_path words include.raw)) (located files from include) to.path e in
+          let path = both (at_include from include (include_path words include.raw)) (located files words from include) to.path e in
           record {
             name = named;
             path = path.0;
             expands = at_include_ok from include (include_path words include.raw) path.0 path.1;
-            lies = located_lies from include path.0 to.path path.2;
+            lies = first_lies (missing_file from.path include.line path.0) (places words.root from.path path.0) to.path path.2;
           }
 
   -- ---- the search so far: the sources before this index were read
@@ -168,7 +194,7 @@ module _ (files : List TriedFile) (words : Words) where
   followed_more : (sources more : List FoundSource) (from : FoundSource) → ((i : ℕ) (m : FoundSource) → slice_get sources i ≡ Some m → slice_get more i ≡ Some m) → IsFollowed files words sources from
       → IsFollowed files words more from
   followed_more sources more from grows f = record {
-    includes = f.includes;
+    bytes = f.bytes;
     there = f.there;
     lead = λ include listed.
         let to = f.lead include listed in
@@ -220,7 +246,9 @@ module _ (files : List TriedFile) (words : Words) where
         by i to (inl h) = let r = s.included i to h in (r.0, r.1, r.2, grows r.0 r.1 r.3, r.4)
         by i to (inr h) =
             let within : index < length sources = slice_get_within sources index from at in
-            let here : IncludesSource files words from new = record { includes = all; there = there; include = include; listed = listed; leads = leads } in
+            let held = bytes_there from.path all there in
+            let here : IncludesSource files words from new =
+            record { bytes = held.0; there = held.1; include = include; listed = subst (λ xs. Contains xs include) (sym held.2) listed; leads = leads } in
             (index, from, omega (arith, h.0), grows index from at, subst (λ (x : FoundSource). IncludesSource files words from x) h.1 here)
 
     at_new : (sources : List FoundSource) (include : Include) (path : List ℕ) (more : List FoundSource) → IsSoFar root index sources → slice_get sources index ≡ Some from → Contains all include
@@ -317,10 +345,11 @@ module _ (files : List TriedFile) (words : Words) where
             let same : i ≡ index = omega arith in
             let one : Some from ≡ Some m = sym (all.grows index from at) ∙ ap (slice_get more) (sym same) ∙ h in
             let is : from ≡ m = cc in
+            let held = bytes_there from.path includes there in
             subst (IsFollowed files words more) is (record {
-              includes = includes;
-              there = there;
-              lead = λ include listed. (let k = index_of includes include listed in all.lead k.0 include k.2);
+              bytes = held.0;
+              there = held.1;
+              lead = λ include listed. (let k = index_of includes include (subst (λ xs. Contains xs include) held.2 listed) in all.lead k.0 include k.2);
             }))
       ]
 
@@ -331,6 +360,7 @@ module _ (files : List TriedFile) (words : Words) where
     followed = λ from listed. (let at = index_of sources from listed in s.followed at.0 from (omega (arith, at.1)) at.2);
     included = s.included;
     distinct = s.distinct;
+    few = s.few;
   }
 
   all_found : (root : List ℕ) (left index : ℕ) (sources more : List FoundSource) → left + index ≡ 64 → IsSoFar root index sources → found_on files words left index sources ≡ Ok more

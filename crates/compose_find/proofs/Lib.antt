@@ -2,4 +2,8 @@ mod Percents
 mod IncludeLines
 mod Folders
 mod Searches
+mod Places
 mod Followed
+mod Held
+mod TablePaths
+mod Below

@@ -1,10 +1,10 @@
 -- The search, one source after another.
-use Rattle.std.proofs.Common.{◌≡◌, ℕ, suc, zero, ◌+◌, ◌≤◌, List, length, Some, refl, sym, subst, string_bytes}
+use Rattle.std.proofs.Common.{◌≡◌, ℕ, suc, zero, ◌+◌, ◌≤◌, List, length, Some, refl, sym, ◌∙◌, ap, subst, string_bytes}
 use Rattle.std.specs.Prelude.{Result, Ok, Err, slice_get}
 use Rattle.std.proofs.lemmas.Option.{slice_get_past}
 use Rattle.compose_find.specs.Expand.{Words}
 use Rattle.compose_find.specs.Found.{TriedFile, FoundSource, Stop, wanted, missing_root, missing_file, refused, with_includes_of, found_on}
-use Rattle.compose_find.specs.FindGives.{FindGives}
+use Rattle.compose_find.specs.FindGives.{FindGives, IsStop}
 use Rattle.compose_find.specs.declared.found_source.FindFault.{FindFault}
 use Rattle.compose_find.specs.declared.found_source.FindFault.TheVariants.{Wanted, MissingRoot, MissingFile, Include, NoMemory}
 
@@ -42,3 +42,11 @@ pub passed : {X Y Z W : Type 0} (view : X → Z) (other : Y → W) (fault : Find
     → ((stop : Stop) → said ≡ Err stop → whole ≡ Err stop)
     → FindGives view (Err fault) said → FindGives other result whole
 passed view other fault result said whole is f h = subst (λ r. FindGives other r whole) (sym is) (moved view other fault said whole f h)
+
+-- the fault that is made of why the search ends
+pub stopped : {X Y : Type 0} (view : X → Y) (fault : FindFault) (stop : Stop) (said : Result Y Stop) → IsStop stop fault → said ≡ Err stop → FindGives view (Err fault) said
+stopped view NoMemory stop said is e = tt
+stopped view (Wanted path) stop said is e = e ∙ ap Err is
+stopped view (MissingRoot path) stop said is e = e ∙ ap Err is
+stopped view (MissingFile from line path) stop said is e = e ∙ ap Err is
+stopped view (Include from line fault) stop said is e = e ∙ ap Err is

@@ -8,11 +8,13 @@ use Rattle.compose_lex.specs.declared.LexFault.{LexFault}
 use Rattle.compose_find.specs.declared.fault.IncludeFault.{IncludeFault}
 use Rattle.compose_find.specs.declared.fault.IncludeFault.TheVariants.{Text, UnknownPercent, NoLocale, NoHome}
 
--- what `%S`, `%L` and `%H` stand for; a table of the locale and a home folder needn't be known
+-- what `%S`, `%L` and `%H` stand for, and the folder below which an absolute path is looked for first; a table of the locale, a home folder and such a
+-- folder needn't be known
 pub record Words : Type 0 where
   pub system : List ℕ
   pub locale : Option (List ℕ)
   pub home : Option (List ℕ)
+  pub root : Option (List ℕ)
 
 -- any byte but the percent sign (code 37)
 abbrev pub is_plain : ℕ → Bool
@@ -78,3 +80,8 @@ beside from path = if begins (λ b. b == 47) path then path else folder_of from 
 -- a relative path, taken from a folder; an absolute one stays
 abbrev pub in_folder : List ℕ → List ℕ → List ℕ
 in_folder folder path = if begins (λ b. b == 47) path then path else folder ++ 47 ∷ path
+
+-- an absolute path, taken below the root, if a root is given
+abbrev pub below_root : Option (List ℕ) → List ℕ → Option (List ℕ)
+below_root None path = None
+below_root (Some root) path = if begins (λ b. b == 47) path then Some (root ++ path) else None

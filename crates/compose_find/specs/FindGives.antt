@@ -10,7 +10,7 @@ use Rattle.compose_find.specs.declared.fault.IncludeFault.{IncludeFault}
 use Rattle.compose_find.specs.declared.fault.IncludeFault.TheVariants.{NoMemory}
 
 abbrev pub words : Meanings → Words
-words m = record { system = m.system.now; locale = option_copied m.locale; home = option_copied m.home }
+words m = record { system = m.system.now; locale = option_copied m.locale; home = option_copied m.home; root = option_copied m.root }
 
 -- the value that is said, or its fault
 abbrev pub Gives : {X Y : Type 0} → (X → Y) → Result X IncludeFault → Result Y IncludeFault → Type 0

@@ -1,19 +1,19 @@
 -- The search for the files of a table: every file to which an include leads, by the raw text that names it.
-use Rattle.std.specs.Prelude.{ℕ, ◌+◌, nat_le, zero, suc, if◌then◌else◌, List, [], ◌∷◌, ◌++◌, length, Option, Some, None, is_some, Result, Ok, Err, bytes_eq, slice_get}
-use Rattle.std.specs.List.{find}
-use Rattle.std.specs.Option.{option_map_or}
-use Rattle.compose_read.specs.Lines.{max_depth}
+use Rattle.std.specs.Prelude.{ℕ, ◌+◌, nat_le, zero, suc, if◌then◌else◌, List, [], ◌∷◌, ◌++◌, length, Option, Some, None, is_some, Result, Ok, Err, unwrap_or, bytes_eq, slice_get}
+use Rattle.std.specs.List.{find, cons_option}
+use Rattle.std.specs.Option.{option_and_then, option_map, option_map_or}
+use Rattle.compose_read.specs.Lines.{Source, max_depth}
 use Rattle.compose_read.specs.Sources.{max_sources}
 use Rattle.compose_text.specs.Results.{◌>>=◌}
-use Rattle.compose_find.specs.Expand.{Words, include_path, beside}
-use Rattle.compose_find.specs.Includes.{Include}
+use Rattle.compose_find.specs.Expand.{Words, include_path, beside, below_root}
+use Rattle.compose_find.specs.Includes.{Include, includes_of}
 use Rattle.compose_find.specs.declared.fault.IncludeFault.{IncludeFault}
 use Rattle.compose_find.specs.declared.fault.IncludeFault.TheVariants.{TwoFiles, TooManySources, IncludeDepth}
 
--- a path that was looked for: the includes of the file, or none where it isn't there
+-- a path that was looked for: what the file holds, or none where it isn't there
 pub record TriedFile : Type 0 where
   pub path : List ℕ
-  pub includes : Option (List Include)
+  pub bytes : Option (List ℕ)
 
 -- a source: the raw text that names it, its path, and how many includes lead to it at least
 pub record FoundSource : Type 0 where
@@ -33,9 +33,9 @@ pub data Stop : Type 0 where
 
 abbrev pub looked_or : List ℕ → Option TriedFile → Result (Option (List Include)) Stop
 looked_or path None = Err (wanted path)
-looked_or path (Some file) = Ok file.includes
+looked_or path (Some file) = Ok (option_map includes_of file.bytes)
 
--- what was found at a path, which is wanted where it was not looked for
+-- the includes of what was found at a path, which is wanted where it was not looked for
 abbrev pub looked_at : List TriedFile → List ℕ → Result (Option (List Include)) Stop
 looked_at files path = looked_or path (find (λ f. bytes_eq path f.path) files)
 
@@ -49,6 +49,10 @@ includes_at files path = do
   found ← looked_at files path
   there_or_missing path found
 
+-- the bytes of the file at a path, if one was found there
+abbrev pub held_at : List TriedFile → List ℕ → Option (List ℕ)
+held_at files path = option_and_then (λ f. f.bytes) (find (λ f. bytes_eq path f.path) files)
+
 -- ---- an include, which stands in the file `from`
 
 abbrev pub refusal : FoundSource → Include → IncludeFault → Stop
@@ -58,20 +62,28 @@ abbrev pub at_include : {A : Type 0} → FoundSource → Include → Result A In
 at_include from include (Ok x) = Ok x
 at_include from include (Err fault) = Err (refusal from include fault)
 
--- the path as the program opens it, else beside the including file
-abbrev pub located : List TriedFile → FoundSource → Include → List ℕ → Result (List ℕ) Stop
-located files from include path = do
-  here ← looked_at files path
-  if is_some here then Ok path else (do
-    there ← looked_at files (beside from.path path)
-    if is_some there then Ok (beside from.path path) else Err (missing_file from.path include.line path))
+-- where the file of an include is looked for, in this order: an absolute path below the root, if a root is given; the path as the program opens it; and
+-- beside the including file
+abbrev pub places : Option (List ℕ) → List ℕ → List ℕ → List (List ℕ)
+places root from path = cons_option (below_root root path) (path ∷ beside from path ∷ [])
+
+-- the first of these places at which there is a file
+unfoldable pub first_place : List TriedFile → Stop → List (List ℕ) → Result (List ℕ) Stop
+first_place files missing [] = Err missing
+first_place files missing (place ∷ places) = do
+  there ← looked_at files place
+  if is_some there then Ok place else first_place files missing places
+
+-- where the file of an include with this path lies
+abbrev pub located : List TriedFile → Words → FoundSource → Include → List ℕ → Result (List ℕ) Stop
+located files words from include path = first_place files (missing_file from.path include.line path) (places words.root from.path path)
 
 -- the path of the file to which an include leads
 abbrev pub leads_to : List TriedFile → Words → FoundSource → Include → Result (List ℕ) Stop
 leads_to files words from include =
     if nat_le max_depth from.depth then Err (refusal from include IncludeDepth) else (do
       path ← at_include from include (include_path words include.raw)
-      located files from include path)
+      located files words from include path)
 
 -- ---- the sources
 
@@ -110,3 +122,7 @@ found_on files words (suc left) index sources = option_map_or (λ from. do
 -- every source, the root first, which its path names; a source comes where it is met first
 abbrev pub found : List TriedFile → Words → List ℕ → Result (List FoundSource) Stop
 found files words root = found_on files words max_sources 0 (record { name = root; path = root; depth = 0 } ∷ [])
+
+-- a source with what its file holds
+abbrev pub held : List TriedFile → FoundSource → Source
+held files source = record { name = source.name; bytes = unwrap_or (held_at files source.path) [] }

@@ -4,3 +4,4 @@ pub mod Locales
 pub mod Found
 pub mod FindGives
 pub mod Sources
+pub mod Trees

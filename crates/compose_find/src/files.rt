@@ -1,5 +1,5 @@
-//! Files that were looked for, and what they include.
-ghost use Rattle.std.specs.Prelude.{◌≡◌, ◌++◌, ◌∷◌, [], OnOk, OnErr, option_copied, bytes_eq, string_bytes};
+//! Files that were looked for, what they hold and what they include.
+ghost use Rattle.std.specs.Prelude.{◌≡◌, ◌++◌, ◌∷◌, [], OnOk, OnErr, IfOk, option_copied, bytes_eq, string_bytes};
 ghost use Rattle.std.specs.List.{find};
 ghost use Rattle.std.specs.Option.{option_map};
 ghost use Rattle.compose_find.specs.Includes.{includes_of};
@@ -11,28 +11,41 @@ use crate::includes::{Include, includes_of};
 use std::alloc::{AllocError, Global};
 use std::marker::Model;
 
-/// A file that was looked for: its includes, if it is there.
+/// A file that was read: its bytes, and the includes in them, which are looked for once.
 #[derive(Drop)]
-pub(crate) struct TriedFile {
-    pub(crate) path: String,
-    pub(crate) includes: Option<Vec<Include>>,
+struct ReadFile {
+    bytes: Vec<u8>,
+    includes: Vec<Include>,
+}
+
+impl Model for ReadFile {
+    ghost use Rattle.std.specs.Prelude.{◌≡◌, List, ℕ};
+    ghost use Rattle.compose_find.specs.Includes.{includes_of};
+
+    ghost Value = { List ℕ };
+
+    ghost view = { λ f. f.bytes.items };
+
+    ghost invariant = { λ f. f.includes.items ≡ includes_of f.bytes.items };
+}
+
+/// A path that was looked for: the file, if it is there.
+#[derive(Drop)]
+struct TriedFile {
+    path: String,
+    file: Option<ReadFile>,
 }
 
 impl Model for TriedFile {
     ghost use Rattle.std.specs.Prelude.{string_bytes};
-    ghost use Rattle.std.specs.Option.{option_map};
     ghost use Rattle.compose_find.specs.Found as found;
 
     ghost Value = { found.TriedFile };
 
-    ghost view = { λ f. record {
-      path = string_bytes f.path;
-      includes =
-          option_map (λ i. i.items) f.includes;
-    } };
+    ghost view = { λ f. record { path = string_bytes f.path; bytes = f.file } };
 }
 
-/// The files that were looked for, and what each includes.
+/// The files that were looked for, and what each holds.
 #[derive(Drop)]
 pub struct Files {
     files: Vec<TriedFile>,
@@ -57,34 +70,40 @@ impl Files {
         }
     }
 
-    /// Adds what was found at a path: the bytes of the file, or none where it isn't there. Of the file its includes are kept. A refusal changes
-    /// nothing. O(bytes).
+    /// Adds what was found at a path: the bytes of the file, which are kept, or none where it isn't there. A refusal changes nothing, and lets the
+    /// bytes go. O(bytes).
     pub fn add(
         &mut self,
         alloc: Global,
         path: &str,
-        source: Option<&[u8]>,
+        bytes: Option<Vec<u8>>,
     ) -> Result<(), AllocError>
         ensures ok { OnOk result
             (self.new
             ≡ self.old
             ++ record {
               path = path.now;
-              includes =
-                  option_map includes_of (option_copied source.entry);
+              bytes = option_map (λ held. held.items) bytes;
             } ∷ []) }
         ensures err { OnErr result (self.new ≡ self.old) }
     {
         let path = String::from_str(alloc, path)?;
-        let includes = match source {
-            Some(source) => Some(includes_of(alloc, source)?),
+        let file = match bytes {
+            Some(bytes) => Some(ReadFile::new(alloc, bytes)?),
             None => None,
         };
-        self.files.push(TriedFile { path, includes })?;
+        self.files.push(TriedFile { path, file })?;
         Ok(())
     }
 
-    /// What was found at this path: the includes of the file, if it is there.
+    /// What the file at this path holds, if it was found there. O(f) in the files.
+    pub(crate) fn held_at(&self, path: &str) -> Option<&[u8]>
+        ensures { option_copied result ≡ found.held_at self.now path.now }
+    {
+        self.looked(path)?.bytes()
+    }
+
+    /// The includes of what was found at this path, if a file is there.
     pub(crate) fn looked_at(
         &self,
         alloc: Global,
@@ -93,7 +112,7 @@ impl Files {
         ensures { FindGives option_copied result (found.looked_at self.now path.now) }
     {
         match self.looked(path) {
-            Some(file) => Ok(file.includes.as_deref()),
+            Some(file) => Ok(file.includes()),
             None => Err(wanted(alloc, path)),
         }
     }
@@ -113,6 +132,46 @@ impl Files {
         ensures { option_copied result ≡ find (λ f. bytes_eq path.now f.path) self.now }
     {
         self.files.iter().find(|file| has_path(file, path))
+    }
+}
+
+impl ReadFile {
+    /// A file with these bytes.
+    fn new(alloc: Global, bytes: Vec<u8>) -> Result<ReadFile, AllocError>
+        ensures { IfOk result (λ file. file ≡ bytes.items) }
+    {
+        let includes = includes_of(alloc, &bytes)?;
+        Ok(ReadFile { bytes, includes })
+    }
+
+    /// Its bytes.
+    fn bytes(&self) -> &[u8]
+        ensures { result.now ≡ self.now }
+    {
+        &self.bytes
+    }
+
+    /// Its includes.
+    fn includes(&self) -> &[Include]
+        ensures { result.now ≡ includes_of self.now }
+    {
+        &self.includes
+    }
+}
+
+impl TriedFile {
+    /// The bytes of the file, if it is there.
+    fn bytes(&self) -> Option<&[u8]>
+        ensures { option_copied result ≡ self.now.bytes }
+    {
+        Some(self.file.as_ref()?.bytes())
+    }
+
+    /// The includes of the file, if it is there.
+    fn includes(&self) -> Option<&[Include]>
+        ensures { option_copied result ≡ option_map includes_of self.now.bytes }
+    {
+        Some(self.file.as_ref()?.includes())
     }
 }
 

@@ -62,8 +62,8 @@ pub enum FindFault {
     MissingRoot {
         path: String,
     },
-    /// The file isn't there to which an include leads, nor, by a relative path, beside the including file. The include stands on this line,
-    /// from 1, of the file at the path `from`.
+    /// No file is there to which an include leads: not at its path, nor, by an absolute path, below the root that is given, nor, by a relative
+    /// path, beside the including file. The include stands on this line, from 1, of the file at the path `from`.
     #[error("3 MissingFile from={from} line={line} path={path}")]
     MissingFile {
         from: String,

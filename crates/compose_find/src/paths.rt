@@ -1,5 +1,6 @@
 //! The paths to which an include may lead.
-ghost use Rattle.std.specs.Prelude.{◌≡◌, IfOk, string_bytes};
+ghost use Rattle.std.specs.Prelude.{◌≡◌, IfOk, option_copied, string_bytes};
+ghost use Rattle.std.specs.Option.{option_map};
 ghost use Rattle.compose_find.specs.Expand as paths;
 ghost use Rattle.compose_find.specs.FindGives.{words, Gives};
 
@@ -46,6 +47,27 @@ pub(crate) fn in_folder(alloc: Global, folder: &str, path: &str) -> Result<Strin
     }
     whole.push_str(path)?;
     Ok(whole)
+}
+
+/// An absolute path, taken below the root, if a root is given.
+pub(crate) fn below_root(
+    alloc: Global,
+    root: Option<&str>,
+    path: &str,
+) -> Result<Option<String>, AllocError>
+    ensures { IfOk result
+        (λ place. option_map string_bytes place
+        ≡ paths.below_root (option_copied root.entry) path.now) }
+{
+    let Some(root) = root else {
+        return Ok(None);
+    };
+    if path.as_bytes().first() != Some(&b'/') {
+        return Ok(None);
+    }
+    let mut place = String::from_str(alloc, root)?;
+    place.push_str(path)?;
+    Ok(Some(place))
 }
 
 /// What stands up to the last slash of a path, and with it.

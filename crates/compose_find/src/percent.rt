@@ -10,7 +10,7 @@ use compose_text::{ByteClass, leading_len};
 use std::alloc::Global;
 use std::simd::prelude::*;
 
-/// What `%S`, `%L` and `%H` stand for.
+/// What `%S`, `%L` and `%H` stand for, and where absolute paths are looked for.
 #[derive(Clone, Copy, Debug, Drop)]
 pub struct Meanings<'a> {
     /// The folder of the system's tables, for `%S`.
@@ -19,6 +19,8 @@ pub struct Meanings<'a> {
     pub locale: Option<&'a str>,
     /// The user's home folder, for `%H`.
     pub home: Option<&'a str>,
+    /// The folder below which an absolute path is looked for first.
+    pub root: Option<&'a str>,
 }
 
 /// All bytes but the percent sign.

@@ -1,13 +1,14 @@
 //! The search for the files of a table, includes followed.
-ghost use Rattle.std.specs.Prelude.{◌≡◌, ◌≤◌, ◌<◌, length, string_bytes, bytes_eq, slice_get, OnOk, Ok, Some};
+ghost use Rattle.std.specs.Prelude.{◌≡◌, ◌≤◌, ◌<◌, length, string_bytes, bytes_eq, slice_get, OnOk, Ok, Some, [], ◌∷◌};
 ghost use Rattle.std.specs.List.{find};
 ghost use Rattle.compose_find.specs.Found as found;
+ghost use Rattle.compose_find.specs.Expand as paths;
 ghost use Rattle.compose_find.specs.FindGives.{words, FindGives};
 
 use crate::files::Files;
 use crate::found_source::{FindFault, FoundSource, known, missing_file, refused};
 use crate::includes::Include;
-use crate::paths::{beside, include_path};
+use crate::paths::{below_root, beside, include_path};
 use crate::{IncludeFault, Meanings};
 use compose_read::Sources;
 use std::alloc::Global;
@@ -16,9 +17,10 @@ use std::alloc::Global;
 const MAX_DEPTH: usize = 8;
 
 /// Every source of the table whose root stands at this path, the root first: each raw text of an include that is met, once, with the path to
-/// which it leads. A path that was not looked for yet is the fault `Wanted`: add what is found there, and search again. Beyond that the first
-/// include that leads nowhere is the fault, in the order of the search: one source after another, line by line. O(s + i * s) in the sources and includes, beside the
-/// copies of their texts and the look-ups of paths, O(f) in the files.
+/// which it leads. The file of an include is looked for, by an absolute path, below the root of these meanings, if there is one; then at its path;
+/// then beside the including file. A path that was not looked for yet is the fault `Wanted`: add what is found there, and search again. Beyond that
+/// the first include that leads nowhere is the fault, in the order of the search: one source after another, line by line. O(s + i * s) in the
+/// sources and includes, beside the copies of their texts and the look-ups of paths, O(f) in the files.
 pub fn find_sources(
     alloc: Global,
     files: &Files,
@@ -158,14 +160,35 @@ fn lead(
         return Err(refused(alloc, from, include, IncludeFault::IncludeDepth));
     }
     match include_path(alloc, meanings, &include.raw) {
-        Ok(path) => located(alloc, files, from, include, path),
+        Ok(path) => located(alloc, files, meanings, from, include, path),
         Err(IncludeFault::NoMemory) => Err(FindFault::NoMemory),
         Err(fault) => Err(refused(alloc, from, include, fault)),
     }
 }
 
-/// The path as the program opens it, else beside the including file.
+/// Where the file of an include with this path lies: by an absolute path below the root, if a root is given and a file is there.
 fn located(
+    alloc: Global,
+    files: &Files,
+    meanings: Meanings<'_>,
+    from: &FoundSource,
+    include: &Include,
+    path: String,
+) -> Result<String, FindFault>
+    ensures { FindGives string_bytes result
+        (found.located files.now
+        (words meanings.entry) from.now include.now (string_bytes path)) }
+{
+    if let Some(below) = below_root(alloc, meanings.root, &path)? {
+        if files.looked_at(alloc, &below)?.is_some() {
+            return Ok(below);
+        }
+    }
+    located_here(alloc, files, from, include, path)
+}
+
+/// The path as the program opens it, else beside the including file.
+fn located_here(
     alloc: Global,
     files: &Files,
     from: &FoundSource,
@@ -173,7 +196,9 @@ fn located(
     path: String,
 ) -> Result<String, FindFault>
     ensures { FindGives string_bytes result
-        (found.located files.now from.now include.now (string_bytes path)) }
+        (found.first_place files.now
+        (found.missing_file from.now.path include.now.line (string_bytes path))
+        (string_bytes path ∷ paths.beside from.now.path (string_bytes path) ∷ [])) }
 {
     if files.looked_at(alloc, &path)?.is_some() {
         return Ok(path);

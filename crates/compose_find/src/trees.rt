@@ -1,0 +1,27 @@
+//! Trees of locales, and what lies below a folder.
+ghost use Rattle.std.specs.Prelude.{◌≡◌, List, ℕ, MatchOption};
+ghost use Rattle.compose_find.specs.Trees as trees;
+
+/// The tree of locales in which this path is the table of a locale: of `TREE/LOCALE/Compose` it is `TREE`, and of another path there is none.
+/// `LOCALE` has a byte at least and no slash. O(bytes).
+pub fn locale_tree(path: &str) -> Option<&str>
+    ensures { MatchOption result ((tree : List ℕ) → ¬ (trees.IsTableOf tree path.now))
+        (λ tree. trees.IsTableOf tree.now path.now) }
+{
+    let folder = path.strip_suffix("/Compose")?;
+    let slash = memchr::memrchr(b'/', folder.as_bytes())?;
+    if slash + 1 == folder.len() {
+        return None;
+    }
+    Some(&folder[..slash])
+}
+
+/// Whether the path begins with the folder and a slash. O(bytes of the folder).
+pub fn lies_below(folder: &str, path: &str) -> bool
+    ensures { result ≡ trees.lies_below folder.now path.now }
+{
+    match path.as_bytes().strip_prefix(folder.as_bytes()) {
+        Some(rest) => rest.first() == Some(&b'/'),
+        None => false,
+    }
+}
