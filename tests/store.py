@@ -128,15 +128,23 @@ class Store:
         except OSError as error:
             self.rt.say(f"note: {self.place} does not keep what passed: {error}")
 
+    def take(self, crate, key):
+        """Puts what an earlier run built of a crate that it proved where `rt ci` leaves it, and returns whether there was such a run."""
+        kept = self.find(key)
+        if kept:
+            try:
+                shutil.rmtree(f"{crate.folder}/out/rlib", ignore_errors=True)
+                copied(kept, f"{crate.folder}/out", os.listdir(kept))
+            except OSError:
+                # (another run has cleared or replaced it meanwhile)
+                return False
+            self.rt.say("an earlier run has proved it, and nothing that the proof read has changed since", crate.out)
+        return bool(kept)
+
     def pass_crate(self, crate, prove):
         """Takes what an earlier run built of a crate that it proved, or proves it here and keeps that. Returns the status."""
         key = self.key(crate)
-        kept = self.find(key)
-        if kept:
-            shutil.rmtree(f"{crate.folder}/out/rlib", ignore_errors=True)
-            copied(kept, f"{crate.folder}/out", os.listdir(kept))
-            self.rt.say("an earlier run has proved it, and nothing that the proof read has changed since", crate.out)
-        else:
+        if not self.take(crate, key):
             status = prove()
             if status or self.key(crate) != key:
                 return status
