@@ -69,8 +69,7 @@ class Store:
     def __init__(self, rt, is_anew):
         self.rt, self.is_anew, self.proved, self.built = rt, is_anew, {}, {}
         self.place = os.path.join(os.environ.get("XDG_CACHE_HOME") or os.path.expanduser("~/.cache"), "composecheck-gate")
-        os.makedirs(self.place, exist_ok=True)
-        for it in os.scandir(self.place):
+        for it in os.scandir(self.place) if os.path.isdir(self.place) else ():
             if time.time() - it.stat().st_mtime > UNUSED:
                 shutil.rmtree(it.path, ignore_errors=True)
         self.kit = self.sum_of_kit()
@@ -117,6 +116,7 @@ class Store:
     def keep(self, key, fill):
         """Keeps what `fill` writes into a folder, or says why it cannot."""
         try:
+            os.makedirs(self.place, exist_ok=True)
             with tempfile.TemporaryDirectory(prefix="part-", dir=self.place) as room:
                 os.makedirs(f"{room}/new/kept")
                 fill(f"{room}/new/kept")
