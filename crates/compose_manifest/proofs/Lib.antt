@@ -1,4 +1,5 @@
 mod Entries
 mod Examples
+mod Notes
 pub mod Tabs
 pub mod OneLine

@@ -1,3 +1,4 @@
 pub mod Manifest
 pub mod ManifestGives
 pub mod Text
+pub mod Outside
