@@ -4,6 +4,7 @@ use compose_answer::{Ended, Refusal};
 use compose_arguments::{LoadArguments, SessionArguments};
 use compose_bundle::BundleFault;
 use compose_client::{ReplyFeeder, RequestFault, put_request};
+use compose_details::Given;
 use compose_folder::{Folder, ReadOnce};
 use compose_input::{Fault, NameFiles, TableFiles, read_text};
 use compose_migration::{MigrationFault, Named};
@@ -139,7 +140,7 @@ fn report_names<T: ComposeTable>(
     arguments: &[&str],
     fault: MigrationFault,
 ) -> Ended {
-    let given = files.given(arguments, &[]);
+    let given = Given::of(files, arguments, &[]);
     report_given::<T>(rt, verbose, &given, &Err(Refusal::from(fault)))
 }
 

@@ -86,8 +86,8 @@ fn type_files<T: ComposeTable, F: Folder>(
     let header = NameFiles::read(files, rt.alloc(), names)?;
     let table = TableFiles::listed(files, rt.alloc(), "table", table)?;
     let answered = type_keys::<T>(rt.alloc(), &header.lines, keys, &table.input());
-    let tables = [table.given()];
-    let given = header.given(keys, &tables);
+    let tables = [GivenTable::of(&table)];
+    let given = Given::of(&header, keys, &tables);
     Ok(report_given::<T>(rt, verbose, &given, &answered))
 }
 
@@ -158,8 +158,8 @@ fn report_check<T: ComposeTable>(
         header: &tables.names.lines,
         arguments: allowed.unwrap_or(&[]),
         tables: &[
-            tables.old.given(),
-            tables.new.given(),
+            GivenTable::of(&tables.old),
+            GivenTable::of(&tables.new),
         ],
         repertoire: paths.repertoire,
         certificate: paths.certificate,
@@ -216,7 +216,7 @@ fn explain_files<T: ComposeTable, F: Folder>(
     } else {
         explain_migration::<T>(rt.alloc(), &both.input())
     };
-    let tables = [both.old.given(), both.new.given()];
+    let tables = [GivenTable::of(&both.old), GivenTable::of(&both.new)];
     let given = given_migration(&both, &tables, "", all);
     Ok(report_given::<T>(rt, verbose, &given, &answered))
 }
@@ -258,7 +258,7 @@ fn make_with<T: ComposeTable>(
     } else {
         make_migration::<T>(rt.alloc(), &both.input(), characters)
     };
-    let tables = [both.old.given(), both.new.given()];
+    let tables = [GivenTable::of(&both.old), GivenTable::of(&both.new)];
     let given = given_migration(both, &tables, paths.repertoire, false);
     match paths.output {
         Some(path) => report_into::<T>(rt, verbose, path, &given, &answered),

@@ -2,6 +2,7 @@
 use crate::environment::{Environment, PlaceArguments, variable};
 use compose_answer::{Answer, Ended, Refusal};
 use compose_arguments::{DiffArguments, DiffColor, DiffForm};
+use compose_details::{Given, GivenTable};
 use compose_diff::{AcceptFault, colored_text};
 use compose_diff_rows::{DiffFault, DiffInput, Form, diff_migration};
 use compose_folder::{Folder, ReadOnce};
@@ -202,8 +203,8 @@ fn report_refusal<T: ComposeTable>(
     fresh: &[&str],
     refusal: Refusal,
 ) -> Ended {
-    let tables = [files.old.given(), files.new.given()];
-    let given = files.names.given(fresh, &tables);
+    let tables = [GivenTable::of(&files.old), GivenTable::of(&files.new)];
+    let given = Given::of(&files.names, fresh, &tables);
     report_given::<T>(rt, true, &given, &Err(refusal))
 }
 

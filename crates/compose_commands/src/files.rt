@@ -1,6 +1,7 @@
 //! The files of an old and a new table, and how a run ends whose files can't be read.
 use compose_answer::Ended;
 use compose_arguments::TablePaths;
+use compose_details::fault_text;
 use compose_folder::{Folder, ReadOnce};
 use compose_input::{Fault, NameFiles, TableFiles};
 use compose_migration::MigrationInput;
@@ -12,7 +13,7 @@ pub fn tell_fault(rt: &(impl Eprint + AllocGlobal), verbose: bool, fault: &Fault
     if let Fault::NoMemory = fault {
         return no_memory(rt);
     }
-    match fault.text(rt.alloc(), verbose) {
+    match fault_text(rt.alloc(), verbose, fault) {
         Ok(text) => refused(eprint!(rt; "{text}")),
         Err(_) => no_memory(rt),
     }

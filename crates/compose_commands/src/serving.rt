@@ -2,7 +2,7 @@
 use crate::at_once::{print_end, serve_many};
 use compose_answer::{Answer, Ended, Refusal};
 use compose_arguments::ServeArguments;
-use compose_details::Given;
+use compose_details::{Given, GivenTable};
 use compose_folder::{Folder, ReadOnce};
 use compose_input::{Fault, NameFiles, TableFiles, read_text};
 use compose_report::{no_memory, refused, report, report_given, written};
@@ -126,7 +126,7 @@ fn report_fault<T: ComposeTable>(
     files: &ServiceFiles<'_>,
     fault: BeginFault,
 ) -> Ended {
-    let table = files.table.given();
+    let table = GivenTable::of(&files.table);
     let given = Given {
         headers: &files.names.files,
         header: &files.names.lines,

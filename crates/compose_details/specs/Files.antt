@@ -1,6 +1,5 @@
--- What is told of manifests, includes and files of names (this project's profile).
-use Rattle.std.specs.Prelude.{ℕ, List, ◌++◌, length, max, Option, Some, None, string_bytes, codes}
-use Rattle.compose_text.specs.Lines.{lines_of}
+-- What is told of manifests and includes (this project's profile).
+use Rattle.std.specs.Prelude.{ℕ, List, ◌++◌, Option, Some, None, string_bytes, codes}
 use Rattle.compose_find.specs.declared.fault.IncludeFault.{IncludeFault}
 use Rattle.compose_find.specs.declared.fault.IncludeFault.TheVariants.{Text, UnknownPercent, NoLocale, NoHome, TwoFiles, TooManySources, IncludeDepth}
 use Rattle.compose_find.specs.declared.found_source.FindFault.{FindFault}
@@ -38,9 +37,3 @@ abbrev pub find_said : FindFault → Option (List ℕ)
 find_said (MissingFile from n path) = Some (said_at (string_bytes from) n (quoting (codes "can't open the included file ") (string_bytes path)))
 find_said (Include from n fault) = Some (said_at (string_bytes from) n (include_said fault))
 find_said fault = None
-
--- ---- names
-
--- how many lines a file of names adds: one of an empty file too
-abbrev pub line_count : List ℕ → ℕ
-line_count bytes = max 1 (length (lines_of bytes))

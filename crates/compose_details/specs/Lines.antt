@@ -3,7 +3,7 @@ use Rattle.std.specs.Prelude.{ℕ, Bool, true, false, ◌-◌, nat_le, if◌then
 use Rattle.compose_shown.specs.Shown.{shown_text}
 use Rattle.compose_messages.specs.Messages.{position_text}
 use Rattle.compose_messages.specs.declared.position.Position.{Position}
-use Rattle.compose_details.specs.declared.given.Header.{Header}
+use Rattle.compose_input.specs.declared.names.Header.{Header}
 
 -- a line: the path, the place where there is one, and what is said (code 10 ends it)
 abbrev pub line : List ℕ → Option Position → List ℕ → List ℕ

@@ -21,7 +21,7 @@ use Rattle.compose_messages.specs.declared.hints.Hint.TheVariants.{BuiltinNames}
 use Rattle.compose_details.specs.Lines.{line, remark, whole_line, header_line, is_empty}
 use Rattle.compose_details.specs.Faulty.{lines_of_table}
 use Rattle.compose_details.specs.Definitions.{overlap_lines}
-use Rattle.compose_details.specs.declared.given.Header.{Header}
+use Rattle.compose_input.specs.declared.names.Header.{Header}
 use Rattle.compose_details.specs.declared.given.GivenTable.{GivenTable}
 use Rattle.compose_details.specs.declared.given.Given.{Given}
 

@@ -1,7 +1,6 @@
 //! Manifests, includes and files of names.
-ghost use Rattle.std.specs.Prelude.{◌≡◌, ◌++◌, ◌≤◌, IfOk, length, string_bytes};
+ghost use Rattle.std.specs.Prelude.{◌≡◌, IfOk, string_bytes};
 ghost use Rattle.std.specs.Option.{option_map};
-ghost use Rattle.compose_text.specs.Lines.{lines_of};
 ghost use Rattle.compose_messages.specs.Messages.{file_text};
 ghost use Rattle.compose_details.specs.Files as words;
 
@@ -10,7 +9,6 @@ use crate::refusal::{push_hint, push_words};
 use compose_find::{FindFault, IncludeFault};
 use compose_manifest::ManifestFault;
 use compose_messages::{FileMessage, Message, manifest_hint, manifest_words};
-use compose_text::first_line;
 use std::alloc::{AllocError, Global};
 
 /// What `-v` tells of a fault of the manifest at this path, whose bytes these are: its line, and a hint where it is a table. O(bytes).
@@ -62,24 +60,4 @@ fn include_words(fault: &IncludeFault) -> &'static str
         IncludeFault::IncludeDepth => "more than eight includes lead to this file",
         IncludeFault::NoMemory => "out of memory",
     }
-}
-
-/// How many lines a file of names adds to those before it: at least one. O(bytes).
-pub fn line_count(bytes: &[u8]) -> usize
-    ensures { result ≡ words.line_count bytes.now }
-{
-    lines_in(bytes).max(1)
-}
-
-/// How many lines there are.
-fn lines_in(bytes: &[u8]) -> usize
-    ensures { result ≡ length (lines_of bytes.now) }
-{
-    let mut count = 0;
-    let mut rest = bytes;
-    while let Some((_, behind)) = first_line(rest) {
-        count += 1;
-        rest = behind;
-    }
-    count
 }

@@ -1,14 +1,8 @@
 //! What a command was given.
-use compose_migration::TableInput;
+ghost use Rattle.std.specs.Prelude.{◌≡◌, string_bytes};
 
-/// A file of names.
-#[derive(Clone, Copy, Debug)]
-pub struct Header<'a> {
-    /// Its path, or `builtin`.
-    pub path: &'a str,
-    /// How many lines of all names it gives.
-    pub lines: usize,
-}
+use compose_input::{Header, NameFiles, TableFiles};
+use compose_migration::TableInput;
 
 /// A table as it was given.
 #[derive(Clone, Copy)]
@@ -40,4 +34,45 @@ pub struct Given<'a> {
     pub certificate_text: &'a [u8],
     /// Whether all differences are told, and not the first alone.
     pub all: bool,
+}
+
+impl<'a> GivenTable<'a> {
+    /// A table by its files.
+    pub fn of(files: &'a TableFiles) -> GivenTable<'a>
+        ensures path { result.manifest.now ≡ string_bytes files.now.path }
+        ensures paths { result.paths.now ≡ files.now.paths.items }
+        ensures sources { result.input.sources.now ≡ files.now.sources }
+        ensures rule { result.input.rule ≡ files.now.rule }
+    {
+        GivenTable {
+            manifest: &files.path,
+            paths: &files.paths,
+            input: files.input(),
+        }
+    }
+}
+
+impl<'a> Given<'a> {
+    /// Names, arguments that are to name keysyms, and tables; no other files.
+    pub fn of(
+        names: &'a NameFiles<'a>,
+        arguments: &'a [&'a str],
+        tables: &'a [GivenTable<'a>],
+    ) -> Given<'a>
+        ensures headers { result.headers.now ≡ names.now.files.items }
+        ensures lines { result.header.now ≡ names.now.lines.items }
+        ensures arguments { result.arguments.now ≡ arguments.now }
+        ensures tables { result.tables.now ≡ tables.now }
+    {
+        Given {
+            headers: &names.files,
+            header: &names.lines,
+            arguments,
+            tables,
+            repertoire: "",
+            certificate: "",
+            certificate_text: &[],
+            all: false,
+        }
+    }
 }

@@ -1,7 +1,8 @@
 //! What `-v` adds to a refusal or to the answer `no`: lines with the path of a file, a place in it, and what is wrong there, and hints.
 //!
 //! [`refusal_details`] tells every faulty line of a table, up to twenty, both places of an overlap, and of the other files the line;
-//! [`manifest_details`] what is wrong with a manifest; [`find_message`] which include leads to no file.
+//! [`manifest_details`] what is wrong with a manifest; [`find_message`] which include leads to no file; [`fault_text`] why what a command was given
+//! can't be read.
 //!
 //! ```text
 //! refused: new: 1 Read: 4 UnknownKeysym source=0 line=1 index=0      # what the command prints without -v
@@ -15,12 +16,14 @@ mod definitions;
 mod faulty;
 mod files;
 mod given;
+mod input;
 mod lines;
 mod pairs;
 mod refusal;
 mod sides;
 
 pub use answer::answer_details;
-pub use files::{find_message, line_count, manifest_details};
-pub use given::{Given, GivenTable, Header};
+pub use files::{find_message, manifest_details};
+pub use given::{Given, GivenTable};
+pub use input::fault_text;
 pub use refusal::refusal_details;

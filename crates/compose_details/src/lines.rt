@@ -3,7 +3,7 @@ ghost use Rattle.std.specs.Prelude.{◌≡◌, ◌++◌, map, OnOk, string_bytes
 ghost use Rattle.compose_messages.specs.Messages.{message_text};
 ghost use Rattle.compose_details.specs.Lines as lines;
 
-use crate::given::Header;
+use compose_input::Header;
 use compose_messages::{FileMessage, Message, Position};
 use std::alloc::AllocError;
 use std::fmt::Write;

@@ -5,7 +5,7 @@ ghost use Rattle.compose_details.specs.Refusals as words;
 
 use crate::definitions::push_overlap;
 use crate::faulty::push_faulty_lines;
-use crate::given::{Given, GivenTable, Header};
+use crate::given::{Given, GivenTable};
 use crate::lines::{header_line, push_line, push_remark, whole_line};
 use compose_answer::Refusal;
 use compose_check::CheckFault;

@@ -1,7 +1,10 @@
 //! Files of names, one after another.
-ghost use Rattle.std.specs.Prelude.{◌≡◌, ◌++◌, OnOk};
+ghost use Rattle.std.specs.Prelude.{◌≡◌, ◌++◌, OnOk, length};
+ghost use Rattle.compose_text.specs.Lines.{lines_of};
+ghost use Rattle.compose_input.specs.Headers as words;
 ghost use Rattle.compose_input.specs.Headers.{ended};
 
+use compose_text::first_line;
 use std::alloc::AllocError;
 
 /// Adds the lines of a file of names to those of the files before it. A newline ends each file, so that no line runs on.
@@ -14,4 +17,24 @@ pub fn add_names(header: &mut Vec<u8>, lines: &[u8]) -> Result<(), AllocError>
         header.push(b'\n')?;
     }
     Ok(())
+}
+
+/// How many lines a file of names adds to those before it: at least one. O(bytes).
+pub fn line_count(bytes: &[u8]) -> usize
+    ensures { result ≡ words.line_count bytes.now }
+{
+    lines_in(bytes).max(1)
+}
+
+/// How many lines there are.
+fn lines_in(bytes: &[u8]) -> usize
+    ensures { result ≡ length (lines_of bytes.now) }
+{
+    let mut count = 0;
+    let mut rest = bytes;
+    while let Some((_, behind)) = first_line(rest) {
+        count += 1;
+        rest = behind;
+    }
+    count
 }

@@ -19,8 +19,8 @@ mod tables;
 mod texts;
 
 pub use fault::{Fault, Unopened};
-pub use headers::add_names;
-pub use names::NameFiles;
+pub use headers::{add_names, line_count};
+pub use names::{Header, NameFiles};
 pub use places::Places;
 pub use search::find_files;
 pub use tables::{TableFiles, files_note};

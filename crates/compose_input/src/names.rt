@@ -1,11 +1,19 @@
 //! The files of names.
 use crate::fault::Fault;
-use crate::headers::add_names;
+use crate::headers::{add_names, line_count};
 use crate::texts::read_text;
 use builtin_names::builtin_names;
-use compose_details::{Given, GivenTable, Header, line_count};
 use compose_folder::{Folder, ReadOnce};
 use std::alloc::{AllocError, Global};
+
+/// A file of names.
+#[derive(Clone, Copy, Debug)]
+pub struct Header<'a> {
+    /// Its path, or `builtin`.
+    pub path: &'a str,
+    /// How many lines of all names it gives.
+    pub lines: usize,
+}
 
 /// The files of names.
 #[derive(Drop)]
@@ -35,24 +43,6 @@ impl<'n> NameFiles<'n> {
             }
         }
         Ok(header)
-    }
-
-    /// The same, as it was given with arguments that are to name keysyms, and tables.
-    pub fn given<'a>(
-        &'a self,
-        arguments: &'a [&'a str],
-        tables: &'a [GivenTable<'a>],
-    ) -> Given<'a> {
-        Given {
-            headers: &self.files,
-            header: &self.lines,
-            arguments,
-            tables,
-            repertoire: "",
-            certificate: "",
-            certificate_text: &[],
-            all: false,
-        }
     }
 
     /// Adds a file of names to those before it.

@@ -1,4 +1,8 @@
 //! Where the tables of a system lie.
+ghost use Rattle.std.specs.Prelude.{◌≡◌, ◌++◌, IfOk, IfErr, string_bytes};
+ghost use Rattle.compose_input.specs.Texts.{IsFound};
+ghost use Rattle.compose_input.specs.declared.fault.Fault.TheVariants.{NoMemory};
+
 use crate::fault::Fault;
 use compose_find::{Meanings, locale_file};
 use compose_folder::{Folder, ReadOnce, Unread};
@@ -39,21 +43,21 @@ impl<'a> Places<'a> {
         let Some(locale) = self.locale else {
             return Ok(None);
         };
-        let compose_dir = self.listing(files, alloc, "compose.dir")?;
-        let aliases = self.listing(files, alloc, "locale.alias")?;
+        let compose_dir = self.listing(files, alloc, "/compose.dir")?;
+        let aliases = self.listing(files, alloc, "/locale.alias")?;
         Ok(locale_file(alloc, self.system, &compose_dir, &aliases, locale)?)
     }
 
-    /// The bytes of a file in the system's folder, below the root where it is there; none where it isn't.
+    /// The bytes of the file with this name, which begins with a slash, in the system's folder, below the root where it is there; none where it isn't.
     fn listing<F: Folder>(
         &self,
         files: &mut ReadOnce<F>,
         alloc: Global,
         name: &str,
     ) -> Result<Vec<u8>, Fault> {
-        let path = joined(alloc, &[self.system, "/", name])?;
+        let path = joined(alloc, self.system, name)?;
         if let Some(root) = self.root {
-            let below = joined(alloc, &[root, &path])?;
+            let below = joined(alloc, root, &path)?;
             if let Some(bytes) = found(files, alloc, &below)? {
                 return Ok(bytes);
             }
@@ -70,7 +74,11 @@ pub(crate) fn found<F: Folder>(
     files: &mut ReadOnce<F>,
     alloc: Global,
     path: &str,
-) -> Result<Option<Vec<u8>>, Fault> {
+) -> Result<Option<Vec<u8>>, Fault>
+    ensures kept { files.new.holds ≡ files.old.holds }
+    ensures found { IfOk result (λ bytes. IsFound files.old.holds path.now bytes) }
+    ensures fault { IfErr result (λ fault. fault ≡ NoMemory) }
+{
     match files.read(alloc, path) {
         Ok(bytes) => Ok(Some(bytes)),
         Err(Unread::Refused(_)) => Ok(None),
@@ -78,11 +86,11 @@ pub(crate) fn found<F: Folder>(
     }
 }
 
-/// These texts, one after another.
-pub(crate) fn joined(alloc: Global, parts: &[&str]) -> Result<String, AllocError> {
-    let mut text = String::new(alloc);
-    for part in parts {
-        text.push_str(part)?;
-    }
+/// A text, and another behind it.
+pub(crate) fn joined(alloc: Global, first: &str, second: &str) -> Result<String, AllocError>
+    ensures { IfOk result (λ text. string_bytes text ≡ first.now ++ second.now) }
+{
+    let mut text = String::from_str(alloc, first)?;
+    text.push_str(second)?;
     Ok(text)
 }

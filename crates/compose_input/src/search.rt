@@ -59,7 +59,7 @@ fn search_fault<F: Folder>(
         FindFault::NoMemory => Ok(Fault::NoMemory),
         FindFault::MissingRoot { path } => {
             let kind = kind_at(files, alloc, &path)?;
-            unread(alloc, &path, kind)
+            Ok(unread(alloc, &path, kind))
         }
         fault => {
             let tried = tried_paths(files, alloc, meanings, &fault)?;
@@ -80,7 +80,7 @@ fn tried_paths<F: Folder>(
         return Ok(tried);
     };
     if let (Some(root), true) = (meanings.root, path.starts_with('/')) {
-        tried.push(unopened(files, alloc, joined(alloc, &[root, path])?)?)?;
+        tried.push(unopened(files, alloc, joined(alloc, root, path)?)?)?;
     }
     tried.push(unopened(files, alloc, String::from_str(alloc, path)?)?)?;
     let other = beside(alloc, from, path)?;

@@ -3,7 +3,6 @@ use crate::fault::Fault;
 use crate::places::Places;
 use crate::search::find_files;
 use crate::texts::{read_named, read_text};
-use compose_details::GivenTable;
 use compose_find::{FoundSource, FoundTable, locale_tree};
 use compose_folder::{Folder, ReadOnce};
 use compose_manifest::{Manifest, ManifestFault, file_path, outside_text, read_manifest};
@@ -87,15 +86,6 @@ impl TableFiles {
         TableInput {
             sources: &self.sources,
             rule: self.rule,
-        }
-    }
-
-    /// The same, with the paths of its files and the one that was given.
-    pub fn given(&self) -> GivenTable<'_> {
-        GivenTable {
-            manifest: &self.path,
-            paths: &self.paths,
-            input: self.input(),
         }
     }
 }

@@ -1,4 +1,7 @@
 //! A file as it is.
+ghost use Rattle.std.specs.Prelude.{◌≡◌};
+ghost use Rattle.compose_input.specs.Texts.{IsRead, IsUnread, named};
+
 use crate::fault::{Fault, Unopened};
 use compose_folder::{Folder, ReadOnce, Unread};
 use std::alloc::Global;
@@ -9,10 +12,13 @@ pub fn read_text<F: Folder>(
     files: &mut ReadOnce<F>,
     alloc: Global,
     path: &str,
-) -> Result<Vec<u8>, Fault> {
+) -> Result<Vec<u8>, Fault>
+    ensures kept { files.new.holds ≡ files.old.holds }
+    ensures reads { IsRead files.old.holds path.now result }
+{
     match files.read(alloc, path) {
         Ok(bytes) => Ok(bytes),
-        Err(Unread::Refused(kind)) => Err(unread(alloc, path, kind)?),
+        Err(Unread::Refused(kind)) => Err(unread(alloc, path, kind)),
         Err(Unread::NoMemory) => Err(Fault::NoMemory),
     }
 }
@@ -22,7 +28,10 @@ pub(crate) fn read_named<F: Folder>(
     files: &mut ReadOnce<F>,
     alloc: Global,
     path: &str,
-) -> Result<Vec<u8>, Fault> {
+) -> Result<Vec<u8>, Fault>
+    ensures kept { files.new.holds ≡ files.old.holds }
+    ensures reads { IsRead files.old.holds (named path.now) result }
+{
     if path == "-" {
         return read_text(files, alloc, "./-");
     }
@@ -30,9 +39,11 @@ pub(crate) fn read_named<F: Folder>(
 }
 
 /// That the file at this path can't be read.
-pub(crate) fn unread(alloc: Global, path: &str, kind: ErrorKind) -> Result<Fault, Fault> {
-    Ok(Fault::Unread(Unopened {
-        path: String::from_str(alloc, path)?,
-        kind,
-    }))
+pub(crate) fn unread(alloc: Global, path: &str, kind: ErrorKind) -> Fault
+    ensures { IsUnread path.now kind result }
+{
+    match String::from_str(alloc, path) {
+        Ok(path) => Fault::Unread(Unopened { path, kind }),
+        Err(_) => Fault::NoMemory,
+    }
 }

@@ -1,6 +1,6 @@
 use Rattle.std.proofs.Common.{◌≡◌, ◌≤◌, ◌+◌, length}
 use Rattle.compose_text.specs.Lines.{lines_of}
-use Rattle.compose_details.proofs.files.lines_in.Given as goal
+use Rattle.compose_input.proofs.headers.lines_in.Given as goal
 
 -- the lines so far and those of the bytes that are left are all, and no more lines were counted than bytes
 abbrev pub invariant-loop-behind : goal.invariant-loop-behind

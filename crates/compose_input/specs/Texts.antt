@@ -1,0 +1,31 @@
+-- What a command reads of a folder (this project's profile). Where it is not known what the folder has, nothing is said.
+use Rattle.std.specs.Prelude.{◌≡◌, ℕ, if◌then◌else◌, List, [], ◌∷◌, Option, Some, None, Result, Ok, Err, string_bytes, codes, bytes_eq}
+use Rattle.std.specs.declared.alloc.Global.{Global}
+use Rattle.std.specs.declared.io.ErrorKind.{ErrorKind}
+use Rattle.std.specs.declared.vec.Vec.{Vec}
+use Rattle.compose_folder.specs.Content.{Entry, File, Unreadable, IsHeld}
+use Rattle.compose_input.specs.declared.fault.Fault.{Fault}
+use Rattle.compose_input.specs.declared.fault.Fault.TheVariants as faults
+
+-- the bytes of the file under the path, or that it can't be read and why; no other fault
+abbrev pub IsRead : Option (List Entry) → List ℕ → Result (Vec ℕ Global) Fault → Type 0
+IsRead folder path (Ok bytes) = IsHeld folder path (File bytes.items)
+IsRead folder path (Err (faults.Unread unopened)) = (string_bytes unopened.path ≡ path) × IsHeld folder path (Unreadable unopened.kind)
+IsRead folder path (Err faults.NoMemory) = Unit {0}
+IsRead folder path (Err fault) = ⊥
+
+-- the fault says that the file under the path can't be read, and why, unless memory ran out for saying so
+abbrev pub IsUnread : List ℕ → ErrorKind → Fault → Type 0
+IsUnread path kind (faults.Unread unopened) = (string_bytes unopened.path ≡ path) × (unopened.kind ≡ kind)
+IsUnread path kind faults.NoMemory = Unit {0}
+IsUnread path kind fault = ⊥
+
+-- the file's path as it is opened: a hyphen (code 45) that stands in a file is a file's name
+abbrev pub named : List ℕ → List ℕ
+named path = if bytes_eq path (45 ∷ []) then codes "./-" else path
+
+-- a file was found under the path, or none can be read there
+abbrev pub IsFound : Option (List Entry) → List ℕ → Option (Vec ℕ Global) → Type 0
+IsFound folder path (Some bytes) = IsHeld folder path (File bytes.items)
+IsFound None path None = Unit {0}
+IsFound (Some entries) path None = (kind : ErrorKind) × IsHeld (Some entries) path (Unreadable kind)
