@@ -1,2 +1,4 @@
 pub mod Headers
 pub mod Texts
+pub mod Places
+pub mod Search

@@ -25,7 +25,7 @@ abbrev pub named : List ℕ → List ℕ
 named path = if bytes_eq path (45 ∷ []) then codes "./-" else path
 
 -- a file was found under the path, or none can be read there
-abbrev pub IsFound : Option (List Entry) → List ℕ → Option (Vec ℕ Global) → Type 0
-IsFound folder path (Some bytes) = IsHeld folder path (File bytes.items)
+abbrev pub IsFound : Option (List Entry) → List ℕ → Option (List ℕ) → Type 0
+IsFound folder path (Some bytes) = IsHeld folder path (File bytes)
 IsFound None path None = Unit {0}
 IsFound (Some entries) path None = (kind : ErrorKind) × IsHeld (Some entries) path (Unreadable kind)

@@ -1,5 +1,6 @@
 //! Where the tables of a system lie.
-ghost use Rattle.std.specs.Prelude.{◌≡◌, ◌++◌, IfOk, IfErr, string_bytes};
+ghost use Rattle.std.specs.Prelude.{◌≡◌, ◌++◌, option_copied, option_map, IfOk, IfErr, string_bytes};
+ghost use Rattle.compose_find.specs.FindGives.{words};
 ghost use Rattle.compose_input.specs.Texts.{IsFound};
 ghost use Rattle.compose_input.specs.declared.fault.Fault.TheVariants.{NoMemory};
 
@@ -24,8 +25,12 @@ pub struct Places<'a> {
 }
 
 impl<'a> Places<'a> {
+    ghost use Rattle.compose_input.specs.Places.{words_with};
+
     /// What `%S`, `%L` and `%H` stand for, where this is the locale's table.
-    pub(crate) fn meanings(&self, locale: Option<&'a str>) -> Meanings<'a> {
+    pub(crate) fn meanings(&self, locale: Option<&'a str>) -> Meanings<'a>
+        ensures { words result ≡ words_with self.now (option_copied locale.entry) }
+    {
         Meanings {
             system: self.system,
             locale,
@@ -39,7 +44,9 @@ impl<'a> Places<'a> {
         &self,
         files: &mut ReadOnce<F>,
         alloc: Global,
-    ) -> Result<Option<String>, Fault> {
+    ) -> Result<Option<String>, Fault>
+        ensures { files.new.holds ≡ files.old.holds }
+    {
         let Some(locale) = self.locale else {
             return Ok(None);
         };
@@ -54,7 +61,9 @@ impl<'a> Places<'a> {
         files: &mut ReadOnce<F>,
         alloc: Global,
         name: &str,
-    ) -> Result<Vec<u8>, Fault> {
+    ) -> Result<Vec<u8>, Fault>
+        ensures { files.new.holds ≡ files.old.holds }
+    {
         let path = joined(alloc, self.system, name)?;
         if let Some(root) = self.root {
             let below = joined(alloc, root, &path)?;
@@ -76,7 +85,8 @@ pub(crate) fn found<F: Folder>(
     path: &str,
 ) -> Result<Option<Vec<u8>>, Fault>
     ensures kept { files.new.holds ≡ files.old.holds }
-    ensures found { IfOk result (λ bytes. IsFound files.old.holds path.now bytes) }
+    ensures found { IfOk result
+        (λ bytes. IsFound files.old.holds path.now (option_map (λ held. held.items) bytes)) }
     ensures fault { IfErr result (λ fault. fault ≡ NoMemory) }
 {
     match files.read(alloc, path) {

@@ -1,4 +1,9 @@
 //! The files of a Compose file as it lies on a system.
+ghost use Rattle.std.specs.Prelude.{◌≡◌, List, ℕ, Option, IfOk};
+ghost use Rattle.compose_find.specs.FindGives.{words};
+ghost use Rattle.compose_input.specs.Search.{IsTable, opened};
+ghost use Rattle.compose_input.specs.Places.{words_with};
+
 use crate::fault::{Fault, Unopened};
 use crate::places::{Places, found, joined};
 use crate::texts::unread;
@@ -14,7 +19,12 @@ pub fn find_files<F: Folder>(
     alloc: Global,
     places: Places<'_>,
     file: &str,
-) -> Result<FoundTable, Fault> {
+) -> Result<FoundTable, Fault>
+    ensures kept { files.new.holds ≡ files.old.holds }
+    ensures found { IfOk result
+        (λ table. (locale : Option (List ℕ))
+        × IsTable files.old.holds (words_with places.entry locale) file.now table) }
+{
     let locale = places.locale_table(files, alloc)?;
     search(files, alloc, places.meanings(locale.as_deref()), file)
 }
@@ -25,7 +35,11 @@ fn search<F: Folder>(
     alloc: Global,
     meanings: Meanings<'_>,
     root: &str,
-) -> Result<FoundTable, Fault> {
+) -> Result<FoundTable, Fault>
+    ensures kept { files.new.holds ≡ files.old.holds }
+    ensures found { IfOk result
+        (λ table. IsTable files.old.holds (words meanings.entry) root.now table) }
+{
     let mut looked = compose_find::Files::new(alloc);
     for _ in 0..u64::MAX {
         match find_table(alloc, &looked, meanings, root) {
@@ -41,7 +55,9 @@ fn search<F: Folder>(
 }
 
 /// What is opened for a path: `-` is standard input where it was given as the root, and else a file's name as any other.
-fn opened<'p>(path: &'p str, root: &str) -> &'p str {
+fn opened<'p>(path: &'p str, root: &str) -> &'p str
+    ensures { result.now ≡ opened root.now path.now }
+{
     if path == "-" && root != "-" {
         return "./-";
     }
@@ -54,7 +70,9 @@ fn search_fault<F: Folder>(
     alloc: Global,
     meanings: Meanings<'_>,
     fault: FindFault,
-) -> Result<Fault, Fault> {
+) -> Result<Fault, Fault>
+    ensures { files.new.holds ≡ files.old.holds }
+{
     match fault {
         FindFault::NoMemory => Ok(Fault::NoMemory),
         FindFault::MissingRoot { path } => {
@@ -74,7 +92,9 @@ fn tried_paths<F: Folder>(
     alloc: Global,
     meanings: Meanings<'_>,
     fault: &FindFault,
-) -> Result<Vec<Unopened>, Fault> {
+) -> Result<Vec<Unopened>, Fault>
+    ensures { files.new.holds ≡ files.old.holds }
+{
     let mut tried = Vec::new(alloc);
     let FindFault::MissingFile { from, path, .. } = fault else {
         return Ok(tried);
@@ -95,7 +115,9 @@ fn unopened<F: Folder>(
     files: &mut ReadOnce<F>,
     alloc: Global,
     path: String,
-) -> Result<Unopened, Fault> {
+) -> Result<Unopened, Fault>
+    ensures { files.new.holds ≡ files.old.holds }
+{
     let kind = kind_at(files, alloc, &path)?;
     Ok(Unopened { path, kind })
 }
@@ -105,7 +127,9 @@ fn kind_at<F: Folder>(
     files: &mut ReadOnce<F>,
     alloc: Global,
     path: &str,
-) -> Result<ErrorKind, Fault> {
+) -> Result<ErrorKind, Fault>
+    ensures { files.new.holds ≡ files.old.holds }
+{
     match files.read(alloc, path) {
         Ok(_) => Ok(ErrorKind::NotFound),
         Err(Unread::Refused(kind)) => Ok(kind),
