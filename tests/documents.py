@@ -1,0 +1,241 @@
+#!/usr/bin/env python3
+"""documents.py [FOLDER]: what the documents of the repository, or of a copy of it in FOLDER, name is there:
+
+  - links lead to a file, and to a heading of it,
+  - each function, clause and definition that docs/PROVED.md and docs/DEFINITIONS.md name in backquotes stands in the sources of its crate,
+    and each crate has its row in docs/PROVED.md and docs/ARCHITECTURE.md,
+  - each crate, file, target of make and option that a document names exists, and so does each fault of FORMATS, PROTOCOL and the manual,
+    under its number, and each limit among the numbers of the crates' sources,
+  - README has at most 9,216 bytes, and the version of the program is that of README, CHANGELOG and the manual,
+  - lines of code in CONTRIBUTING stand in the sources, and no document cites a paper or a numbered issue.
+
+The last line is `N passed, M failed`."""
+import glob
+import os
+import re
+import sys
+
+TOP = os.path.abspath(sys.argv[1]) if len(sys.argv) > 1 else os.path.dirname(os.path.dirname(os.path.abspath(__file__)))
+MOST_README = 9216
+MANUALS = ["docs/composecheck.1", "docs/composecheck.5"]
+# Documents whose numbers with a thousands' comma are limits of the program.
+WITH_LIMITS = ["docs/FORMATS.md", "docs/PROTOCOL.md", *MANUALS]
+# Options of other programs stand in commands that begin so.
+FOREIGN = re.compile(r"\b(?:rt|systemctl|dpkg-deb|taskset|valgrind|perf|python3|git|sed) [^`\n]*")
+FILE = re.compile(r"(?<![\w./$~%-])(?:[\w-]+/)*[\w-]+\.(?:py|sh|md|rt|antt|txt|service|socket|case|edit|c|h)\b(?!\()")
+# Files that are not of the repository, and names that stand for any.
+OTHER_FILES = {"keysymdef.h", "XF86keysym.h", "report.md", "START-HERE.md", "NAME.case", "WHAT_IS_WRONG.edit", "files.py", "Answers.antt", "Examples.antt"}
+FOLDERS = ["", "docs/", "share/composecheck/", "tests/", "bench/", "packaging/"]
+CITATION = re.compile(r"\bet al\b|\barXiv\b|\bdoi\b|\bthis paper\b|\bthe paper\b|\bpapers\b|\bissue \d|(?<![\w&])#\d+\b|\bTheorem \d|\bSection \d|\[\d+\](?!\()", re.I)
+WORD = re.compile(r"(?:[A-Z]\w*::)?[A-Za-z_][\w'-]*")
+FAULT = re.compile(r"\b(\d\d?) ([A-Z][a-z]+(?:[A-Z][a-z0-9]*)+|[A-Z][a-z]+)(?= [a-z]+=|`|:|$)", re.M)
+
+
+def read(path):
+    with open(os.path.join(TOP, path), encoding="utf-8") as file:
+        return file.read()
+
+
+class Results:
+    def __init__(self):
+        self.passed, self.wrong = 0, []
+
+    def expect(self, document, what, holds):
+        if holds:
+            self.passed += 1
+        else:
+            self.wrong.append(f"FAILED: {document}: {what}")
+
+
+class Crates:
+    """The sources of the crates, as text."""
+
+    def __init__(self):
+        self.names = re.findall(r"^(\w+):", read("crates.txt"), re.M)
+        self.texts = {it: self.text_of(it, "src/**/*.rt", "specs/**/*.antt") for it in self.names}
+        self.proofs = {it: self.text_of(it, "proofs/**/*.antt", "must-fail/*.edit") for it in self.names}
+        self.words = {it: set(re.findall(r"[A-Za-z_][\w'-]*", text)) for it, text in self.texts.items()}
+        self.every = "\n".join(self.texts.values())
+        self.numbers = {int(it.replace("_", ""), 0) for it in re.findall(r"\b(?:0x[\da-f][\da-f_]*|[1-9][\d_]*)\b", self.every, re.I)}
+        self.numbers |= {2 ** int(it) for it in re.findall(r"\b2 \^ (\d+)\b", self.every)}
+
+    @staticmethod
+    def text_of(crate, *patterns):
+        found = sorted(path for it in patterns for path in glob.glob(os.path.join(TOP, "crates", crate, it), recursive=True))
+        return "\n".join(read(it) for it in found)
+
+    def have(self, crates, word):
+        """Whether the word stands in one of these crates. Of `Type::function` each part does."""
+        return any(all(part in self.words[it] for part in word.split("::")) for it in crates if it in self.words)
+
+
+def documents():
+    """Returns the text of each document by its path."""
+    found = [os.path.relpath(it, TOP) for pattern in ("*.md", "docs/*.md", "tests/*.md") for it in glob.glob(os.path.join(TOP, pattern))]
+    return {it: read(it) for it in [*sorted(found), *MANUALS]}
+
+
+def without_roff(text):
+    return text.replace("\\-", "-").replace("\\fR", "").replace("\\fP", "")
+
+
+def anchors(text):
+    """Returns the anchors of a document's headings."""
+    text = re.sub(r"^```.*?^```$", "", text, flags=re.M | re.S)
+    heads = [re.sub(r"[^\w\- ]", "", it.lower().replace("`", "")).replace(" ", "-") for it in re.findall(r"^#+ (.+)$", text, re.M)]
+    return set(heads)
+
+
+def check_links(results, texts):
+    for document, text in texts.items():
+        for target in re.findall(r"\[[^\]\n]*\]\(([^)\s]+)\)", text):
+            if "://" in target:
+                continue
+            path, _, anchor = target.partition("#")
+            whole = os.path.normpath(os.path.join(os.path.dirname(document), path)) if path else document
+            there = os.path.exists(os.path.join(TOP, whole))
+            results.expect(document, f"the link {target} leads to no file", there)
+            if there and anchor:
+                results.expect(document, f"the link {target} leads to no heading", anchor in anchors(read(whole)))
+
+
+def quoted(text):
+    """Returns what stands in backquotes, but in blocks of code."""
+    return re.findall(r"`([^`\n]+)`", re.sub(r"^```.*?^```$", "", text, flags=re.M | re.S))
+
+
+def check_rows(results, document, text, crates):
+    """Each word in backquotes of a row of crates stands in one of them, or in another crate that the row names."""
+    for first, rest in re.findall(r"^\| ((?:`\w+[\w/]*`(?:, )?)+) \| (.*) \|$", text, re.M):
+        own = [it.split("/")[0] for it in quoted(first)]
+        for word in quoted(rest):
+            if word in crates.names or not WORD.fullmatch(word) or is_outside(word):
+                continue
+            near = own + [it for it in quoted(rest) if it in crates.names]
+            results.expect(document, f"`{word}` stands in no source of {', '.join(near)}", crates.have(near, word))
+
+
+def is_outside(word):
+    """Whether a word in backquotes is none of a crate: a value that is printed, or a name of the kit or the system."""
+    return word in {"yes", "no", "type", "diff", "check", "explain", "make", "manifest", "serve", "load", "session", "specs", "rattle", "clap", "mio", "std", "Display"}
+
+
+def check_laws(results, document, text, crates):
+    """Outside of the rows, each law and each word that is followed by its crate, as `law_gone` or `serve` of `compose_serve`, stands there."""
+    for word in quoted(text):
+        if re.fullmatch(r"law_\w+", word):
+            results.expect(document, f"`{word}` stands in no crate", crates.have(crates.names, word))
+    for words, crate in re.findall(r"((?:`[\w:]+`(?:, | and )?)+) of `(compose_\w+|keysym_core)`", text):
+        for word in quoted(words):
+            if crate in crates.names and word not in crates.names:
+                results.expect(document, f"`{word}` stands in no source of {crate}", crates.have([crate], word))
+
+
+def check_crates(results, texts, crates):
+    folders = {os.path.basename(it) for it in glob.glob(os.path.join(TOP, "crates", "*"))}
+    for document, text in texts.items():
+        for word in re.findall(r"\bcompose_[a-z_]+\b(?!\.[a-z])|\bkeysym_core\b|\bbuiltin_names\b", text):
+            known = word in folders or word in crates.every
+            results.expect(document, f"there is no crate {word}", known)
+    for document in ("docs/PROVED.md", "docs/ARCHITECTURE.md"):
+        rows = {it for first in re.findall(r"^\| ((?:`\w+`(?:, )?)+) \|", texts[document], re.M) for it in quoted(first)}
+        for crate in crates.names:
+            results.expect(document, f"{crate} has no row", crate in rows)
+
+
+def check_files(results, texts):
+    tested = set(os.listdir(os.path.join(TOP, "tests", "cases")))
+    for document, text in texts.items():
+        text = re.sub(r"\b\w+://\S+", "", without_roff(text))
+        for name in FILE.findall(text):
+            base = os.path.basename(name)
+            there = any(os.path.exists(os.path.join(TOP, it, name)) for it in FOLDERS) or base in OTHER_FILES or base in tested
+            there = there or bool(glob.glob(os.path.join(TOP, "crates", "*", "**", base), recursive=True)) or glob.glob(os.path.join(TOP, "share", "**", base), recursive=True)
+            results.expect(document, f"there is no file {name}", there)
+
+
+def check_commands(results, texts, crates):
+    targets = set(re.findall(r"^([\w-]+)(?: [\w-]+)*:(?!=)", read("Makefile"), re.M)) | {it for line in re.findall(r"^([\w -]+):(?!=)", read("Makefile"), re.M) for it in line.split()}
+    options = set(re.findall(r'name: "([\w-]+)"', crates.texts["compose_arguments"])) | {"help", "version"}
+    scripts = set(re.findall(r"--([\w-]+)", read("tests/gate.py")))
+    for document, text in texts.items():
+        text = without_roff(text)
+        for word in re.findall(r"(?:^|`)make ([a-z][\w-]*)`?", text, re.M):
+            results.expect(document, f"make has no target {word}", word in targets or word in {"certificate"})
+        if document in ("CONTRIBUTING.md", "docs/GATE.md", "docs/PERFORMANCE.md", "docs/DECISIONS.md"):
+            text = FOREIGN.sub("", text)
+        else:
+            text = re.sub(r"\b(?:systemctl|git) [^`\n]*", "", text)
+        for word in re.findall(r"(?<![\w-])--([a-z][\w-]*)", text):
+            results.expect(document, f"there is no option --{word}", word in options or word in scripts)
+
+
+def check_faults(results, texts, crates):
+    kinds = set(re.findall(r'"(\d+ [A-Z]\w+)', crates.every)) | set(re.findall(r"(\d+ [A-Z]\w+)", crates.texts["compose_serving"]))
+    kinds |= {f"{number} {name}" for name, number in re.findall(r"::(\w+) => (\d+),", crates.texts["compose_service"])}
+    for document in ("README.md", "docs/GUIDE.md", "docs/SERVICE.md", *WITH_LIMITS):
+        text = re.sub(r"^```.*?^```$", "", texts[document], flags=re.M | re.S)
+        for words in quoted(text):
+            for number, name in FAULT.findall(words):
+                results.expect(document, f"no fault is printed as {number} {name}", f"{number} {name}" in kinds)
+            if re.fullmatch(r"(?:[A-Z][a-z]+){2,}|Full|Overlap|Malformed", words):
+                results.expect(document, f"there is no {words}", re.search(rf"\b{words}\b", crates.every) is not None)
+    for number, name in re.findall(r"^\| (\d+) \| (\w+) \|", texts["docs/PROTOCOL.md"], re.M):
+        there = f"{number} {name}" in kinds or re.search(rf"\b{name}\b", crates.every, re.I) is not None and int(number) == 10
+        results.expect("docs/PROTOCOL.md", f"no refusal {number} is {name}", there)
+
+
+def check_limits(results, texts, crates):
+    for document in WITH_LIMITS:
+        for text in re.findall(r"(?<![\d,.])\d{1,3}(?:,\d{3})+(?!\d)", texts[document]):
+            number = int(text.replace(",", ""))
+            results.expect(document, f"{text} is no number of the program", bool({number, number - 1} & crates.numbers))
+
+
+def check_versions(results, texts, crates):
+    version = re.search(r'\.version\("([\d.]+)"\)', crates.texts["compose_arguments"])[1]
+    results.expect("README.md", f"it doesn't say version {version}", f"Version {version}" in texts["README.md"])
+    results.expect("CHANGELOG.md", f"it has no section {version}", re.search(rf"^## {re.escape(version)}\b", texts["CHANGELOG.md"], re.M) is not None)
+    for manual in MANUALS:
+        results.expect(manual, f"its head doesn't say {version}", f'"composecheck {version.rsplit(".", 1)[0]}' in texts[manual].split("\n", 1)[0])
+    size = len(texts["README.md"].encode())
+    results.expect("README.md", f"it has {size} bytes, more than {MOST_README}", size <= MOST_README)
+
+
+def check_contributing(results, texts, crates):
+    """The indented lines that are code stand in the sources, but for the worked change, whose lines have what is new in them."""
+    sources = crates.every + "\n".join(crates.proofs.values())
+    for line in re.findall(r"^    (\S.*)$", texts["CONTRIBUTING.md"], re.M):
+        if "200e" in line or "is_unsafe" in line:
+            continue
+        results.expect("CONTRIBUTING.md", f"the line stands in no source: {line}", line in sources)
+
+
+def check_citations(results, texts):
+    for document, text in texts.items():
+        found = CITATION.search(re.sub(r"`[^`\n]*`", "", re.sub(r"^```.*?^```$", "", text, flags=re.M | re.S)))
+        results.expect(document, f"it cites something: {found and found[0]}", found is None)
+
+
+def main():
+    results, texts, crates = Results(), documents(), Crates()
+    check_links(results, texts)
+    for document in ("docs/PROVED.md", "docs/DEFINITIONS.md"):
+        check_rows(results, document, texts[document], crates)
+    for document, text in texts.items():
+        check_laws(results, document, text, crates)
+    check_crates(results, texts, crates)
+    check_files(results, texts)
+    check_commands(results, texts, crates)
+    check_faults(results, texts, crates)
+    check_limits(results, texts, crates)
+    check_versions(results, texts, crates)
+    check_contributing(results, texts, crates)
+    check_citations(results, texts)
+    print("".join(f"{it}\n" for it in dict.fromkeys(results.wrong)), end="")
+    print(f"{results.passed} passed, {len(results.wrong)} failed")
+    return 1 if results.wrong else 0
+
+
+if __name__ == "__main__":
+    sys.exit(main())
