@@ -24,10 +24,13 @@ WITH_LIMITS = ["docs/FORMATS.md", "docs/PROTOCOL.md", *MANUALS]
 FOREIGN = re.compile(r"\b(?:rt|systemctl|dpkg-deb|taskset|valgrind|perf|python3|git|sed) [^`\n]*")
 FILE = re.compile(r"(?<![\w./$~%-])(?:[\w-]+/)*[\w-]+\.(?:py|sh|md|rt|antt|txt|service|socket|case|edit|c|h)\b(?!\()")
 # Files that are not of the repository, and names that stand for any.
-OTHER_FILES = {"keysymdef.h", "XF86keysym.h", "report.md", "START-HERE.md", "NAME.case", "WHAT_IS_WRONG.edit", "files.py", "Answers.antt", "Examples.antt"}
+OTHER_FILES = {"SHORTER_PROOFS.md", "keysymdef.h", "XF86keysym.h", "report.md", "START-HERE.md", "NAME.case", "WHAT_IS_WRONG.edit", "files.py", "Answers.antt", "Examples.antt"}
 FOLDERS = ["", "docs/", "share/composecheck/", "tests/", "bench/", "packaging/"]
 CITATION = re.compile(r"\bet al\b|\barXiv\b|\bdoi\b|\bthis paper\b|\bthe paper\b|\bpapers\b|\bissue \d|(?<![\w&])#\d+\b|\bTheorem \d|\bSection \d|\[\d+\](?!\()", re.I)
 WORD = re.compile(r"(?:[A-Z]\w*::)?[A-Za-z_][\w'-]*")
+# Words and the crate that has them: `follows` of `check` (`compose_check`), or `serve` of `compose_serve`.
+WORDS = r"((?:`(?!compose_|keysym_core|std`)[\w:]+`(?:, | and )?)+)"
+NAMED = re.compile(rf"{WORDS}(?: of {WORDS})? (?:of |\()`(compose_\w+|keysym_core)`")
 FAULT = re.compile(r"\b(\d\d?) ([A-Z][a-z]+(?:[A-Z][a-z0-9]*)+|[A-Z][a-z]+)(?= [a-z]+=|`|:|$)", re.M)
 
 
@@ -105,9 +108,13 @@ def quoted(text):
 
 
 def check_rows(results, document, text, crates):
-    """Each word in backquotes of a row of crates stands in one of them, or in another crate that the row names."""
-    for first, rest in re.findall(r"^\| ((?:`\w+[\w/]*`(?:, )?)+) \| (.*) \|$", text, re.M):
+    """Each word in backquotes of a row of crates stands in one of them, or in another crate that the row names. A row of something else is of
+    the crate that the heading above names."""
+    heading = ""
+    for head, first, rest in re.findall(r"^## .*\((?:`(\w+))[/`].*$|^\| ((?:`\w+[\w/]*`(?:, )?)+) \| (.*) \|$", text, re.M):
+        heading = head or heading
         own = [it.split("/")[0] for it in quoted(first)]
+        own = own if set(own) <= set(crates.names) else [heading]
         for word in quoted(rest):
             if word in crates.names or not WORD.fullmatch(word) or is_outside(word):
                 continue
@@ -125,10 +132,9 @@ def check_laws(results, document, text, crates):
     for word in quoted(text):
         if re.fullmatch(r"law_\w+", word):
             results.expect(document, f"`{word}` stands in no crate", crates.have(crates.names, word))
-    for words, crate in re.findall(r"((?:`[\w:]+`(?:, | and )?)+) of `(compose_\w+|keysym_core)`", text):
-        for word in quoted(words):
-            if crate in crates.names and word not in crates.names:
-                results.expect(document, f"`{word}` stands in no source of {crate}", crates.have([crate], word))
+    for first, second, crate in NAMED.findall(text):
+        for word in quoted(first + second):
+            results.expect(document, f"`{word}` stands in no source of {crate}", crate not in crates.names or crates.have([crate], word))
 
 
 def check_crates(results, texts, crates):
@@ -146,7 +152,7 @@ def check_crates(results, texts, crates):
 def check_files(results, texts):
     tested = set(os.listdir(os.path.join(TOP, "tests", "cases")))
     for document, text in texts.items():
-        text = re.sub(r"\b\w+://\S+", "", without_roff(text))
+        text = re.sub(r"\b\w+://\S+|\bcompose\.socket\b", "", without_roff(text))
         for name in FILE.findall(text):
             base = os.path.basename(name)
             there = any(os.path.exists(os.path.join(TOP, it, name)) for it in FOLDERS) or base in OTHER_FILES or base in tested
@@ -171,15 +177,17 @@ def check_commands(results, texts, crates):
 
 
 def check_faults(results, texts, crates):
-    kinds = set(re.findall(r'"(\d+ [A-Z]\w+)', crates.every)) | set(re.findall(r"(\d+ [A-Z]\w+)", crates.texts["compose_serving"]))
+    kinds = set(re.findall(r'"(?:[a-z]+: )?(\d+ [A-Z]\w+)', crates.every)) | set(re.findall(r"(\d+ [A-Z]\w+)", crates.texts["compose_serving"]))
     kinds |= {f"{number} {name}" for name, number in re.findall(r"::(\w+) => (\d+),", crates.texts["compose_service"])}
+    # (the client's errors, and the settings of the units)
+    shared = "".join(read(f"share/composecheck/{it}") for it in ("composecheck_client.py", "composecheck.service"))
     for document in ("README.md", "docs/GUIDE.md", "docs/SERVICE.md", *WITH_LIMITS):
         text = re.sub(r"^```.*?^```$", "", texts[document], flags=re.M | re.S)
         for words in quoted(text):
             for number, name in FAULT.findall(words):
                 results.expect(document, f"no fault is printed as {number} {name}", f"{number} {name}" in kinds)
             if re.fullmatch(r"(?:[A-Z][a-z]+){2,}|Full|Overlap|Malformed", words):
-                results.expect(document, f"there is no {words}", re.search(rf"\b{words}\b", crates.every) is not None)
+                results.expect(document, f"there is no {words}", re.search(rf"\b{words}\b", crates.every + shared) is not None)
     for number, name in re.findall(r"^\| (\d+) \| (\w+) \|", texts["docs/PROTOCOL.md"], re.M):
         there = f"{number} {name}" in kinds or re.search(rf"\b{name}\b", crates.every, re.I) is not None and int(number) == 10
         results.expect("docs/PROTOCOL.md", f"no refusal {number} is {name}", there)
@@ -211,6 +219,21 @@ def check_contributing(results, texts, crates):
         results.expect("CONTRIBUTING.md", f"the line stands in no source: {line}", line in sources)
 
 
+def check_dependencies(results, text):
+    """The last column of the table of crates has those that a crate depends on, but for those that others among them depend on."""
+    lines = re.findall(r"^(\w+):(.*)$", read("crates.txt"), re.M)
+    direct = {crate: {it for it in rest.split() if it in dict(lines)} for crate, rest in lines}
+
+    def below(crates):
+        return set().union(*(direct[it] | below(direct[it]) for it in crates))
+
+    for crate, said in re.findall(r"^\| `(\w+)` \| .* \| ([\w, -]+) \|$", text, re.M):
+        named = {it if it in direct else f"compose_{it}" for it in said.split(", ")} if said not in ("-", "what they test") else set()
+        if said != "what they test" and crate in direct:
+            holds = named <= direct[crate] and named | below(named) == below({crate})
+            results.expect("docs/ARCHITECTURE.md", f"{crate} depends on something else", holds)
+
+
 def check_citations(results, texts):
     for document, text in texts.items():
         found = CITATION.search(re.sub(r"`[^`\n]*`", "", re.sub(r"^```.*?^```$", "", text, flags=re.M | re.S)))
@@ -225,6 +248,7 @@ def main():
     for document, text in texts.items():
         check_laws(results, document, text, crates)
     check_crates(results, texts, crates)
+    check_dependencies(results, texts["docs/ARCHITECTURE.md"])
     check_files(results, texts)
     check_commands(results, texts, crates)
     check_faults(results, texts, crates)
