@@ -39,6 +39,10 @@ def read(path):
         return file.read()
 
 
+def without_comments(text, mark):
+    return re.sub(rf"(?m)(?:^|(?<=\s)){mark}.*$", "", text)
+
+
 class Results:
     def __init__(self):
         self.passed, self.wrong = 0, []
@@ -65,7 +69,7 @@ class Crates:
     @staticmethod
     def text_of(crate, *patterns):
         found = sorted(path for it in patterns for path in glob.glob(os.path.join(TOP, "crates", crate, it), recursive=True))
-        return "\n".join(read(it) for it in found)
+        return "\n".join(without_comments(read(it), "//" if it.endswith(".rt") else "-- ") for it in found)
 
     def have(self, crates, word):
         """Whether the word stands in one of these crates. Of `Type::function` each part does."""
@@ -153,6 +157,7 @@ def check_files(results, texts):
     tested = set(os.listdir(os.path.join(TOP, "tests", "cases")))
     for document, text in texts.items():
         text = re.sub(r"\b\w+://\S+|\bcompose\.socket\b", "", without_roff(text))
+        text = text.replace("/usr/local/share/composecheck/", "share/composecheck/")
         for name in FILE.findall(text):
             base = os.path.basename(name)
             there = any(os.path.exists(os.path.join(TOP, it, name)) for it in FOLDERS) or base in OTHER_FILES or base in tested
