@@ -24,8 +24,10 @@ WITH_LIMITS = ["docs/FORMATS.md", "docs/PROTOCOL.md", *MANUALS]
 FOREIGN = re.compile(r"\b(?:rt|systemctl|dpkg-deb|taskset|valgrind|perf|python3|git|sed) [^`\n]*")
 FILE = re.compile(r"(?<![\w./$~%-])(?:[\w-]+/)*[\w-]+\.(?:py|sh|md|rt|antt|txt|service|socket|case|edit|c|h)\b(?!\()")
 # Files that are not of the repository, and names that stand for any.
-OTHER_FILES = {"SHORTER_PROOFS.md", "keysymdef.h", "XF86keysym.h", "report.md", "START-HERE.md", "NAME.case", "WHAT_IS_WRONG.edit", "files.py", "Answers.antt", "Examples.antt"}
-FOLDERS = ["", "docs/", "share/composecheck/", "tests/", "bench/", "packaging/"]
+OTHER_FILES = {"SHORTER_PROOFS.md", "keysymdef.h", "XF86keysym.h", "report.md", "files.py"}
+FOLDERS = ["", "docs/", "share/composecheck/", "tests/", "bench/", "packaging/", "crates/*/"]
+# Paths in which a word in capitals stands for any, and the file that the worked change of CONTRIBUTING doesn't need.
+PLACEHOLDER = re.compile(r"(?:^|/)(?:NAME|FILE|WHAT_IS_WRONG)\b|is_unsafe")
 CITATION = re.compile(r"\bet al\b|\barXiv\b|\bdoi\b|\bthis paper\b|\bthe paper\b|\bpapers\b|\bissue \d|(?<![\w&])#\d+\b|\bTheorem \d|\bSection \d|\[\d+\](?!\()", re.I)
 WORD = re.compile(r"(?:[A-Z]\w*::)?[A-Za-z_][\w'-]*")
 # Words and the crate that has them: `follows` of `check` (`compose_check`), or `serve` of `compose_serve`.
@@ -128,7 +130,7 @@ def check_rows(results, document, text, crates):
 
 def is_outside(word):
     """Whether a word in backquotes is none of a crate: a value that is printed, or a name of the kit or the system."""
-    return word in {"yes", "no", "type", "diff", "check", "explain", "make", "manifest", "serve", "load", "session", "specs", "rattle", "clap", "mio", "std", "Display"}
+    return word in {"yes", "no", "clap", "mio", *"diff type check explain make manifest serve load session".split()}
 
 
 def check_laws(results, document, text, crates):
@@ -153,32 +155,41 @@ def check_crates(results, texts, crates):
             results.expect(document, f"{crate} has no row", crate in rows)
 
 
+def names_below(folder):
+    """Returns the names of all files below a folder, but for what the kit built."""
+    found = set()
+    for _, folders, names in os.walk(os.path.join(TOP, folder), followlinks=True):
+        folders[:] = [it for it in folders if it != "out"]
+        found.update(names)
+    return found
+
+
 def check_files(results, texts):
-    tested = set(os.listdir(os.path.join(TOP, "tests", "cases")))
+    known = OTHER_FILES | names_below("crates") | names_below("share") | names_below("tests")
     for document, text in texts.items():
         text = re.sub(r"\b\w+://\S+|\bcompose\.socket\b", "", without_roff(text))
         text = text.replace("/usr/local/share/composecheck/", "share/composecheck/")
         for name in FILE.findall(text):
-            base = os.path.basename(name)
-            there = any(os.path.exists(os.path.join(TOP, it, name)) for it in FOLDERS) or base in OTHER_FILES or base in tested
-            there = there or bool(glob.glob(os.path.join(TOP, "crates", "*", "**", base), recursive=True)) or glob.glob(os.path.join(TOP, "share", "**", base), recursive=True)
+            if PLACEHOLDER.search(name):
+                continue
+            there = any(glob.glob(os.path.join(TOP, it, name)) for it in FOLDERS) or "/" not in name and name in known
             results.expect(document, f"there is no file {name}", there)
 
 
 def check_commands(results, texts, crates):
-    targets = set(re.findall(r"^([\w-]+)(?: [\w-]+)*:(?!=)", read("Makefile"), re.M)) | {it for line in re.findall(r"^([\w -]+):(?!=)", read("Makefile"), re.M) for it in line.split()}
+    targets = {it for line in re.findall(r"^([\w -]+):(?!=)", read("Makefile"), re.M) for it in line.split()}
     options = set(re.findall(r'name: "([\w-]+)"', crates.texts["compose_arguments"])) | {"help", "version"}
-    scripts = set(re.findall(r"--([\w-]+)", read("tests/gate.py")))
+    options |= set(re.findall(r"--([\w-]+)", read("tests/gate.py")))
     for document, text in texts.items():
         text = without_roff(text)
         for word in re.findall(r"(?:^|`)make ([a-z][\w-]*)`?", text, re.M):
-            results.expect(document, f"make has no target {word}", word in targets or word in {"certificate"})
+            results.expect(document, f"make has no target {word}", word in targets)
         if document in ("CONTRIBUTING.md", "docs/GATE.md", "docs/PERFORMANCE.md", "docs/DECISIONS.md"):
             text = FOREIGN.sub("", text)
         else:
             text = re.sub(r"\b(?:systemctl|git) [^`\n]*", "", text)
         for word in re.findall(r"(?<![\w-])--([a-z][\w-]*)", text):
-            results.expect(document, f"there is no option --{word}", word in options or word in scripts)
+            results.expect(document, f"there is no option --{word}", word in options)
 
 
 def check_faults(results, texts, crates):
