@@ -4,7 +4,7 @@
   build.py PROGRAM [ARGUMENT..]
 
 Nothing is built that is not proved, so a first build takes long: it says which crate it is at and about how many minutes are left, by
-the seconds that docs/ARCHITECTURE.md has for each crate, and by how fast this machine was so far. Crates that do not stand on one
+the seconds that docs/GATE.md has for each crate, and by how fast this machine was so far. Crates that do not stand on one
 another are proved side by side. What is proved is kept in crates/*/out, so that the next build takes only what has changed."""
 import os
 import subprocess

@@ -18,7 +18,7 @@ printed in one piece.
 Where the machine has two or three processors and at least 2.7 GB for each, it has as many checks run side by side: `rt ci` plans for more
 memory than a check needs, and would run one at a time.
 
-At the end it prints what each crate took that was proved or tried, as the table of docs/ARCHITECTURE.md. The last line is `N passed, M failed`
+At the end it prints what each crate took that was proved or tried, as the table of docs/GATE.md. The last line is `N passed, M failed`
 over all."""
 import concurrent.futures
 import os
@@ -112,7 +112,7 @@ def commands():
     runs += [("devices.py", trials), ("calls.py", trials)]
     runs += [("limits.py", PROGRAM), ("limits.py", plain)]
     runs += [(it, PROGRAM) for it in ("once.py", "packages.py", "lex_reference.py", "at_once.py", "streams.py", "outputs.py", "ci.py", "readme.py")]
-    runs += [("makefile.py",)]
+    runs += [("makefile.py",), ("documents.py",)]
     return [script(*it) for it in runs]
 
 
