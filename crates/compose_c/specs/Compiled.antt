@@ -1,0 +1,30 @@
+-- What a compiled table is: the arrays of the table that the sources give.
+use Rattle.std.specs.Prelude.{◌≡◌, ◌≤◌, ℕ, Bool, true, false, List, Ok}
+use Rattle.keysym_core.specs.Names.{KeysymNames}
+use Rattle.keysym_core.specs.Header.{names_of}
+use Rattle.compose_model.specs.Table.{Definition}
+use Rattle.compose_model.specs.declared.Rule.{Rule}
+use Rattle.compose_model.specs.declared.Rule.TheVariants.{Refuse, Longest}
+use Rattle.compose_bundle.specs.Bundle.{Bundle, IsBundle}
+use Rattle.compose_tree.specs.TableGives.{first_table}
+use Rattle.compose_c.specs.declared.compile.Sizes.{Sizes}
+
+abbrev pub rule_of : Bool → Rule
+rule_of true = Longest
+rule_of false = Refuse
+
+-- the table of the first source of this bundle, by the rule, with the names of this header
+pub record IsRead (header bundle : List ℕ) (rule : Rule) (table : List Definition) : Type 0 where
+  pub names : KeysymNames
+  pub sources : Bundle
+  pub named : names_of header ≡ Ok names
+  pub bundled : IsBundle bundle sources
+  pub is : first_table names sources.sources rule ≡ Ok table
+
+-- arrays of these lengths have room for a table of these sizes
+pub record Fits (s : Sizes) (nodes edges offsets texts hints : ℕ) : Type 0 where
+  pub all_nodes : s.nodes ≤ nodes
+  pub all_edges : s.edges ≤ edges
+  pub all_offsets : s.offsets ≤ offsets
+  pub all_texts : s.texts ≤ texts
+  pub all_hints : s.hints ≤ hints

@@ -1,0 +1,146 @@
+//! A table is read, and its arrays are put into the caller's memory.
+ghost use Rattle.std.specs.Prelude.{◌≡◌, ◌≢◌, ◌≤◌, true, false, length, take, MatchResult};
+ghost use Rattle.compose_tree.specs.Packed.{IsPacked, unpacked};
+ghost use Rattle.compose_c.specs.Compiled.{IsRead, Fits, rule_of};
+ghost use Rattle.compose_c.specs.Faults.{IsRefused, Tells};
+
+use crate::copies::put;
+use crate::fault::{Fault, Refusal, column_of, fault_of};
+use compose_bundle::read_bundle;
+use compose_model::Rule;
+use compose_tree::{LentArrays, PackedEdge, PackedNode, PackedTable, read_first_table};
+use keysym_core::Names;
+use std::alloc::Global;
+
+/// How many entries the arrays of a table have. What is reserved is 0.
+#[repr(C)]
+#[derive(Clone, Copy)]
+pub struct Sizes {
+    pub nodes: usize,
+    pub edges: usize,
+    pub offsets: usize,
+    pub texts: usize,
+    pub hints: usize,
+    pub reserved: [usize; 3],
+}
+
+pub fn rule(longest: bool) -> Rule
+    ensures { result ≡ rule_of longest }
+{
+    if longest { Rule::Longest } else { Rule::Refuse }
+}
+
+/// The table of the bundle's first source.
+fn read(alloc: Global, header: &[u8], bundle: &[u8], longest: bool) -> Result<PackedTable, Refusal>
+    ensures { MatchResult result (λ table. IsRead header.now bundle.now (rule_of longest) table)
+        (λ refusal. IsRefused header.now bundle.now (rule_of longest) refusal) }
+{
+    let names = Names::read(alloc, header)?;
+    let bundle = read_bundle(alloc, bundle)?;
+    match read_first_table(alloc, &names, &bundle.sources, rule(longest)) {
+        Ok(table) => Ok(table),
+        Err(fault) => {
+            let column = column_of(&bundle.sources, &fault);
+            Err(Refusal::Table(fault, column))
+        }
+    }
+}
+
+/// How many entries the arrays have. O(1).
+fn sizes_of(arrays: &LentArrays<'_>) -> Sizes
+    ensures nodes { result.nodes ≡ length arrays.now.nodes.now }
+    ensures edges { result.edges ≡ length arrays.now.edges.now }
+    ensures offsets { result.offsets ≡ length arrays.now.offsets.now }
+    ensures texts { result.texts ≡ length arrays.now.texts.now }
+    ensures hints { result.hints ≡ length arrays.now.hints.now }
+{
+    Sizes {
+        nodes: arrays.nodes.len(),
+        edges: arrays.edges.len(),
+        offsets: arrays.offsets.len(),
+        texts: arrays.texts.len(),
+        hints: arrays.hints.len(),
+        reserved: [0; 3],
+    }
+}
+
+/// Puts the arrays of the table into the caller's, and says how many entries count; or says that they don't fit, and changes nothing else.
+pub fn put_table(
+    table: &PackedTable,
+    nodes: &mut [PackedNode],
+    edges: &mut [PackedEdge],
+    offsets: &mut [u32],
+    texts: &mut [u8],
+    hints: &mut [u8],
+    sizes: &mut Sizes,
+) -> bool
+    ensures same { result ≡ true → unpacked (take sizes.new.nodes nodes.new)
+        (take sizes.new.edges edges.new) (take sizes.new.offsets offsets.new)
+        (take sizes.new.texts texts.new) ≡ table.now }
+    ensures packed { result ≡ true → IsPacked (take sizes.new.nodes nodes.new)
+        (take sizes.new.edges edges.new) (take sizes.new.offsets offsets.new)
+        (take sizes.new.texts texts.new) table.now }
+    ensures wide { result ≡ false → Fits sizes.new (length nodes.old) (length edges.old)
+        (length offsets.old) (length texts.old) (length hints.old) → ⊥ }
+{
+    let lent = table.lend();
+    let arrays = lent.arrays();
+    let needed = sizes_of(&arrays);
+    *sizes = needed;
+    if needed.nodes > nodes.len()
+        || needed.edges > edges.len()
+        || needed.offsets > offsets.len()
+        || needed.texts > texts.len()
+        || needed.hints > hints.len()
+    {
+        return false;
+    }
+    put(arrays.nodes, nodes);
+    put(arrays.edges, edges);
+    put(arrays.offsets, offsets);
+    put(arrays.texts, texts);
+    put(arrays.hints, hints);
+    true
+}
+
+/// As `composecheck_compile`.
+pub fn compile(
+    alloc: Global,
+    header: &[u8],
+    bundle: &[u8],
+    longest: bool,
+    nodes: &mut [PackedNode],
+    edges: &mut [PackedEdge],
+    offsets: &mut [u32],
+    texts: &mut [u8],
+    hints: &mut [u8],
+    sizes: &mut Sizes,
+    fault: &mut Fault,
+) -> u32
+    ensures read { result ≡ 0 → IsRead header.now bundle.now (rule_of longest)
+        (unpacked (take sizes.new.nodes nodes.new) (take sizes.new.edges edges.new)
+        (take sizes.new.offsets offsets.new) (take sizes.new.texts texts.new)) }
+    ensures packed { result ≡ 0 → IsPacked (take sizes.new.nodes nodes.new)
+        (take sizes.new.edges edges.new) (take sizes.new.offsets offsets.new)
+        (take sizes.new.texts texts.new)
+        (unpacked (take sizes.new.nodes nodes.new) (take sizes.new.edges edges.new)
+        (take sizes.new.offsets offsets.new) (take sizes.new.texts texts.new)) }
+    ensures refused { result ≡ 1 → Tells header.now bundle.now (rule_of longest) fault.new }
+    ensures wide { result ≡ 2 → Fits sizes.new (length nodes.old) (length edges.old)
+        (length offsets.old) (length texts.old) (length hints.old) → ⊥ }
+    ensures few { result ≤ 2 }
+    ensures same_fault { result ≢ 1 → fault.new ≡ fault.old }
+{
+    match read(alloc, header, bundle, longest) {
+        Ok(table) => {
+            if put_table(&table, nodes, edges, offsets, texts, hints, sizes) {
+                return 0;
+            }
+            2
+        }
+        Err(refusal) => {
+            *fault = fault_of(&refusal);
+            1
+        }
+    }
+}

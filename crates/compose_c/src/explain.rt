@@ -1,0 +1,82 @@
+//! The sentence that says why sources give no table.
+ghost use Rattle.std.specs.Prelude.{◌≡◌, IfOk, string_bytes};
+ghost use Rattle.compose_c.specs.Compiled.{rule_of};
+ghost use Rattle.compose_c.specs.Sentences as words;
+ghost use Rattle.compose_c.specs.Sentences.{IsSentence};
+
+use crate::compile::rule;
+use compose_bundle::{BundleFault, read_bundle};
+use compose_messages::{name_words, overlap_words, read_message};
+use compose_read::{SettleFault, Sources};
+use compose_tree::{BuildFault, PackedTable, TableFault, read_first_table};
+use keysym_core::Names;
+use std::alloc::{AllocError, Global};
+use std::fmt::Write;
+
+/// Why a bundle is none.
+fn bundle_words(fault: &BundleFault) -> &'static str
+    ensures { result.now ≡ words.bundle_said fault.now }
+{
+    match fault {
+        BundleFault::Form => "the bytes are no bundle of sources",
+        BundleFault::TooLarge => "the bundle is too large",
+        BundleFault::NoMemory => "out of memory",
+    }
+}
+
+/// Why the sources give no table.
+fn table_text(
+    alloc: Global,
+    names: &Names,
+    sources: &Sources,
+    fault: &TableFault,
+) -> Result<String, AllocError>
+    ensures { IfOk result
+        (λ text. string_bytes text ≡ words.table_said names.now sources.now fault.now) }
+{
+    match fault {
+        TableFault::Read(fault) => {
+            let message = read_message(sources, fault);
+            format!(in alloc; "{message}").map_err(|_| AllocError)
+        }
+        TableFault::Settle(SettleFault::Overlap { short, long }) => {
+            overlap_words(alloc, names, &short.0, &long.0)
+        }
+        TableFault::Build(BuildFault::TooManyNodes) => {
+            String::from_str(alloc, "the sequences have more than 1,048,576 nodes")
+        }
+        TableFault::Settle(SettleFault::NoMemory)
+        | TableFault::Build(BuildFault::NoMemory)
+        | TableFault::NoMemory => String::from_str(alloc, "out of memory"),
+    }
+}
+
+/// The sentence that says why the first source of the bundle gives no table, or nothing where it gives one.
+pub fn sentence(
+    alloc: Global,
+    header: &[u8],
+    payload: &[u8],
+    longest: bool,
+) -> Result<String, AllocError>
+    ensures { IfOk result
+        (λ text. IsSentence header.now payload.now (rule_of longest) (string_bytes text)) }
+{
+    let names = match Names::read(alloc, header) {
+        Ok(names) => names,
+        Err(fault) => return String::from_str(alloc, name_words(&fault).words),
+    };
+    let bundle = match read_bundle(alloc, payload) {
+        Ok(bundle) => bundle,
+        Err(fault) => return String::from_str(alloc, bundle_words(&fault)),
+    };
+    let table: Result<PackedTable, TableFault> = read_first_table(
+        alloc,
+        &names,
+        &bundle.sources,
+        rule(longest),
+    );
+    match table {
+        Ok(_) => Ok(String::new(alloc)),
+        Err(fault) => table_text(alloc, &names, &bundle.sources, &fault),
+    }
+}

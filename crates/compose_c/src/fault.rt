@@ -1,0 +1,297 @@
+//! Why a call refuses what it is given, as numbers for C.
+ghost use Rattle.std.specs.Prelude.{◌≡◌};
+ghost use Rattle.compose_c.specs.Faults as words;
+
+use compose_bundle::BundleFault;
+use compose_cert::{CertFault, RepertoireFault};
+use compose_fresh::CheckFault;
+use compose_lex::LexFault;
+use compose_messages::fault_position;
+use compose_read::{ReadFault, Sources};
+use compose_tree::TableFault;
+use keysym_core::{Keysym, NameFault};
+
+/// Why a call refuses what it is given. `part` is 1 for the names, 2 for the bundle, 3 for a source, 4 for two sequences of which one is a
+/// prefix of the other, 5 for too many nodes, 6 for memory, 7 for the repertoire, 8 for the certificate's text, 9 for a condition that the
+/// certificate does not meet; `code` is the number of the fault there, and `lexical` that of a faulty line. `source` is the index of a
+/// source; `line` and `column`, in characters, count from 1; `at` is the offset in the line's bytes of a lexical fault, or the index of an
+/// event, a pair or a node; `value` the keysym or the character of a condition. What a fault doesn't have is 0, and so is what is reserved.
+#[repr(C)]
+#[derive(Clone, Copy)]
+pub struct Fault {
+    pub part: u32,
+    pub code: u32,
+    pub lexical: u32,
+    pub value: u32,
+    pub source: u64,
+    pub line: u64,
+    pub column: u64,
+    pub at: u64,
+    pub reserved: [u64; 2],
+}
+
+/// Why a call refuses what it is given. Of a table the column of its fault, in characters.
+#[derive(Drop)]
+pub enum Refusal {
+    Names(NameFault),
+    Bundled(BundleFault),
+    Table(TableFault, usize),
+    Repertoire(RepertoireFault),
+    Certificate(CertFault),
+    Unmet(CheckFault),
+}
+
+impl From<NameFault> for Refusal {
+    ghost use Rattle.std.specs.Prelude.{◌≡◌};
+    ghost use Rattle.compose_c.specs.declared.fault.Refusal.TheVariants.{Names};
+
+    ghost from_gives = { λ fault e. e ≡ Names fault };
+
+    fn from(fault: NameFault) -> Refusal {
+        Refusal::Names(fault)
+    }
+}
+
+impl From<BundleFault> for Refusal {
+    ghost use Rattle.std.specs.Prelude.{◌≡◌};
+    ghost use Rattle.compose_c.specs.declared.fault.Refusal.TheVariants.{Bundled};
+
+    ghost from_gives = { λ fault e. e ≡ Bundled fault };
+
+    fn from(fault: BundleFault) -> Refusal {
+        Refusal::Bundled(fault)
+    }
+}
+
+impl From<RepertoireFault> for Refusal {
+    ghost use Rattle.std.specs.Prelude.{◌≡◌};
+    ghost use Rattle.compose_c.specs.declared.fault.Refusal.TheVariants.{Repertoire};
+
+    ghost from_gives = { λ fault e. e ≡ Repertoire fault };
+
+    fn from(fault: RepertoireFault) -> Refusal {
+        Refusal::Repertoire(fault)
+    }
+}
+
+impl From<CertFault> for Refusal {
+    ghost use Rattle.std.specs.Prelude.{◌≡◌};
+    ghost use Rattle.compose_c.specs.declared.fault.Refusal.TheVariants.{Certificate};
+
+    ghost from_gives = { λ fault e. e ≡ Certificate fault };
+
+    fn from(fault: CertFault) -> Refusal {
+        Refusal::Certificate(fault)
+    }
+}
+
+fn of_part(part: u32, code: u32) -> Fault
+    ensures { result ≡ words.of_part part code }
+{
+    Fault {
+        part,
+        code,
+        lexical: 0,
+        value: 0,
+        source: 0,
+        line: 0,
+        column: 0,
+        at: 0,
+        reserved: [0; 2],
+    }
+}
+
+fn of_file(part: u32, code: u32, line: usize) -> Fault
+    ensures { result ≡ words.of_file part code line }
+{
+    let mut fault = of_part(part, code);
+    fault.line = line as u64;
+    fault
+}
+
+fn of_line(code: u32, source: usize, line: usize, at: usize) -> Fault
+    ensures { result ≡ words.of_line code source line at }
+{
+    let mut fault = of_part(3, code);
+    fault.source = source as u64;
+    fault.line = line as u64;
+    fault.at = at as u64;
+    fault
+}
+
+fn of_condition(code: u32, at: usize, value: u32) -> Fault
+    ensures { result ≡ words.of_condition code at value }
+{
+    let mut fault = of_part(9, code);
+    fault.at = at as u64;
+    fault.value = value;
+    fault
+}
+
+fn of_names(fault: &NameFault) -> Fault
+    ensures { result ≡ words.of_names fault.now }
+{
+    match fault {
+        NameFault::NotUtf8 { line } => of_file(1, 1, *line),
+        NameFault::BadLine { line } => of_file(1, 2, *line),
+        NameFault::ValueTooLarge { line } => of_file(1, 3, *line),
+        NameFault::NameConflict { line } => of_file(1, 4, *line),
+        NameFault::TooManyNames => of_part(1, 5),
+        NameFault::NoMemory => of_part(6, 0),
+    }
+}
+
+fn of_bundle(fault: &BundleFault) -> Fault
+    ensures { result ≡ words.of_bundle fault.now }
+{
+    match fault {
+        BundleFault::Form => of_part(2, 1),
+        BundleFault::TooLarge => of_part(2, 2),
+        BundleFault::NoMemory => of_part(6, 0),
+    }
+}
+
+/// The number of a lexical fault, and its place.
+fn of_lexical(fault: &LexFault) -> (u32, usize)
+    ensures number { result.0 ≡ words.lexical_number fault.now }
+    ensures place { result.1 ≡ words.lexical_place fault.now }
+{
+    match fault {
+        LexFault::BadToken { at } => (1, *at),
+        LexFault::ModifierList { at } => (2, *at),
+        LexFault::UnclosedString { at } => (3, *at),
+        LexFault::UnknownEscape { at } => (4, *at),
+        LexFault::BadCode { at } => (5, *at),
+        LexFault::NoResult => (6, 0),
+        LexFault::TooManyKeysyms => (7, 0),
+        LexFault::EmptyText => (8, 0),
+        LexFault::TextTooLong => (9, 0),
+        LexFault::TextNotUtf8 => (10, 0),
+        LexFault::NoMemory => (11, 0),
+    }
+}
+
+fn of_reading(fault: &ReadFault) -> Fault
+    ensures { result ≡ words.of_reading fault.now }
+{
+    match fault {
+        ReadFault::MissingRoot => of_part(3, 1),
+        ReadFault::NotUtf8 { source, line } => of_line(2, *source, *line, 0),
+        ReadFault::Lex {
+            source,
+            line,
+            fault,
+        } => {
+            let (lexical, at) = of_lexical(fault);
+            let mut told = of_line(3, *source, *line, at);
+            told.lexical = lexical;
+            told
+        }
+        ReadFault::UnknownKeysym {
+            source,
+            line,
+            index,
+        } => of_line(4, *source, *line, *index),
+        ReadFault::IgnoredKeysym {
+            source,
+            line,
+            index,
+        } => of_line(5, *source, *line, *index),
+        ReadFault::MissingInclude { source, line } => of_line(6, *source, *line, 0),
+        ReadFault::IncludeDepth { source, line } => of_line(7, *source, *line, 0),
+        ReadFault::TooManyLines { source, line } => of_line(8, *source, *line, 0),
+        ReadFault::TooManyDefinitions { source, line } => of_line(9, *source, *line, 0),
+        ReadFault::NoMemory => of_part(6, 0),
+    }
+}
+
+fn of_table(fault: &TableFault) -> Fault
+    ensures { result ≡ words.of_table fault.now }
+{
+    match fault {
+        TableFault::Read(fault) => of_reading(fault),
+        TableFault::Settle(_) => of_part(4, 1),
+        TableFault::Build(_) => of_part(5, 1),
+        TableFault::NoMemory => of_part(6, 0),
+    }
+}
+
+fn of_repertoire(fault: &RepertoireFault) -> Fault
+    ensures { result ≡ words.of_repertoire fault.now }
+{
+    match fault {
+        RepertoireFault::BadLine { line } => of_file(7, 1, *line),
+        RepertoireFault::NotRising { line } => of_file(7, 2, *line),
+        RepertoireFault::TooMany => of_part(7, 3),
+        RepertoireFault::NoMemory => of_part(6, 0),
+    }
+}
+
+fn of_certificate(fault: &CertFault) -> Fault
+    ensures { result ≡ words.of_certificate fault.now }
+{
+    match fault {
+        CertFault::NotText { line } => of_file(8, 1, *line),
+        CertFault::TooLarge => of_part(8, 2),
+        CertFault::NoMemory => of_part(6, 0),
+    }
+}
+
+fn of_keysym(code: u32, at: usize, keysym: Keysym) -> Fault
+    ensures { result ≡ words.of_condition code at keysym }
+{
+    of_condition(code, at, keysym.value())
+}
+
+fn of_check(fault: &CheckFault) -> Fault
+    ensures { result ≡ words.of_check fault.now }
+{
+    match fault {
+        CheckFault::PairsNotRising => of_part(9, 1),
+        CheckFault::NodeOutOfRange => of_part(9, 2),
+        CheckFault::RootPairMissing => of_part(9, 3),
+        CheckFault::RestBroken => of_part(9, 4),
+        CheckFault::NewStart { keysym } => of_keysym(5, 0, *keysym),
+        CheckFault::Cancels { pair, keysym } => of_keysym(6, *pair, *keysym),
+        CheckFault::TextDiffers { pair, keysym } => of_keysym(7, *pair, *keysym),
+        CheckFault::PairMissing { pair, keysym } => of_keysym(8, *pair, *keysym),
+        CheckFault::BoundExceeded { node } => of_condition(9, *node as usize, 0),
+        CheckFault::TypingMissing { character } => of_condition(10, 0, u32::from(*character)),
+        CheckFault::TypingWrong { character } => of_condition(11, 0, u32::from(*character)),
+        CheckFault::TypingUnasked { character } => of_condition(12, 0, u32::from(*character)),
+        CheckFault::FreshNotRising => of_part(9, 13),
+        CheckFault::FreshIgnored { keysym } => of_keysym(14, 0, *keysym),
+        CheckFault::FreshUsed { keysym } => of_keysym(15, 0, *keysym),
+    }
+}
+
+/// The column in which the fault of these sources stands, in characters from 1; 0 where it stands in no line.
+pub fn column_of(sources: &Sources, fault: &TableFault) -> usize
+    ensures { result ≡ words.column_of sources.now fault.now }
+{
+    let TableFault::Read(fault) = fault else {
+        return 0;
+    };
+    match fault_position(sources, fault) {
+        Some((_, position)) => position.column,
+        None => 0,
+    }
+}
+
+/// The refusal as numbers.
+pub fn fault_of(refusal: &Refusal) -> Fault
+    ensures { result ≡ words.fault_of refusal.now }
+{
+    match refusal {
+        Refusal::Names(fault) => of_names(fault),
+        Refusal::Bundled(fault) => of_bundle(fault),
+        Refusal::Table(fault, column) => {
+            let mut told = of_table(fault);
+            told.column = *column as u64;
+            told
+        }
+        Refusal::Repertoire(fault) => of_repertoire(fault),
+        Refusal::Certificate(fault) => of_certificate(fault),
+        Refusal::Unmet(fault) => of_check(fault),
+    }
+}

@@ -1,0 +1,159 @@
+//! A certificate is checked, and a table is loaded only with a valid one.
+ghost use Rattle.std.specs.Prelude.{◌≡◌, ◌≢◌, ◌≤◌, true, false, length, take, MatchResult};
+ghost use Rattle.compose_tree.specs.Packed.{IsPacked, unpacked};
+ghost use Rattle.compose_c.specs.Compiled.{Fits, rule_of};
+ghost use Rattle.compose_c.specs.Loads.{IsCertified, IsUncertified, TellsUncertified, IsLoaded, IsNotLoaded, TellsNotLoaded, Meets, Misses};
+
+use crate::compile::{Sizes, put_table, rule};
+use crate::fault::{Fault, Refusal, column_of, fault_of};
+use compose_bundle::read_bundle;
+use compose_cert::{Certificate, Repertoire};
+use compose_check::{Verdict, check as check_tables};
+use compose_tree::{
+    ComposeTable, LentTable, PackedEdge, PackedNode, PackedTable, read_first_table,
+};
+use keysym_core::Names;
+use std::alloc::Global;
+
+/// Looks at the certificate for a move from the old table to the new one.
+fn meet<T: ComposeTable, U: ComposeTable>(
+    alloc: Global,
+    names: &Names,
+    old: &T,
+    new: &U,
+    repertoire: &[u8],
+    certificate: &[u8],
+) -> Result<(), Refusal>
+    ensures { MatchResult result
+        (λ _. Meets names.now (T.definitions old.now) (U.definitions new.now) repertoire.now
+        certificate.now)
+        (λ refusal. Misses names.now (T.definitions old.now) (U.definitions new.now) repertoire.now
+        certificate.now refusal) }
+{
+    let repertoire = Repertoire::read(alloc, repertoire)?;
+    let certificate = Certificate::read(alloc, certificate)?;
+    match check_tables(old, new, names, &repertoire, &certificate) {
+        Verdict::Yes => Ok(()),
+        Verdict::No(fault) => Err(Refusal::Unmet(fault)),
+    }
+}
+
+/// Reads the names, and looks at the certificate.
+fn certify<T: ComposeTable, U: ComposeTable>(
+    alloc: Global,
+    header: &[u8],
+    old: &T,
+    new: &U,
+    repertoire: &[u8],
+    certificate: &[u8],
+) -> Result<(), Refusal>
+    ensures { MatchResult result
+        (λ _. IsCertified header.now (T.definitions old.now) (U.definitions new.now) repertoire.now
+        certificate.now)
+        (λ refusal. IsUncertified header.now (T.definitions old.now) (U.definitions new.now)
+        repertoire.now certificate.now refusal) }
+{
+    let names = Names::read(alloc, header)?;
+    meet(alloc, &names, old, new, repertoire, certificate)
+}
+
+/// As `composecheck_check`, over tables.
+pub fn check<T: ComposeTable, U: ComposeTable>(
+    alloc: Global,
+    header: &[u8],
+    old: &T,
+    new: &U,
+    repertoire: &[u8],
+    certificate: &[u8],
+    fault: &mut Fault,
+) -> bool
+    ensures valid { result ≡ true → IsCertified header.now (T.definitions old.now)
+        (U.definitions new.now) repertoire.now certificate.now }
+    ensures refused { result ≡ false → TellsUncertified header.now (T.definitions old.now)
+        (U.definitions new.now) repertoire.now certificate.now fault.new }
+    ensures same_fault { result ≡ true → fault.new ≡ fault.old }
+{
+    match certify(alloc, header, old, new, repertoire, certificate) {
+        Ok(()) => true,
+        Err(refusal) => {
+            *fault = fault_of(&refusal);
+            false
+        }
+    }
+}
+
+/// The table of the bundle's first source, if its certificate is valid for a move from the old table.
+fn read<T: ComposeTable>(
+    alloc: Global,
+    header: &[u8],
+    old: &T,
+    repertoire: &[u8],
+    bundle: &[u8],
+    longest: bool,
+) -> Result<PackedTable, Refusal>
+    ensures { MatchResult result
+        (λ table. IsLoaded header.now (T.definitions old.now) repertoire.now bundle.now
+        (rule_of longest) table)
+        (λ refusal. IsNotLoaded header.now (T.definitions old.now) repertoire.now bundle.now
+        (rule_of longest) refusal) }
+{
+    let names = Names::read(alloc, header)?;
+    let bundle = read_bundle(alloc, bundle)?;
+    let table: PackedTable = match read_first_table(alloc, &names, &bundle.sources, rule(longest)) {
+        Ok(table) => table,
+        Err(fault) => {
+            let column = column_of(&bundle.sources, &fault);
+            return Err(Refusal::Table(fault, column));
+        }
+    };
+    match meet(alloc, &names, old, &table, repertoire, bundle.certificate) {
+        Ok(()) => Ok(table),
+        Err(refusal) => Err(refusal),
+    }
+}
+
+/// As `composecheck_load`, over the table in use.
+pub fn load<T: ComposeTable>(
+    alloc: Global,
+    header: &[u8],
+    old: &T,
+    repertoire: &[u8],
+    bundle: &[u8],
+    longest: bool,
+    nodes: &mut [PackedNode],
+    edges: &mut [PackedEdge],
+    offsets: &mut [u32],
+    texts: &mut [u8],
+    hints: &mut [u8],
+    sizes: &mut Sizes,
+    fault: &mut Fault,
+) -> u32
+    ensures loaded { result ≡ 0 → IsLoaded header.now (T.definitions old.now) repertoire.now
+        bundle.now (rule_of longest)
+        (unpacked (take sizes.new.nodes nodes.new) (take sizes.new.edges edges.new)
+        (take sizes.new.offsets offsets.new) (take sizes.new.texts texts.new)) }
+    ensures packed { result ≡ 0 → IsPacked (take sizes.new.nodes nodes.new)
+        (take sizes.new.edges edges.new) (take sizes.new.offsets offsets.new)
+        (take sizes.new.texts texts.new)
+        (unpacked (take sizes.new.nodes nodes.new) (take sizes.new.edges edges.new)
+        (take sizes.new.offsets offsets.new) (take sizes.new.texts texts.new)) }
+    ensures refused { result ≡ 1 → TellsNotLoaded header.now (T.definitions old.now)
+        repertoire.now bundle.now (rule_of longest) fault.new }
+    ensures wide { result ≡ 2 → Fits sizes.new (length nodes.old) (length edges.old)
+        (length offsets.old) (length texts.old) (length hints.old) → ⊥ }
+    ensures few { result ≤ 2 }
+    ensures same_fault { result ≢ 1 → fault.new ≡ fault.old }
+{
+    match read(alloc, header, old, repertoire, bundle, longest) {
+        Ok(table) => {
+            if put_table(&table, nodes, edges, offsets, texts, hints, sizes) {
+                return 0;
+            }
+            2
+        }
+        Err(refusal) => {
+            *fault = fault_of(&refusal);
+            1
+        }
+    }
+}
