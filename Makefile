@@ -12,6 +12,9 @@
 # make compose_trials proves and builds ./compose_trials, which `make real` and `make bench` need too
 # make real           runs the program on the tables that Debian ships
 # make bench          measures the program
+# make lib            proves and builds the C library (docs/LIBRARY.md) in build/lib
+# make install-lib    installs the C library alone, below PREFIX
+# make peers          runs libxkbcommon's own test of Compose, from Debian's source package, on the C library
 # make clean          removes what was built, proved and packed here
 PREFIX = /usr/local
 SOURCES = $(shell find crates -name out -prune -o '(' -name '*.rt' -o -name '*.antt' ')' -print) crates.txt
@@ -33,6 +36,21 @@ compose_trials: $(SOURCES)
 	python3 tests/build.py compose_trials bench names ../../share/composecheck/short-unicode-names.h
 	cp crates/compose_trials/out/compose_trials compose_trials
 
+LIBRARY = crates/compose_c/out/libcompose_c.a
+
+$(LIBRARY): $(SOURCES)
+	$(NEEDS_KIT)
+	python3 tests/build.py compose_c
+
+lib: $(LIBRARY)
+	python3 lib/build_library.py build/lib
+
+install-lib: $(LIBRARY)
+	python3 lib/install_library.py $(DESTDIR)$(PREFIX) $(PREFIX)
+
+peers: $(LIBRARY)
+	python3 tests/peers.py
+
 test:
 	$(NEEDS_KIT)
 	python3 tests/gate.py
@@ -45,7 +63,7 @@ test-whole:
 	$(NEEDS_KIT)
 	python3 tests/gate.py --whole
 
-install: composecheck
+install: composecheck install-lib
 	install -D composecheck $(DESTDIR)$(PREFIX)/bin/composecheck
 	install -D -m 644 docs/composecheck.1 $(DESTDIR)$(PREFIX)/share/man/man1/composecheck.1
 	install -D -m 644 docs/composecheck.5 $(DESTDIR)$(PREFIX)/share/man/man5/composecheck.5
@@ -63,6 +81,8 @@ uninstall:
 	rm -rf $(DESTDIR)$(PREFIX)/share/composecheck
 	rm -f $(DESTDIR)$(PREFIX)/bin/composecheck $(DESTDIR)$(PREFIX)/share/man/man1/composecheck.1 $(DESTDIR)$(PREFIX)/share/man/man5/composecheck.5
 	rm -f $(DESTDIR)$(PREFIX)/lib/systemd/user/composecheck.service $(DESTDIR)$(PREFIX)/lib/systemd/user/composecheck.socket
+	rm -f $(DESTDIR)$(PREFIX)/lib/libcomposecheck.a $(DESTDIR)$(PREFIX)/lib/libcomposecheck.so $(DESTDIR)$(PREFIX)/lib/libcomposecheck.so.1
+	rm -f $(DESTDIR)$(PREFIX)/lib/libcomposecheck-xkb.so $(DESTDIR)$(PREFIX)/lib/pkgconfig/composecheck.pc $(DESTDIR)$(PREFIX)/include/composecheck.h
 	rm -f $(DESTDIR)$(PREFIX)/share/bash-completion/completions/composecheck
 	rm -f $(DESTDIR)$(PREFIX)/share/zsh/site-functions/_composecheck $(DESTDIR)$(PREFIX)/share/fish/vendor_completions.d/composecheck.fish
 
@@ -76,10 +96,11 @@ HEADER = /usr/include/X11/keysymdef.h
 names:
 	python3 packaging/names.py $(HEADER) share/composecheck/short-unicode-names.h crates/builtin_names/src/lines.rt
 
-real: composecheck compose_trials
+real: composecheck compose_trials $(LIBRARY)
 	python3 tests/real.py ./composecheck ./compose_trials
 	python3 tests/real_service.py ./composecheck
 	python3 tests/streams.py ./composecheck 100000
+	python3 tests/library.py 100000
 
 bench: composecheck compose_trials
 	python3 bench/run.py ./composecheck ./compose_trials
@@ -87,6 +108,6 @@ bench: composecheck compose_trials
 	python3 bench/at_once.py ./composecheck
 
 clean:
-	rm -rf composecheck compose_trials packages crates/*/out
+	rm -rf composecheck compose_trials packages build crates/*/out
 
-.PHONY: all help test test-anew test-whole install uninstall dist deb test-packages names real bench clean
+.PHONY: all help lib install-lib peers test test-anew test-whole install uninstall dist deb test-packages names real bench clean

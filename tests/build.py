@@ -1,7 +1,9 @@
 #!/usr/bin/env python3
-"""Proves a program and each library that it stands on, as far as they are not proved yet, builds the program and runs it once.
+"""Proves a program and each library that it stands on, as far as they are not proved yet, builds the program and runs it once; or builds a static
+library.
 
   build.py PROGRAM [ARGUMENT..]
+  build.py compose_c
 
 Nothing is built that is not proved, so a first build takes long: it says which crate it is at and about how many minutes are left, by
 the seconds that docs/GATE.md has for each crate, and by how fast this machine was so far. Crates that do not stand on one
@@ -89,7 +91,7 @@ def main():
         os.close(it)
     build.say(program)
     with tempfile.TemporaryFile("w+", errors="replace") as said:
-        command = ["rt", "run", "--jobs", str(rt.processors()), "--", *arguments]
+        command = ["rt", "lib" if program.is_static else "run", "--jobs", str(rt.processors()), *([] if program.is_static else ["--", *arguments])]
         status = subprocess.run(command, cwd=program.folder, stderr=said).returncode
         if status:
             said.seek(0)

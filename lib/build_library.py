@@ -1,0 +1,72 @@
+#!/usr/bin/env python3
+"""Builds the C library from the proved static library and the C over it.
+
+  build_library.py FOLDER             builds into the folder: libcomposecheck.a, libcomposecheck.so.1 with its links, libcomposecheck-xkb.so
+  build_library.py FOLDER FLAG..      with these flags of the compiler besides, as -fsanitize=address,undefined
+
+The proved static library has to be there (`make lib` proves and builds it first). The compiler is $CC, or cc, or clang: the kit's clang has no C headers."""
+import os
+import shutil
+import subprocess
+import sys
+
+LIB = os.path.dirname(os.path.abspath(__file__))
+TOP = os.path.dirname(LIB)
+PROVED = f"{TOP}/crates/compose_c/out/libcompose_c.a"
+WARNINGS = ["-std=c99", "-Wall", "-Wextra", "-Wpedantic", "-Werror"]
+
+
+def kit():
+    """Returns the folder of the kit that `rt` on PATH belongs to."""
+    rt = shutil.which("rt") or sys.exit("lib/build_library.py: there is no rt on PATH")
+    return os.path.dirname(os.path.dirname(os.path.realpath(rt)))
+
+
+def compiler():
+    return os.environ.get("CC") or shutil.which("cc") or "clang"
+
+
+def run(*command, **options):
+    subprocess.run(command, check=True, **options)
+
+
+def compiled(folder, flags):
+    """Compiles the C code, and returns the object files: those of the library, and that of the shim."""
+    run(sys.executable, f"{LIB}/names.py", f"{TOP}/crates/builtin_names/src/lines.rt", f"{folder}/names.c")
+    objects = []
+    for source in (f"{LIB}/table.c", f"{folder}/names.c", f"{LIB}/xkb_shim.c"):
+        target = f"{folder}/{os.path.basename(source)[:-2]}.o"
+        run(compiler(), "-O2", "-fPIC", *WARNINGS, *flags, f"-I{LIB}", "-c", source, "-o", target)
+        objects.append(target)
+    return objects[:2], objects[2]
+
+
+def archive(folder, objects):
+    """Makes the static library: the proved code, the kit's calls of malloc and free, and the C over it."""
+    parts = "".join(f"addlib {it}\n" for it in (PROVED, f"{kit()}/c/liblibc_c.a")) + "".join(f"addmod {it}\n" for it in objects)
+    target = f"{folder}/libcomposecheck.a"
+    run("ar", "-M", input=f"create {target}\n{parts}save\nend\n", text=True)
+    return target
+
+
+def shared(folder, name, script, words, flags):
+    run(compiler(), "-shared", *flags, f"-Wl,-soname,{name}", f"-Wl,--version-script,{LIB}/{script}", *words, "-Wl,-z,defs", "-o", f"{folder}/{name}")
+
+
+def build(folder, flags=()):
+    os.makedirs(folder, exist_ok=True)
+    if not os.path.exists(PROVED):
+        sys.exit(f"lib/build_library.py: {PROVED} isn't there: `make lib` builds it")
+    objects, shim = compiled(folder, flags)
+    library = archive(folder, objects)
+    if flags:
+        return
+    shared(folder, "libcomposecheck.so.1", "composecheck.map", ["-Wl,--whole-archive", library, "-Wl,--no-whole-archive"], flags)
+    shared(folder, "libcomposecheck-xkb.so", "xkb_shim.map", [shim, library], flags)
+    link = f"{folder}/libcomposecheck.so"
+    if not os.path.lexists(link):
+        os.symlink("libcomposecheck.so.1", link)
+
+
+if __name__ == "__main__":
+    build(sys.argv[1], sys.argv[2:])

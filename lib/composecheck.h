@@ -1,0 +1,214 @@
+/* composecheck: proved Compose tables and compose states for C programs. docs/LIBRARY.md begins with an example.
+ *
+ * A table is five arrays in the caller's memory, which composecheck_compile fills and nothing changes after; a state is a struct of
+ * numbers in the caller's memory, and zeros are a state at rest. The library keeps nothing between two calls: what it allocates it
+ * frees before it returns. The one exception is composecheck_table_new and composecheck_table_load, which give back a block of malloc
+ * that composecheck_table_free frees.
+ *
+ * The functions of the first part are proved: their contracts stand in crates/compose_c/src/lib.rt, and docs/LIBRARY.md says them in
+ * words. Those of the second part are C over them, and tested.
+ *
+ * Premises of every function, which nothing checks:
+ *   - a pointer is not null, also where a count is 0, and points to as many entries as the count behind it says, aligned as their type;
+ *     only where a comment says so it may be null;
+ *   - memory that a call writes overlaps no other memory that the call is given, and no other thread reads or writes it meanwhile;
+ *   - memory that a call only reads is not written meanwhile;
+ *   - malloc, realloc and free belong together, and align as C says;
+ *   - a function marked MALLOC is not called in a signal handler, nor in the forked child of a process with threads.
+ * What a call says of arrays being a table is its own premise, and composecheck_is_table tests it.
+ *
+ * What stays (ABI 1): the names, their parameters and what they mean; the sizes of the structs, whose reserved members are 0 and may get
+ * a meaning; the numbers of faults. New functions may come. What the entries of a table hold is the library's own: a later release may
+ * write and take others, and then composecheck_is_table refuses these. The symbols have the version COMPOSECHECK_1, and the name of the
+ * shared library is libcomposecheck.so.1. */
+#ifndef COMPOSECHECK_H
+#define COMPOSECHECK_H
+#include <stdbool.h>
+#include <stddef.h>
+#include <stdint.h>
+#ifdef __cplusplus
+extern "C" {
+#endif
+
+#define COMPOSECHECK_ABI 1
+
+/* The greatest keysym, the most pending keysyms, and the most bytes of a text. */
+#define COMPOSECHECK_GREATEST_KEYSYM 0x1fffffff
+#define COMPOSECHECK_MOST_PENDING 31
+#define COMPOSECHECK_MOST_TEXT 255
+
+/* Entries of a table. What they hold is the library's own. */
+struct composecheck_node { uint32_t depth, first; };
+struct composecheck_edge { uint32_t keysym, target; };
+
+/* How many entries the arrays of a table have. */
+struct composecheck_sizes { size_t nodes, edges, offsets, texts, hints, reserved[3]; };
+
+/* A state. Zeros are at rest, and any numbers are a state: where count is above 31, or one of so many pending numbers above 0x1fffffff,
+ * nothing is pending; a status above 3 is nothing; any hints serve. It may be copied and kept. */
+struct composecheck_state { uint32_t pending[31], hints[31], count, status; uint32_t reserved[4]; };
+
+/* The numbers of a status, those of enum xkb_compose_status. */
+enum composecheck_status { COMPOSECHECK_NOTHING, COMPOSECHECK_COMPOSING, COMPOSECHECK_COMPOSED, COMPOSECHECK_CANCELLED };
+
+/* What composecheck_feed answers; the first two are those of enum xkb_compose_feed_result. */
+enum composecheck_fed { COMPOSECHECK_IGNORED, COMPOSECHECK_ACCEPTED, COMPOSECHECK_NO_KEYSYM };
+
+/* What composecheck_compile and composecheck_load answer. */
+enum composecheck_done { COMPOSECHECK_DONE, COMPOSECHECK_REFUSED, COMPOSECHECK_TOO_SMALL };
+
+/* The part that is refused. */
+enum composecheck_part {
+    COMPOSECHECK_NAMES = 1, COMPOSECHECK_BUNDLE, COMPOSECHECK_SOURCE, COMPOSECHECK_OVERLAP, COMPOSECHECK_NODES, COMPOSECHECK_MEMORY,
+    COMPOSECHECK_REPERTOIRE, COMPOSECHECK_CERTIFICATE, COMPOSECHECK_CONDITION
+};
+
+/* Why a call refuses what it is given; docs/LIBRARY.md lists the codes. Sources count from 0, lines and columns (in characters) from 1;
+ * at is an offset in bytes or the index of an event, a pair or a node; value a keysym or a character. What a fault doesn't have is 0. */
+struct composecheck_fault { uint32_t part, code, lexical, value; uint64_t source, line, column, at, reserved[2]; };
+
+/* ---- proved */
+
+/* Reads a table and fills its arrays. header: names, lines as of keysymdef.h. bundle: the number of sources (2 bytes, 1 to 64); each as
+ * the length of its name (2 bytes), the name, the length of its content (4 bytes) and the content; the length of a certificate (4 bytes)
+ * and the certificate. Numbers are big-endian, the names UTF-8 and distinct, and the first source is the root. longest: of two sequences of which
+ * one is a prefix of the other the longer one counts, as in libxkbcommon; else such a table is refused.
+ * DONE: sizes says how many entries count, and the arrays are a table. REFUSED: fault says why. TOO_SMALL: sizes says what is needed. Where it
+ * isn't REFUSED, fault stays as it was. MALLOC */
+uint32_t composecheck_compile(const uint8_t *header, size_t header_length, const uint8_t *bundle, size_t bundle_length, bool longest,
+                              struct composecheck_node *nodes, size_t node_room, struct composecheck_edge *edges, size_t edge_room,
+                              uint32_t *offsets, size_t offset_room, uint8_t *texts, size_t text_room, uint8_t *hints, size_t hint_room,
+                              struct composecheck_sizes *sizes, struct composecheck_fault *fault);
+
+/* The sentence that says why composecheck_compile refuses these sources, or no bytes where it doesn't: UTF-8, of *length bytes, without an
+ * end mark. 0 done, 1 no room (*length says what is needed), 2 no memory. MALLOC */
+uint32_t composecheck_explain(const uint8_t *header, size_t header_length, const uint8_t *bundle, size_t bundle_length, bool longest,
+                              uint8_t *text, size_t text_room, size_t *length);
+
+/* Feeds a keysym: ACCEPTED, IGNORED, or NO_KEYSYM above 0x1fffffff, where the state stays as it was. text gets the *text_length bytes that a
+ * sequence commits which the key completes, without an end mark; a key that is part of no sequence commits none here.
+ * Premise: the arrays are a table. */
+uint32_t composecheck_feed(const struct composecheck_node *nodes, size_t node_count, const struct composecheck_edge *edges, size_t edge_count,
+                           const uint32_t *offsets, size_t offset_count, const uint8_t *texts, size_t text_count,
+                           const uint8_t *hints, size_t hint_count, struct composecheck_state *state, uint32_t keysym,
+                           uint8_t text[COMPOSECHECK_MOST_TEXT], uint32_t *text_length);
+
+/* Takes the state over to another table, also in the middle of a sequence: what is pending is typed anew there, and nothing is committed.
+ * Premise: the arrays are a table. */
+void composecheck_refeed(const struct composecheck_node *nodes, size_t node_count, const struct composecheck_edge *edges, size_t edge_count,
+                         const uint32_t *offsets, size_t offset_count, const uint8_t *texts, size_t text_count,
+                         const uint8_t *hints, size_t hint_count, struct composecheck_state *state);
+
+void composecheck_reset(struct composecheck_state *state);
+
+/* A number of enum composecheck_status. */
+uint32_t composecheck_status(const struct composecheck_state *state);
+
+/* Puts the pending keysyms at the front, and gives their count. What stands behind them is not said. */
+uint32_t composecheck_pending(const struct composecheck_state *state, uint32_t keysyms[COMPOSECHECK_MOST_PENDING]);
+
+/* The keysym at this index among those that may follow what is pending, in rising order, and what feeding it would do: the status, and the
+ * text that it would commit. False where index is not below their number; what it would have written is not said then.
+ * Premise: the arrays are a table. */
+bool composecheck_following(const struct composecheck_node *nodes, size_t node_count, const struct composecheck_edge *edges, size_t edge_count,
+                            const uint32_t *offsets, size_t offset_count, const uint8_t *texts, size_t text_count,
+                            const uint8_t *hints, size_t hint_count, const struct composecheck_state *state, uint32_t index,
+                            uint32_t *keysym, uint32_t *status, uint8_t text[COMPOSECHECK_MOST_TEXT], uint32_t *text_length);
+
+/* Whether the certificate is valid for a move from the old table to the new one, with these names and this repertoire, as the command
+ * `composecheck check` says. False: fault says why; else it stays as it was. Premise: both arrays are tables. MALLOC */
+bool composecheck_check(const uint8_t *header, size_t header_length,
+                        const struct composecheck_node *old_nodes, size_t old_node_count, const struct composecheck_edge *old_edges,
+                        size_t old_edge_count, const uint32_t *old_offsets, size_t old_offset_count, const uint8_t *old_texts,
+                        size_t old_text_count, const uint8_t *old_hints, size_t old_hint_count,
+                        const struct composecheck_node *new_nodes, size_t new_node_count, const struct composecheck_edge *new_edges,
+                        size_t new_edge_count, const uint32_t *new_offsets, size_t new_offset_count, const uint8_t *new_texts,
+                        size_t new_text_count, const uint8_t *new_hints, size_t new_hint_count,
+                        const uint8_t *repertoire, size_t repertoire_length, const uint8_t *certificate, size_t certificate_length,
+                        struct composecheck_fault *fault);
+
+/* As composecheck_compile, but REFUSED too where the bundle's certificate is not valid for a move from the table in use.
+ * Premise: the old arrays are a table. MALLOC */
+uint32_t composecheck_load(const uint8_t *header, size_t header_length,
+                           const struct composecheck_node *old_nodes, size_t old_node_count, const struct composecheck_edge *old_edges,
+                           size_t old_edge_count, const uint32_t *old_offsets, size_t old_offset_count, const uint8_t *old_texts,
+                           size_t old_text_count, const uint8_t *old_hints, size_t old_hint_count,
+                           const uint8_t *repertoire, size_t repertoire_length, const uint8_t *bundle, size_t bundle_length, bool longest,
+                           struct composecheck_node *nodes, size_t node_room, struct composecheck_edge *edges, size_t edge_room,
+                           uint32_t *offsets, size_t offset_room, uint8_t *texts, size_t text_room, uint8_t *hints, size_t hint_room,
+                           struct composecheck_sizes *sizes, struct composecheck_fault *fault);
+
+/* Whether arrays of any numbers are a table: 1 they are, 0 they are not, 2 no memory. About as dear as compiling the table. MALLOC */
+uint32_t composecheck_is_table(const struct composecheck_node *nodes, size_t node_count, const struct composecheck_edge *edges, size_t edge_count,
+                               const uint32_t *offsets, size_t offset_count, const uint8_t *texts, size_t text_count);
+
+/* Whether a line of a source, without its newline, is an include: 0 it isn't, 1 it is, and name gets what stands between its quotes, *name_length
+ * bytes; 2 the name has no room, and *name_length says what is needed. */
+uint32_t composecheck_include(const uint8_t *line, size_t line_length, uint8_t *name, size_t name_room, size_t *name_length);
+
+/* ---- C over these: a table as one struct */
+
+/* A table: where its arrays are. Whoever has the arrays elsewhere, as in shared memory, fills it in, with zeros in what is reserved. */
+struct composecheck_table {
+    struct composecheck_sizes sizes;
+    const struct composecheck_node *nodes;
+    const struct composecheck_edge *edges;
+    const uint32_t *offsets;
+    const uint8_t *texts, *hints;
+    void *reserved[2];
+};
+
+/* A source: its name as the including line writes it between its quotes (the root's can be any), and its bytes. */
+struct composecheck_source { const char *name; const void *bytes; size_t length; };
+
+/* What a table is read from. The header may be null: the names that are built in; so may a certificate and a repertoire, where there are none. */
+struct composecheck_input {
+    const void *header;
+    size_t header_length;
+    const struct composecheck_source *sources;
+    size_t source_count;
+    const void *certificate;
+    size_t certificate_length;
+    const void *repertoire;
+    size_t repertoire_length;
+    bool longest;
+    void *reserved[4];
+};
+
+/* The table, in one block of malloc; null where it is refused, and fault says why (COMPOSECHECK_MEMORY: no memory). MALLOC */
+struct composecheck_table *composecheck_table_new(const struct composecheck_input *input, struct composecheck_fault *fault);
+
+/* The same, and refused too where the certificate is not valid for a move from the table in use. MALLOC */
+struct composecheck_table *composecheck_table_load(const struct composecheck_table *in_use, const struct composecheck_input *input,
+                                                   struct composecheck_fault *fault);
+
+/* Frees a table of composecheck_table_new or composecheck_table_load; null does nothing. */
+void composecheck_table_free(struct composecheck_table *table);
+
+/* The sentence of composecheck_explain, cut to the room, with an end mark; gives the whole length, as snprintf does. MALLOC */
+size_t composecheck_table_explain(const struct composecheck_input *input, char *text, size_t room);
+
+/* composecheck_check with the input's header, repertoire and certificate. MALLOC */
+bool composecheck_table_check(const struct composecheck_table *old_table, const struct composecheck_table *new_table,
+                              const struct composecheck_input *input, struct composecheck_fault *fault);
+
+/* composecheck_is_table. MALLOC */
+uint32_t composecheck_table_is_table(const struct composecheck_table *table);
+
+uint32_t composecheck_table_feed(const struct composecheck_table *table, struct composecheck_state *state, uint32_t keysym,
+                                 uint8_t text[COMPOSECHECK_MOST_TEXT], uint32_t *text_length);
+void composecheck_table_refeed(const struct composecheck_table *table, struct composecheck_state *state);
+bool composecheck_table_following(const struct composecheck_table *table, const struct composecheck_state *state, uint32_t index,
+                                  uint32_t *keysym, uint32_t *status, uint8_t text[COMPOSECHECK_MOST_TEXT], uint32_t *text_length);
+
+/* The next include of a source from *offset on, which goes on behind its line: its name with an end mark in name, false where there is none
+ * with a name that has room. *offset is 0 at first. */
+bool composecheck_next_include(const void *bytes, size_t length, size_t *offset, char *name, size_t room);
+
+/* The names that are built in, lines of a header. */
+const uint8_t *composecheck_builtin_names(size_t *length);
+
+#ifdef __cplusplus
+}
+#endif
+#endif

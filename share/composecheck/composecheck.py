@@ -1,0 +1,173 @@
+"""Proved Compose tables and compose states in Python, over libcomposecheck.so.1 by ctypes.
+
+    table = Table({"root": '<Multi_key> <apostrophe> <e> : "é"'})
+    state = State()
+    for keysym in (0xff20, 0x27, 0x65):
+        print(state.feed(table, keysym), state.status)     # the last line: é composed
+
+A table may be used by any number of threads and states at once, a state by one at a time. docs/LIBRARY.md says what each call does."""
+import ctypes
+import os
+
+ABI = 1
+STATUSES = ("nothing", "composing", "composed", "cancelled")
+PARTS = ("", "names", "bundle", "source", "overlap", "nodes", "memory", "repertoire", "certificate", "condition")
+MOST_TEXT, MOST_PENDING = 255, 31
+
+
+class _Sizes(ctypes.Structure):
+    _fields_ = [(it, ctypes.c_size_t) for it in ("nodes", "edges", "offsets", "texts", "hints")] + [("reserved", ctypes.c_size_t * 3)]
+
+
+class _State(ctypes.Structure):
+    _fields_ = [
+        ("pending", ctypes.c_uint32 * MOST_PENDING), ("hints", ctypes.c_uint32 * MOST_PENDING),
+        ("count", ctypes.c_uint32), ("status", ctypes.c_uint32), ("reserved", ctypes.c_uint32 * 4),
+    ]  # fmt: skip
+
+
+class _Table(ctypes.Structure):
+    _fields_ = [("sizes", _Sizes)] + [(it, ctypes.c_void_p) for it in ("nodes", "edges", "offsets", "texts", "hints")] + [("reserved", ctypes.c_void_p * 2)]
+
+
+class _Source(ctypes.Structure):
+    _fields_ = [("name", ctypes.c_char_p), ("bytes", ctypes.c_char_p), ("length", ctypes.c_size_t)]
+
+
+class _Input(ctypes.Structure):
+    _fields_ = [
+        ("header", ctypes.c_char_p), ("header_length", ctypes.c_size_t), ("sources", ctypes.POINTER(_Source)), ("source_count", ctypes.c_size_t),
+        ("certificate", ctypes.c_char_p), ("certificate_length", ctypes.c_size_t), ("repertoire", ctypes.c_char_p),
+        ("repertoire_length", ctypes.c_size_t), ("longest", ctypes.c_bool), ("reserved", ctypes.c_void_p * 4),
+    ]  # fmt: skip
+
+
+class Fault(ctypes.Structure):
+    """Why something is refused: a part, a code, and where. Lines and columns count from 1, sources from 0."""
+
+    _fields_ = [(it, ctypes.c_uint32) for it in ("part", "code", "lexical", "value")] + [
+        (it, ctypes.c_uint64) for it in ("source", "line", "column", "at")
+    ] + [("reserved", ctypes.c_uint64 * 2)]  # fmt: skip
+
+
+class Refused(Exception):
+    """A table, or a certificate, is refused."""
+
+    def __init__(self, fault, said):
+        super().__init__(said or f"{PARTS[fault.part]} {fault.code}")
+        self.fault = fault
+
+
+def _load(path):
+    library = ctypes.CDLL(path)
+    table, state, words = ctypes.POINTER(_Table), ctypes.POINTER(_State), ctypes.POINTER(ctypes.c_uint32)
+    text, given, fault = ctypes.c_char * MOST_TEXT, ctypes.POINTER(_Input), ctypes.POINTER(Fault)
+    for name, result, arguments in (
+        ("table_new", table, (given, fault)),
+        ("table_load", table, (table, given, fault)),
+        ("table_free", None, (table,)),
+        ("table_explain", ctypes.c_size_t, (given, ctypes.c_char_p, ctypes.c_size_t)),
+        ("table_check", ctypes.c_bool, (table, table, given, fault)),
+        ("table_is_table", ctypes.c_uint32, (table,)),
+        ("table_feed", ctypes.c_uint32, (table, state, ctypes.c_uint32, text, words)),
+        ("table_refeed", None, (table, state)),
+        ("table_following", ctypes.c_bool, (table, state, ctypes.c_uint32, words, words, text, words)),
+        ("reset", None, (state,)),
+        ("status", ctypes.c_uint32, (state,)),
+        ("pending", ctypes.c_uint32, (state, ctypes.c_uint32 * MOST_PENDING)),
+    ):
+        function = getattr(library, f"composecheck_{name}")
+        function.restype, function.argtypes = result, arguments
+    return library
+
+
+_library = _load(os.environ.get("COMPOSECHECK_LIBRARY", "libcomposecheck.so.1"))
+
+
+def _bytes(it):
+    return it.encode() if isinstance(it, str) else it
+
+
+def _input(sources, header, longest, certificate, repertoire):
+    rows = [(_bytes(name), _bytes(text)) for name, text in sources.items()]
+    array = (_Source * len(rows))(*(_Source(name, text, len(text)) for name, text in rows))
+    header, certificate, repertoire = _bytes(header), _bytes(certificate), _bytes(repertoire)
+    return _Input(
+        header, len(header or b""), array, len(rows), certificate, len(certificate or b""), repertoire, len(repertoire or b""), longest
+    )  # fmt: skip
+
+
+def _explain(given):
+    text = ctypes.create_string_buffer(1024)
+    _library.composecheck_table_explain(given, text, len(text))
+    return text.value.decode(errors="replace")
+
+
+class Table:
+    """A table, read from sources: a dict of names and contents, the root first. Refused says why there is none."""
+
+    def __init__(self, sources, header=None, longest=True, certificate=None, repertoire=None, in_use=None):
+        given, fault = _input(sources, header, longest, certificate, repertoire), Fault()
+        if in_use is None:
+            self._table = _library.composecheck_table_new(given, fault)
+        else:
+            self._table = _library.composecheck_table_load(in_use._table, given, fault)
+        if not self._table:
+            raise Refused(fault, _explain(given))
+
+    def __del__(self):
+        if getattr(self, "_table", None):
+            _library.composecheck_table_free(self._table)
+
+    def load(self, sources, certificate, repertoire, header=None, longest=True):
+        """Returns the table of these sources where the certificate is valid for a move to it from this one, or raises Refused."""
+        return Table(sources, header, longest, certificate, repertoire, self)
+
+    def check(self, new, certificate, repertoire, header=None):
+        """Raises Refused unless the certificate is valid for a move from this table to the new one."""
+        fault = Fault()
+        if not _library.composecheck_table_check(self._table, new._table, _input({}, header, True, certificate, repertoire), fault):
+            raise Refused(fault, "")
+
+    def is_table(self):
+        """Returns whether the arrays are a table still: 1, 0, or 2 where memory is wanting."""
+        return _library.composecheck_table_is_table(self._table)
+
+
+class State:
+    """What is pending, and a status."""
+
+    def __init__(self):
+        self._state = _State()
+
+    def feed(self, table, keysym):
+        """Feeds a keysym, and returns the text that a sequence commits which it completes; None where the keysym is ignored."""
+        text, length = ctypes.create_string_buffer(MOST_TEXT), ctypes.c_uint32()
+        fed = _library.composecheck_table_feed(table._table, self._state, keysym, text, length)
+        if fed == 2:
+            raise ValueError("no keysym")
+        return text.raw[: length.value].decode() if fed == 1 else None
+
+    def refeed(self, table):
+        """Goes over to another table, also in the middle of a sequence."""
+        _library.composecheck_table_refeed(table._table, self._state)
+
+    def reset(self):
+        _library.composecheck_reset(self._state)
+
+    @property
+    def status(self):
+        return STATUSES[_library.composecheck_status(self._state)]
+
+    @property
+    def pending(self):
+        keysyms = (ctypes.c_uint32 * MOST_PENDING)()
+        return list(keysyms[: _library.composecheck_pending(self._state, keysyms)])
+
+    def following(self, table):
+        """Yields each keysym that may follow, the status that it would give, and the text that it would commit."""
+        keysym, status, length, text = ctypes.c_uint32(), ctypes.c_uint32(), ctypes.c_uint32(), ctypes.create_string_buffer(MOST_TEXT)
+        index = 0
+        while _library.composecheck_table_following(table._table, self._state, index, keysym, status, text, length):
+            yield keysym.value, STATUSES[status.value], text.raw[: length.value].decode()
+            index += 1
