@@ -1,0 +1,307 @@
+#!/usr/bin/env python3
+"""library.py: tests the C library: builds it of the proved static library, runs its examples and what docs/LIBRARY.md pastes, types random keys
+on random tables beside a second reading of them, and, where libxkbcommon.so.0 is there, on a table of the system beside that; threads; states,
+arrays, rooms and lines of any numbers, the C of it compiled with -fsanitize=address,undefined.
+
+  library.py          20,000 keys on the table of en_US.UTF-8: for the gate; it takes seconds, once crates/compose_c is proved
+  library.py COUNT    so many keys on each table of the system in UTF-8: for `make real`
+
+The last line is `N passed, M failed`."""
+import ctypes
+import os
+import random
+import re
+import subprocess
+import sys
+import tempfile
+
+TOP = os.path.dirname(os.path.dirname(os.path.abspath(__file__)))
+sys.path[:0] = [f"{TOP}/tests", f"{TOP}/lib", f"{TOP}/share/composecheck"]
+import build_library
+import key_streams
+
+SEED = 22
+LOCALES = "/usr/share/X11/locale"
+KEYS = [0x61, 0x62, 0x63, 0xFF20, 0x1000300, 0x1FFFFFFF]
+IGNORED = [0xFE03, 0xFF7E, 0xFFE1]
+BLOCK = re.compile(r"^```(\w*)\n(.*?)^```$", re.M | re.S)
+CERTIFICATE = "compose-certificate 1\nbound 1\npairs 2\n0 0\n1 1\ntypings 0\n"
+
+
+class Results:
+    def __init__(self):
+        self.passed = self.failed = 0
+
+    def expect(self, holds, what):
+        self.passed += bool(holds)
+        self.failed += not holds
+        if not holds:
+            print(f"FAILED: {what}", flush=True)
+
+
+# ---- a second reading
+
+
+class Reading:
+    """A table as a dict from sequences to texts, of which the later ones and the longer ones count, and a state on it."""
+
+    def __init__(self, lines):
+        rows = dict(lines)
+        self.rows = {keys: text for keys, text in rows.items() if not any(is_prefix(keys, other) for other in rows)}
+
+    def fed(self, pending, status, key):
+        if key in IGNORED:
+            return pending, status, None
+        keys = (*pending, key)
+        if any(is_prefix(keys, other) for other in self.rows):
+            return keys, "composing", ""
+        if keys in self.rows:
+            return (), "composed", self.rows[keys]
+        return (), "cancelled" if pending else "nothing", ""
+
+    def loaded(self, pending, status):
+        after = ()
+        for key in pending:
+            after, _, _ = self.fed(after, "", key)
+        return after, "composing" if after else "nothing" if status == "composing" else status
+
+    def following(self, pending, status):
+        keys = sorted({keys[len(pending)] for keys in self.rows if is_prefix(pending, keys)})
+        return [(key, *self.fed(pending, status, key)[1:]) for key in keys]
+
+
+def is_prefix(keys, other):
+    return len(keys) < len(other) and other[: len(keys)] == keys
+
+
+def random_lines(chance):
+    return [
+        (tuple(chance.choice(KEYS) for _ in range(chance.randrange(1, 5))), "".join(chance.choice('xé"\\\n€😀') for _ in range(chance.randrange(1, 6))))
+        for _ in range(chance.randrange(12))
+    ]
+
+
+def written(lines):
+    def text_of(text):
+        return text.replace("\\", "\\\\").replace('"', '\\"').replace("\n", "\\n")
+
+    return "".join("".join(f"<{key:#x}> " for key in keys) + f': "{text_of(text)}"\n' for keys, text in lines)
+
+
+def random_keys(results, library):
+    """Types on random tables, of which now and then another one takes the place."""
+    chance, wrong = random.Random(SEED), 0
+    for _ in range(300):
+        lines = random_lines(chance)
+        table, reading = library.Table({"r": written(lines)}), Reading(lines)
+        state, pending, status = library.State(), (), "nothing"
+        wrong += table.is_table() != 1
+        for _ in range(100):
+            if chance.random() < 0.03:
+                lines = random_lines(chance)
+                table, reading = library.Table({"r": written(lines)}), Reading(lines)
+                state.refeed(table)
+                pending, status = reading.loaded(pending, status)
+            key = chance.choice(KEYS + IGNORED)
+            wrong += list(state.following(table)) != reading.following(pending, status)
+            text = state.feed(table, key)
+            pending, status, wanted = reading.fed(pending, status, key)
+            wrong += (text, state.status, tuple(state.pending)) != (wanted, status, pending)
+    results.expect(wrong == 0, f"random keys: {wrong} times something else than by a second reading")
+
+
+# ---- refusals and loads
+
+
+def refusal(call):
+    """Returns the fault with which the call is refused, and its sentence."""
+    try:
+        call()
+    except Exception as refused:
+        return refused.fault, str(refused)
+    return None, ""
+
+
+def refusals(results, library):
+    for text, wanted in {
+        '<a> : "x"\n  <nosuch> : "x"\n': ((3, 4, 0, 2, 3), 'no keysym has the name "nosuch"'),
+        '<a> : "x\n': ((3, 3, 3, 1, 7), "the string is not closed"),
+        '"é" <a>': ((3, 3, 1, 1, 1), None),
+        'include "other"\n': ((3, 6, 0, 1, 9), None),
+        '<Shift_L> : "x"\n': ((3, 5, 0, 1, 1), None),
+    }.items():
+        fault, said = refusal(lambda: library.Table({"r": text}))
+        got = fault and (fault.part, fault.code, fault.lexical, fault.line, fault.column)
+        results.expect(got == wanted[0] and wanted[1] in (None, said), f"the refusal of {text!r} is {got}, {said!r}")
+    overlap = '<a> : "x"\n<a> <b> : "y"\n'
+    fault, said = refusal(lambda: library.Table({"r": overlap}, longest=False))
+    results.expect(fault and fault.part == 4 and said == "the sequence <a> is a prefix of the sequence <a> <b>", f"an overlap: {said!r}")
+    fault, _ = refusal(lambda: library.Table({"r": overlap}, header="#define XK_x 0xffffffff\n"))
+    results.expect(fault and (fault.part, fault.code, fault.line) == (1, 3, 1), "the header's fault")
+    fault, _ = refusal(lambda: library.Table({}))
+    results.expect(fault and (fault.part, fault.code) == (2, 1), "no source at all")
+
+
+def loads(results, library):
+    old = library.Table({"r": '<a> <b> : "x"\n'})
+    good, bad = {"r": '<a> <b> : "x"\n<a> <c> : "y"\n'}, {"r": '<a> <b> : "z"\n'}
+    loaded = old.load(good, CERTIFICATE, "")
+    state = library.State()
+    state.feed(old, 0x61)
+    state.refeed(loaded)
+    results.expect(state.feed(loaded, 0x63) == "y", "a sequence that a load brought")
+    fault, _ = refusal(lambda: old.load(bad, CERTIFICATE, ""))
+    results.expect(fault and (fault.part, fault.code, fault.at, fault.value) == (9, 7, 1, 0x62), "a load that changes a text is refused")
+    fault, _ = refusal(lambda: old.load(good, CERTIFICATE[:-1], ""))
+    results.expect(fault and (fault.part, fault.code, fault.line) == (8, 1, 6), "a certificate that is cut is refused")
+    fault, _ = refusal(lambda: old.load(good, CERTIFICATE, "nothing"))
+    results.expect(fault and (fault.part, fault.code, fault.line) == (7, 1, 1), "a repertoire of another form is refused")
+    results.expect(refusal(lambda: old.check(loaded, CERTIFICATE, ""))[0] is None, "a valid certificate")
+    fault, _ = refusal(lambda: old.check(library.Table(bad), CERTIFICATE, ""))
+    results.expect(fault and fault.part == 9, "a certificate for another table")
+
+
+# ---- beside libxkbcommon
+
+
+def compose_calls(path):
+    """Returns the library at the path, by libxkbcommon's names, or None where it isn't there."""
+    try:
+        library = ctypes.CDLL(path)
+    except OSError:
+        return None
+    pointer, text = ctypes.c_void_p, ctypes.c_char_p
+    for name, result, arguments in (
+        ("table_new_from_file", pointer, (pointer, pointer, text, ctypes.c_int, ctypes.c_int)),
+        ("table_new_from_locale", pointer, (pointer, text, ctypes.c_int)),
+        ("table_unref", None, (pointer,)),
+        ("state_new", pointer, (pointer, ctypes.c_int)),
+        ("state_unref", None, (pointer,)),
+        ("state_reset", None, (pointer,)),
+        ("state_feed", ctypes.c_int, (pointer, ctypes.c_uint32)),
+        ("state_get_status", ctypes.c_int, (pointer,)),
+        ("state_get_utf8", ctypes.c_int, (pointer, text, ctypes.c_size_t)),
+    ):
+        function = getattr(library, f"xkb_compose_{name}")
+        function.restype, function.argtypes = result, arguments
+    return library
+
+
+class Typed:
+    """A state of one of the two libraries, over the table of a locale."""
+
+    def __init__(self, library, context, locale):
+        self.library, self.buffer = library, ctypes.create_string_buffer(256)
+        self.table = library.xkb_compose_table_new_from_locale(context, locale.encode(), 0)
+        self.state = self.table and library.xkb_compose_state_new(self.table, 0)
+
+    def feed(self, key):
+        fed = self.library.xkb_compose_state_feed(self.state, key)
+        length = self.library.xkb_compose_state_get_utf8(self.state, self.buffer, len(self.buffer))
+        return fed, self.library.xkb_compose_state_get_status(self.state), length, self.buffer.value
+
+    def end(self):
+        if self.state:
+            self.library.xkb_compose_state_unref(self.state)
+            self.library.xkb_compose_table_unref(self.table)
+
+
+def differences(mine, theirs, keys):
+    """How many of the keys are answered in another way; both are put at rest now and then."""
+    wrong = 0
+    for index, key in enumerate(keys):
+        wrong += mine.feed(key) != theirs.feed(key)
+        if index % 997 == 0:
+            for it in (mine, theirs):
+                it.library.xkb_compose_state_reset(it.state)
+    return wrong
+
+
+def beside(results, folder, count, locales):
+    """Types on the tables of these locales by the shim, beside libxkbcommon."""
+    theirs, mine = compose_calls("libxkbcommon.so.0"), compose_calls(f"{folder}/lib/libcomposecheck-xkb.so")
+    values = key_streams.header_values(f"{TOP}/crates/builtin_names/src/lines.rt")
+    os.environ.update(HOME="/nonexistent", XDG_CONFIG_HOME="/nonexistent")
+    for locale in locales:
+        path = f"{LOCALES}/{locale}/Compose"
+        if not theirs or not os.path.exists(path):
+            print(f"library.py: without libxkbcommon.so.0 or {path} nothing is compared on it")
+            continue
+        theirs.xkb_context_new.restype = ctypes.c_void_p
+        both = Typed(mine, None, locale), Typed(theirs, theirs.xkb_context_new(1), locale)
+        if not all(it.state for it in both):
+            results.expect(not both[0].state and not both[1].state, f"{locale}: a table by one of the two alone")
+        else:
+            keys = key_streams.sequences(path, values) or [[0x61]]
+            wrong = differences(*both, [*key_streams.stream(keys, count // 2, SEED), *key_streams.random_keys(keys, count // 2, SEED)])
+            results.expect(wrong == 0, f"{locale}: {wrong} of {count} keys are answered in another way than by libxkbcommon")
+        for it in both:
+            it.end()
+
+
+# ---- C
+
+
+def compiled(folder, source, *words):
+    target = os.path.join(folder, os.path.basename(source)[:-2])
+    command = [build_library.compiler(), *build_library.WARNINGS, f"-I{TOP}/lib", source, *words, "-o", target]
+    subprocess.run(command, check=True)
+    return target
+
+
+def c_programs(results, folder):
+    checked = ["-g", "-O1", "-fsanitize=address,undefined", "-fno-sanitize-recover=all"]
+    build_library.build(f"{folder}/checked", checked)
+    for name in ("hostile", "threads"):
+        program = compiled(folder, f"{TOP}/tests/library/{name}.c", *checked, f"{folder}/checked/libcomposecheck.a", "-lpthread")
+        ran = subprocess.run([program], stdout=subprocess.PIPE, stderr=subprocess.STDOUT, text=True, timeout=300)
+        results.expect(ran.returncode == 0, f"{name}: {ran.stdout}")
+
+
+def symbols(results, folder):
+    """The shared libraries show their own names alone."""
+    for name, prefix, count in (("libcomposecheck.so.1", "composecheck_", None), ("libcomposecheck-xkb.so", "xkb_compose_", 14)):
+        said = subprocess.run(["nm", "-D", "--defined-only", f"{folder}/{name}"], stdout=subprocess.PIPE, text=True, check=True).stdout
+        found = [it.split()[-1].split("@")[0] for it in said.splitlines() if " A " not in it]
+        results.expect(all(it.startswith(prefix) for it in found) and count in (None, len(found)), f"{name} shows {found}")
+
+
+def documents(results, folder):
+    """Pastes the blocks of docs/LIBRARY.md, in a folder with the installed library, and compares what is printed."""
+    with open(f"{TOP}/docs/LIBRARY.md", encoding="utf-8") as file:
+        blocks = BLOCK.findall(file.read())
+    env = {**os.environ, "LD_LIBRARY_PATH": f"{folder}/lib", "PKG_CONFIG_PATH": f"{folder}/lib/pkgconfig"}
+    with tempfile.TemporaryDirectory(prefix="library-") as room:
+        for name in ("lib", "share"):
+            os.symlink(f"{TOP}/{name}", f"{room}/{name}")
+        for (kind, pasted), after in zip(blocks, [*blocks[1:], ("", "")]):
+            if kind == "sh":
+                ran = subprocess.run(["bash", "-e"], cwd=room, input=pasted, env=env, stdout=subprocess.PIPE, stderr=subprocess.STDOUT, text=True, timeout=120)
+                wanted = after[1] if after[0] == "" else ""
+                results.expect(ran.returncode == 0 and ran.stdout == wanted, f"docs/LIBRARY.md:\n{pasted}printed\n{ran.stdout}")
+
+
+def main():
+    results = Results()
+    count, locales = 20_000, ["en_US.UTF-8"]
+    if len(sys.argv) > 1:
+        count, locales = int(sys.argv[1]), sorted(it for it in os.listdir(LOCALES) if it.endswith(".UTF-8"))
+    if not os.path.exists(build_library.PROVED):
+        subprocess.run(["rt", "lib"], cwd=f"{TOP}/crates/compose_c", check=True, stdout=subprocess.DEVNULL)
+    with tempfile.TemporaryDirectory(prefix="library-") as folder:
+        subprocess.run([sys.executable, f"{TOP}/lib/install_library.py", folder, folder], check=True)
+        os.environ["COMPOSECHECK_LIBRARY"] = f"{folder}/lib/libcomposecheck.so.1"
+        import composecheck as library
+
+        for test in (refusals, loads, random_keys):
+            test(results, library)
+        beside(results, folder, count, locales)
+        symbols(results, f"{folder}/lib")
+        documents(results, folder)
+        c_programs(results, folder)
+    print(f"{results.passed} passed, {results.failed} failed")
+    return 1 if results.failed else 0
+
+
+if __name__ == "__main__":
+    sys.exit(main())

@@ -1,0 +1,169 @@
+/* States of any numbers, arrays of any numbers, rooms of any size and lines of any bytes: nothing may be read or written outside, and what is said
+ * of each has to hold. Compiled with -fsanitize=address,undefined. */
+#include <composecheck.h>
+#include <stdio.h>
+#include <stdlib.h>
+#include <string.h>
+
+static const char table_text[] = "<Multi_key> <apostrophe> <e> : \"\xc3\xa9\"\n<Multi_key> <a> <b> <c> : \"abc\"\n<Multi_key> <a> <d> : \"\\\"\\\\\"\n<x> : \"y\"\n";
+static uint64_t seed = 1;
+static int failed;
+
+static uint32_t chance(void)
+{
+    seed = seed * 6364136223846793005u + 1442695040888963407u;
+    return (uint32_t) (seed >> 32);
+}
+
+static void expect(bool holds, const char *what)
+{
+    if (!holds && failed++ < 10)
+        printf("FAILED: %s\n", what);
+}
+
+/* A number that is often small. */
+static uint32_t number(void)
+{
+    uint32_t wide = chance();
+    return wide >> (chance() % 32);
+}
+
+/* A copy of some entries in a block of just their size. */
+static void *copied(const void *entries, size_t size)
+{
+    void *copy = malloc(size ? size : 1);
+    if (!copy)
+        abort();
+    memcpy(copy, entries, size);
+    return copy;
+}
+
+static void states(const struct composecheck_table *table, int rounds)
+{
+    for (int round = 0; round < rounds; round++) {
+        struct composecheck_state state, before;
+        uint32_t *words = (uint32_t *) &state, length = 999, keysym, status, index = number();
+        uint32_t pending[COMPOSECHECK_MOST_PENDING];
+        uint8_t text[COMPOSECHECK_MOST_TEXT];
+        for (size_t i = 0; i < sizeof state / sizeof *words; i++)
+            words[i] = number();
+        before = state;
+        uint32_t fed = composecheck_table_feed(table, &state, chance() % 3 ? number() : 0xff20, text, &length);
+        expect(fed <= 2 && length <= COMPOSECHECK_MOST_TEXT, "what a feed answers");
+        expect(fed != 2 || memcmp(&state, &before, sizeof state) == 0, "no keysym changes nothing");
+        expect(memcmp(state.reserved, before.reserved, sizeof state.reserved) == 0, "what is reserved stays");
+        expect(composecheck_status(&state) <= 3 && composecheck_pending(&state, pending) <= 31, "status and pending");
+        composecheck_table_following(table, &state, index, &keysym, &status, text, &length);
+        composecheck_table_refeed(table, &state);
+        expect((composecheck_pending(&state, pending) > 0) == (composecheck_status(&state) == COMPOSECHECK_COMPOSING), "composing where something is pending");
+        composecheck_reset(&state);
+        expect(composecheck_status(&state) == 0 && composecheck_pending(&state, pending) == 0, "at rest");
+    }
+}
+
+/* Changes one number of one array, or cuts an array, and tells whether the arrays differ from the table's then. */
+static bool damage(struct composecheck_table *t, const struct composecheck_table *table, uint32_t *numbers, size_t count)
+{
+    size_t *sizes[] = { &t->sizes.nodes, &t->sizes.edges, &t->sizes.offsets, &t->sizes.texts };
+    if (chance() % 4 == 0) {
+        size_t *size = sizes[chance() % 4];
+        *size -= *size && chance() % 2 ? 1 : *size;
+    } else {
+        numbers[chance() % count] = number();
+    }
+    return memcmp(&t->sizes, &table->sizes, sizeof t->sizes) != 0 || memcmp(t->nodes, table->nodes, table->sizes.nodes * sizeof *table->nodes) != 0
+           || memcmp(t->edges, table->edges, table->sizes.edges * sizeof *table->edges) != 0
+           || memcmp(t->offsets, table->offsets, table->sizes.offsets * sizeof *table->offsets) != 0
+           || memcmp(t->texts, table->texts, table->sizes.texts) != 0;
+}
+
+static void arrays(const struct composecheck_table *table)
+{
+    int tables = 0;
+    expect(composecheck_table_is_table(table) == 1, "what was compiled is a table");
+    for (int round = 0; round < 3000; round++) {
+        struct composecheck_table t = *table;
+        void *blocks[] = { copied(t.nodes, t.sizes.nodes * sizeof *t.nodes), copied(t.edges, t.sizes.edges * sizeof *t.edges),
+                           copied(t.offsets, t.sizes.offsets * sizeof *t.offsets), copied(t.texts, t.sizes.texts) };
+        size_t counts[] = { t.sizes.nodes * 2, t.sizes.edges * 2, t.sizes.offsets, t.sizes.texts / 4 }, which = chance() % 4;
+        t.nodes = blocks[0];
+        t.edges = blocks[1];
+        t.offsets = blocks[2];
+        t.texts = blocks[3];
+        bool differs = damage(&t, table, blocks[which], counts[which]);
+        uint32_t is = composecheck_table_is_table(&t);
+        expect(differs || is == 1, "the same arrays are a table");
+        tables += differs && is == 1;
+        if (is == 1)
+            states(&t, 100);
+        for (int i = 0; i < 4; i++)
+            free(blocks[i]);
+    }
+    printf("%d other tables among the damaged ones\n", tables);
+}
+
+static void rooms(const struct composecheck_input *input)
+{
+    size_t header, length;
+    const uint8_t *names = composecheck_builtin_names(&header);
+    uint8_t bundle[1024] = { 0, 1, 0, 1, 'r', 0, 0, 0, (uint8_t) (sizeof table_text - 1) };
+    memcpy(bundle + 9, table_text, sizeof table_text - 1);
+    length = 9 + sizeof table_text - 1 + 4;
+    struct composecheck_table *table = composecheck_table_new(input, &(struct composecheck_fault) { 0 });
+    for (int round = 0; round < 500 && table; round++) {
+        size_t room[5];
+        const size_t *needed = &table->sizes.nodes;
+        bool fits = true;
+        for (int i = 0; i < 5; i++) {
+            room[i] = needed[i] + chance() % 3 - 1;
+            fits = fits && room[i] >= needed[i];
+        }
+        struct composecheck_node *nodes = malloc(room[0] * sizeof *nodes);
+        struct composecheck_edge *edges = malloc(room[1] * sizeof *edges);
+        uint32_t *offsets = malloc(room[2] * sizeof *offsets);
+        uint8_t *texts = malloc(room[3]), *hints = malloc(room[4]);
+        struct composecheck_sizes sizes;
+        struct composecheck_fault fault = { .part = 77 };
+        uint32_t done = composecheck_compile(names, header, bundle, length, true, nodes, room[0], edges, room[1], offsets, room[2], texts, room[3], hints,
+                                             room[4], &sizes, &fault);
+        expect(done == (fits ? COMPOSECHECK_DONE : COMPOSECHECK_TOO_SMALL) && fault.part == 77, "rooms");
+        expect(memcmp(&sizes, &table->sizes, sizeof sizes) == 0, "what is needed");
+        free(nodes);
+        free(edges);
+        free(offsets);
+        free(texts);
+        free(hints);
+    }
+    composecheck_table_free(table);
+}
+
+static void lines(void)
+{
+    static const char good[] = " include \"%S/en\\\"x\" # more";
+    for (int round = 0; round < 20000; round++) {
+        size_t size = chance() % sizeof good, room = chance() % 12, length = 999;
+        uint8_t *line = copied(good, size), *name = malloc(room ? room : 1);
+        if (size)
+            line[chance() % size] ^= (uint8_t) (chance() % 8 ? 0 : chance());
+        uint32_t is = composecheck_include(line, size, name, room, &length);
+        expect(is <= 2 && (is != 1 || length <= room) && (is != 2 || length > room), "includes");
+        free(line);
+        free(name);
+    }
+}
+
+int main(void)
+{
+    struct composecheck_source source = { "root", table_text, sizeof table_text - 1 };
+    struct composecheck_input input = { .sources = &source, .source_count = 1, .longest = true };
+    struct composecheck_fault fault;
+    struct composecheck_table *table = composecheck_table_new(&input, &fault);
+    if (!table)
+        return 1;
+    states(table, 20000);
+    arrays(table);
+    rooms(&input);
+    lines();
+    composecheck_table_free(table);
+    return failed ? 1 : 0;
+}
