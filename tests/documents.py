@@ -21,11 +21,11 @@ MANUALS = ["docs/composecheck.1", "docs/composecheck.5"]
 # Documents whose numbers with a thousands' comma are limits of the program.
 WITH_LIMITS = ["docs/FORMATS.md", "docs/PROTOCOL.md", *MANUALS]
 # Options of other programs stand in commands that begin so.
-FOREIGN = re.compile(r"\b(?:rt|systemctl|dpkg-deb|taskset|valgrind|perf|python3|git|sed) [^`\n]*")
+FOREIGN = re.compile(r"\b(?:rt|systemctl|dpkg-deb|taskset|valgrind|perf|python3|git|sed|cc) [^`\n]*")
 FILE = re.compile(r"(?<![\w./$~%-])(?:[\w-]+/)*[\w-]+\.(?:py|sh|md|rt|antt|txt|service|socket|case|edit|c|h)\b(?!\()")
 # Files that are not of the repository, and names that stand for any.
-OTHER_FILES = {"SHORTER_PROOFS.md", "keysymdef.h", "XF86keysym.h", "report.md", "files.py"}
-FOLDERS = ["", "docs/", "share/composecheck/", "tests/", "bench/", "packaging/", "crates/*/"]
+OTHER_FILES = {"SHORTER_PROOFS.md", "keysymdef.h", "XF86keysym.h", "report.md", "files.py", "first.c", "stdio.h", "string.h"}
+FOLDERS = ["", "docs/", "share/composecheck/", "tests/", "bench/", "packaging/", "lib/", "crates/*/"]
 # Paths in which a word in capitals stands for any, and the file that the worked change of CONTRIBUTING doesn't need.
 PLACEHOLDER = re.compile(r"(?:^|/)(?:NAME|FILE|WHAT_IS_WRONG)\b|is_unsafe")
 CITATION = re.compile(r"\bet al\b|\barXiv\b|\bdoi\b|\bthis paper\b|\bthe paper\b|\bpapers\b|\bissue \d|(?<![\w&])#\d+\b|\bTheorem \d|\bSection \d|\[\d+\](?!\()", re.I)
@@ -60,7 +60,7 @@ class Crates:
     """The sources of the crates, as text."""
 
     def __init__(self):
-        self.names = re.findall(r"^(\w+):", read("crates.txt"), re.M)
+        self.names = re.findall(r"^(\w+)(?: staticlib)?:", read("crates.txt"), re.M)
         self.texts = {it: self.text_of(it, "src/**/*.rt", "specs/**/*.antt") for it in self.names}
         self.proofs = {it: self.text_of(it, "proofs/**/*.antt", "must-fail/*.edit") for it in self.names}
         self.words = {it: set(re.findall(r"[A-Za-z_][\w'-]*", text)) for it, text in self.texts.items()}
@@ -187,7 +187,7 @@ def check_commands(results, texts, crates):
         if document in ("CONTRIBUTING.md", "docs/GATE.md", "docs/PERFORMANCE.md", "docs/DECISIONS.md"):
             text = FOREIGN.sub("", text)
         else:
-            text = re.sub(r"\b(?:systemctl|git) [^`\n]*", "", text)
+            text = re.sub(r"\b(?:systemctl|git|cc) [^`\n]*", "", text)
         for word in re.findall(r"(?<![\w-])--([a-z][\w-]*)", text):
             results.expect(document, f"there is no option --{word}", word in options)
 
