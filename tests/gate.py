@@ -112,7 +112,7 @@ def commands():
     runs += [("devices.py", trials), ("calls.py", trials)]
     runs += [("limits.py", PROGRAM), ("limits.py", plain)]
     runs += [(it, PROGRAM) for it in ("once.py", "packages.py", "lex_reference.py", "at_once.py", "streams.py", "outputs.py", "ci.py", "readme.py")]
-    runs += [("makefile.py",), ("documents.py",)]
+    runs += [("makefile.py",), ("documents.py",), ("library.py",)]
     return [script(*it) for it in runs]
 
 

@@ -17,6 +17,12 @@ def is_refused(rt, kind):
     return kind in (rt.REFUSED, rt.AT_LIMIT) if hasattr(rt, "REFUSED") else kind
 
 
+def prove_static(rt, crate, flags):
+    """Proves a static library from nothing and builds it, out/libNAME.a, which `rt ci` proves alone. Returns the status."""
+    toolchain = ["--toolchain", f"{rt.KIT}/toolchain", "--backend", "llvm"]
+    return crate.prove(["build", *crate.words(flags, keeps=False), *toolchain, "-o", f"out/lib{crate.name}.a"])
+
+
 def ci(rt, is_anew, names):
     """Runs `rt ci`, of the named crates and those below them if any are named, and returns its status. Where a kit takes no names it does so on a copy."""
     if has_store(rt):

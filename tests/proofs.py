@@ -85,7 +85,7 @@ class Gate:
             return self.crate_ci(crate, flags, tests)
         if store.has_proofs(self.rt, crate):
             crate.cuts_libraries = False
-        prove = lambda: self.crate_ci(crate, flags, tests)
+        prove = lambda: kit.prove_static(self.rt, crate, flags) if crate.is_static else self.crate_ci(crate, flags, tests)
         return self.kept.pass_crate(crate, lambda: self.without_stamp(crate, prove())) if self.kept else prove()
 
     def without_stamp(self, crate, status):
@@ -108,7 +108,9 @@ class Gate:
             finally:
                 shutil.rmtree(kept_work, ignore_errors=True)
 
-        trial = edits.Trial(self.rt, crate, kept_work, f"{crate.folder}/out/edits", results=results, prepare=prepare)
+        # (of a static library nothing is built that has its proofs in it: they are made once more)
+        prepared = prepare if crate.makes_rlib() else None
+        trial = edits.Trial(self.rt, crate, kept_work, f"{crate.folder}/out/edits", results=results, prepare=prepared)
         tasks.update(trial.tasks(waits, measured.seconds_of(crate, "edits"), is_well, end))
         return trial
 
