@@ -2,3 +2,4 @@ pub mod Headers
 pub mod Texts
 pub mod Places
 pub mod Search
+pub mod Tables

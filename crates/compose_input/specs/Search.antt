@@ -1,9 +1,8 @@
 -- The files of a Compose file as it lies on a system, read of a folder (this project's profile).
 use Rattle.std.specs.Prelude.{◌≡◌, ℕ, not, ◌&&◌, if◌then◌else◌, List, [], ◌∷◌, map, Option, Ok, All, bytes_eq, codes}
-use Rattle.compose_read.specs.Lines.{Source}
 use Rattle.compose_folder.specs.Content.{Entry}
 use Rattle.compose_find.specs.Expand.{Words}
-use Rattle.compose_find.specs.Found.{TriedFile, FoundSource, found, held}
+use Rattle.compose_find.specs.Found.{TriedFile, found, held}
 use Rattle.compose_find.specs.declared.table.FoundTable.{FoundTable}
 use Rattle.compose_input.specs.Texts.{IsFound}
 

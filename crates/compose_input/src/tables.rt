@@ -1,11 +1,16 @@
 //! The files of a table.
+ghost use Rattle.std.specs.Prelude.{◌≡◌, map, unwrap_or, IfOk, OnOk, string_bytes};
+ghost use Rattle.compose_model.specs.declared.Rule.TheVariants.{Refuse};
+ghost use Rattle.compose_manifest.specs.Manifest.{Listing};
+ghost use Rattle.compose_input.specs.Tables.{IsManifest, AreEntries, IsEntryRead};
+
 use crate::fault::Fault;
 use crate::places::Places;
 use crate::search::find_files;
 use crate::texts::{read_named, read_text};
 use compose_find::{FoundSource, FoundTable, locale_tree};
 use compose_folder::{Folder, ReadOnce};
-use compose_manifest::{Manifest, ManifestFault, file_path, outside_text, read_manifest};
+use compose_manifest::{Entry, Manifest, ManifestFault, file_path, outside_text, read_manifest};
 use compose_migration::TableInput;
 use compose_model::Rule;
 use compose_read::{SourceFault, Sources};
@@ -31,14 +36,20 @@ impl TableFiles {
         alloc: Global,
         part: &'static str,
         path: &str,
-    ) -> Result<TableFiles, Fault> {
+    ) -> Result<TableFiles, Fault>
+        ensures kept { files.new.holds ≡ files.old.holds }
+        ensures listed { IfOk result
+            (λ table. (listing : Listing) × IsManifest files.old.holds path.now listing
+            × AreEntries files.old.holds listing path.now listing.entries
+            (map string_bytes table.paths.items) table.sources
+            × (table.rule ≡ unwrap_or listing.rule Refuse)) }
+    {
         let manifest = read_listing(files, alloc, path)?;
-        let paths = entry_paths(alloc, path, &manifest)?;
-        let sources = read_entries(files, alloc, part, path, &manifest, &paths)?;
+        let read = read_entries(files, alloc, part, path, &manifest)?;
         Ok(TableFiles {
             path: String::from_str(alloc, path)?,
-            paths,
-            sources,
+            paths: read.paths,
+            sources: read.sources,
             rule: manifest.rule(),
             note: String::new(alloc),
         })
@@ -118,7 +129,10 @@ fn read_listing<F: Folder>(
     files: &mut ReadOnce<F>,
     alloc: Global,
     path: &str,
-) -> Result<Manifest, Fault> {
+) -> Result<Manifest, Fault>
+    ensures kept { files.new.holds ≡ files.old.holds }
+    ensures read { IfOk result (λ manifest. IsManifest files.old.holds path.now manifest) }
+{
     let bytes = read_text(files, alloc, path)?;
     match read_manifest(alloc, &bytes) {
         Ok(manifest) => Ok(manifest),
@@ -131,13 +145,11 @@ fn read_listing<F: Folder>(
     }
 }
 
-/// The paths of the files that a manifest lists, which is at the path `at`.
-fn entry_paths(alloc: Global, at: &str, manifest: &Manifest) -> Result<Vec<String>, AllocError> {
-    let mut paths = Vec::new(alloc);
-    for entry in manifest.entries() {
-        paths.push(file_path(alloc, manifest, at, entry)?)?;
-    }
-    Ok(paths)
+/// The paths and the sources that were read of a manifest.
+#[derive(Drop)]
+struct ReadEntries {
+    paths: Vec<String>,
+    sources: Sources,
 }
 
 /// Reads the files of a manifest, which is at the path `at`.
@@ -147,19 +159,47 @@ fn read_entries<F: Folder>(
     part: &'static str,
     at: &str,
     manifest: &Manifest,
-    paths: &[String],
-) -> Result<Sources, Fault> {
-    let mut sources = Sources::new(alloc);
-    for (entry, path) in manifest.entries().iter().zip(paths) {
-        let bytes = read_named(files, alloc, path)?;
-        match sources.add(&entry.name, bytes) {
-            Ok(()) => {}
-            Err(SourceFault::NoMemory) => return Err(Fault::NoMemory),
-            Err(fault) => {
-                let path = String::from_str(alloc, at)?;
-                return Err(Fault::Source { part, path, fault });
-            }
+) -> Result<ReadEntries, Fault>
+    ensures kept { files.new.holds ≡ files.old.holds }
+    ensures read { IfOk result
+        (λ read. AreEntries files.old.holds manifest.now
+        at.now manifest.now.entries (map string_bytes read.paths.items) read.sources) }
+{
+    let mut read = ReadEntries {
+        paths: Vec::new(alloc),
+        sources: Sources::new(alloc),
+    };
+    for entry in manifest.entries() {
+        add_entry(files, alloc, part, at, manifest, entry, &mut read)?;
+    }
+    Ok(read)
+}
+
+/// Reads the file of an entry of a manifest, which is at the path `at`.
+fn add_entry<F: Folder>(
+    files: &mut ReadOnce<F>,
+    alloc: Global,
+    part: &'static str,
+    at: &str,
+    manifest: &Manifest,
+    entry: &Entry,
+    read: &mut ReadEntries,
+) -> Result<(), Fault>
+    ensures kept { files.new.holds ≡ files.old.holds }
+    ensures read { OnOk result
+        (IsEntryRead files.old.holds manifest.now
+        at.now entry.now (map string_bytes read.old.paths.items)
+        (map string_bytes read.new.paths.items) read.old.sources read.new.sources) }
+{
+    let path = file_path(alloc, manifest, at, entry)?;
+    let bytes = read_named(files, alloc, &path)?;
+    read.paths.push(path)?;
+    match read.sources.add(&entry.name, bytes) {
+        Ok(()) => Ok(()),
+        Err(SourceFault::NoMemory) => Err(Fault::NoMemory),
+        Err(fault) => {
+            let path = String::from_str(alloc, at)?;
+            Err(Fault::Source { part, path, fault })
         }
     }
-    Ok(sources)
 }
