@@ -1,0 +1,43 @@
+// What an input method does with a key: whether it takes it, which text it commits, and what it shows as pending. It is what
+// composecheck_keys.py is in Python, and knows nothing of fcitx5.
+#pragma once
+
+#include "typing.h"
+
+namespace composecheck {
+
+// What people may choose.
+struct Settings {
+    // Where a key cancels a sequence, its dead keys are typed as accents, and the key counts by itself; else both are lost.
+    bool keepAccents = true;
+    // In text fields a plain key is committed as a text, so that no text overtakes it; else the application gets the key.
+    bool commitPlain = true;
+};
+
+// Whether a key is done with, or the application gets it; and a text that is committed before.
+struct Answer {
+    bool isTaken;
+    std::string text;
+};
+
+// The character of a keysym, in UTF-8, or nothing.
+using CharacterOf = std::function<std::string(uint32_t)>;
+
+// The keys of a place where somebody types.
+class Keys {
+public:
+    explicit Keys(Service &service) : typing_(service) {}
+
+    // Answers a key that is pressed, and is no command. It takes no longer than the patience.
+    Answer press(uint32_t keysym, const Settings &settings, bool isTextField);
+    // The pending keys, as the person at the keyboard sees them.
+    std::string shown(const CharacterOf &characterOf) const;
+    bool isPending() const { return !typing_.pending().empty(); }
+    // Forgets the pending keys: the focus has left, or the application wants it.
+    void drop() { typing_.reset(); }
+
+private:
+    Typing typing_;
+};
+
+} // namespace composecheck

@@ -1,0 +1,89 @@
+"""A service to type with, in a folder of its own: its tables, its certificates, loads, restarts, and a stop."""
+import os
+import shutil
+import signal
+import subprocess
+import tempfile
+
+# `old` has a detour that `new` drops: dead_grave before dead_acute changes nothing.
+# The texts "ⓔ" and "ⓐ" are in no table of a toolkit.
+OLD = """<Multi_key> <apostrophe> <e> : "ⓔ"
+<Multi_key> <apostrophe> <minus> <o> : "ṓ"
+<dead_acute> <e> : "é"
+<dead_grave> <dead_acute> <e> : "é"
+<dead_grave> <a> : "à"
+"""
+NEW = OLD + """<Multi_key> <apostrophe> <a> : "ⓐ"
+<dead_acute> <a> : "á"
+"""
+REPERTOIRE = "keys 0x20 0x7e\nkeys 0xfe50 0xfe51\nkeys 0xff20 0xff20\nU+00E9\n"
+
+
+class TypingService:
+    """A service that types with one of the tables `old` and `new`, which is started again and loaded as a test wants it."""
+
+    def __init__(self, program):
+        self.program = os.path.realpath(program)
+        self.folder = tempfile.mkdtemp(prefix="typing-")
+        self.socket = self.path("composecheck.socket")
+        self.process = None
+
+    def __enter__(self):
+        self.write("repertoire", REPERTOIRE)
+        self.write_table("old", OLD)
+        self.write_table("new", NEW)
+        for old, new in (("old", "old"), ("old", "new"), ("new", "new")):
+            self.certify(old, new)
+        return self
+
+    def __exit__(self, *_):
+        self.end()
+        shutil.rmtree(self.folder)
+
+    def path(self, name):
+        return os.path.join(self.folder, name)
+
+    def write(self, name, content):
+        with open(self.path(name), "w", encoding="utf-8") as file:
+            file.write(content)
+
+    def write_table(self, name, content):
+        self.write(f"{name}.compose", content)
+        self.write(f"{name}.manifest", f"root\t{name}.compose\n")
+
+    def run(self, *words):
+        """What the program prints."""
+        return subprocess.run([self.program, *words], cwd=self.folder, check=True, capture_output=True, text=True, timeout=600).stdout
+
+    def certify(self, old, new):
+        """Makes the certificate old-new."""
+        self.run("make", "--names", "builtin", "-o", f"{old}-{new}", f"{old}.manifest", f"{new}.manifest", "repertoire")
+
+    def start(self, table):
+        """Starts the service on a table, in the place of the one that runs."""
+        self.end()
+        words = ["serve", "--names", "builtin", "--at-once", "16", "--replace", f"{table}.manifest", "repertoire", f"{table}-{table}", self.socket, "65535"]
+        self.process = subprocess.Popen([self.program, *words], cwd=self.folder, stdout=subprocess.PIPE, text=True)
+        if self.process.stdout.readline() != "listening\n":
+            raise ChildProcessError("the service doesn't start")
+
+    def end(self):
+        """Ends the service, if it runs."""
+        if self.process:
+            self.go_on()
+            self.process.terminate()
+            self.process.wait()
+            self.process.stdout.close()
+            self.process = None
+
+    def load(self, old, new):
+        """Loads the table `new` over `old`, and returns what is printed."""
+        return self.run("load", self.socket, f"{new}.manifest", f"{old}-{new}")
+
+    def stop(self):
+        """Has the service hang, until it goes on."""
+        self.process.send_signal(signal.SIGSTOP)
+
+    def go_on(self):
+        if self.process:
+            self.process.send_signal(signal.SIGCONT)
