@@ -1,0 +1,143 @@
+// An addon of fcitx5 that types by the Compose table of a running composecheck service, under every keyboard layout and before every input
+// method: so nobody has to choose it, and it is on as soon as it is installed.
+#include "keys.h"
+
+#include <cstdlib>
+#include <fcitx-config/configuration.h>
+#include <fcitx-config/iniparser.h>
+#include <fcitx-utils/key.h>
+#include <fcitx-utils/log.h>
+#include <fcitx-utils/textformatflags.h>
+#include <fcitx/addonfactory.h>
+#include <fcitx/addoninstance.h>
+#include <fcitx/addonmanager.h>
+#include <fcitx/event.h>
+#include <fcitx/inputcontext.h>
+#include <fcitx/inputcontextmanager.h>
+#include <fcitx/inputcontextproperty.h>
+#include <fcitx/inputpanel.h>
+#include <fcitx/instance.h>
+
+namespace {
+
+using composecheck::Keys;
+using composecheck::Service;
+using composecheck::Settings;
+
+FCITX_DEFINE_LOG_CATEGORY(composecheckLog, "composecheck");
+
+constexpr const char *ConfigurationFile = "conf/composecheck.conf";
+
+FCITX_CONFIGURATION(
+    Configuration,
+    fcitx::Option<bool> keepAccents{this, "KeepAccents", "Type the accents of a sequence that there is not", true};
+    fcitx::Option<bool> commitPlain{this, "CommitPlain", "Keep quick keys in order in text fields", true};);
+
+// The keys of an input context.
+class Place : public fcitx::InputContextProperty {
+public:
+    explicit Place(Service &service) : keys(service) {}
+    Keys keys;
+};
+
+std::string socketPath() {
+    const char *path = std::getenv("COMPOSECHECK_SOCKET");
+    if (path && *path) {
+        return path;
+    }
+    const char *folder = std::getenv("XDG_RUNTIME_DIR");
+    return std::string(folder ? folder : "/run") + "/composecheck.socket";
+}
+
+// Whether a plain key is nothing but its text here. (A game tells no text around the cursor.)
+bool isTextField(const fcitx::InputContext &context) {
+    auto flags = context.capabilityFlags();
+    return flags.test(fcitx::CapabilityFlag::SurroundingText) && !flags.test(fcitx::CapabilityFlag::Terminal);
+}
+
+class Composecheck : public fcitx::AddonInstance {
+public:
+    explicit Composecheck(fcitx::Instance *instance)
+        : service_(socketPath(), [](const std::string &what) { FCITX_LOGC(composecheckLog, Warn) << what; }),
+          places_([this](fcitx::InputContext &) { return new Place(service_); }) {
+        reloadConfig();
+        instance->inputContextManager().registerProperty("composecheckPlace", &places_);
+        watchers_.push_back(instance->watchEvent(fcitx::EventType::InputContextKeyEvent, fcitx::EventWatcherPhase::PreInputMethod, [this](fcitx::Event &event) {
+            press(static_cast<fcitx::KeyEvent &>(event));
+        }));
+        for (auto type : {fcitx::EventType::InputContextReset, fcitx::EventType::InputContextFocusOut, fcitx::EventType::InputContextSwitchInputMethod}) {
+            watchers_.push_back(instance->watchEvent(type, fcitx::EventWatcherPhase::PreInputMethod, [this](fcitx::Event &event) {
+                drop(*static_cast<fcitx::InputContextEvent &>(event).inputContext());
+            }));
+        }
+    }
+
+    void reloadConfig() override { fcitx::readAsIni(configuration_, ConfigurationFile); }
+    const fcitx::Configuration *getConfig() const override { return &configuration_; }
+    void setConfig(const fcitx::RawConfig &chosen) override {
+        configuration_.load(chosen, true);
+        fcitx::safeSaveAsIni(configuration_, ConfigurationFile);
+    }
+
+private:
+    void press(fcitx::KeyEvent &event) {
+        // With one of these held down a key is a command, and none of a sequence. (AltGr is Mod5.)
+        static const fcitx::KeyStates commands{fcitx::KeyState::Ctrl, fcitx::KeyState::Alt, fcitx::KeyState::Super, fcitx::KeyState::Hyper, fcitx::KeyState::Meta};
+        auto key = event.rawKey();
+        if (event.isRelease() || key.states().testAny(commands)) {
+            return;
+        }
+        auto &context = *event.inputContext();
+        auto &keys = context.propertyFor(&places_)->keys;
+        bool wasPending = keys.isPending();
+        auto answer = keys.press(key.sym(), Settings{*configuration_.keepAccents, *configuration_.commitPlain}, isTextField(context));
+        if (answer.isTaken) {
+            event.filterAndAccept();
+        }
+        if (wasPending || keys.isPending()) {
+            show(context, keys);
+        }
+        if (!answer.text.empty()) {
+            context.commitString(answer.text);
+        }
+    }
+
+    void drop(fcitx::InputContext &context) {
+        auto &keys = context.propertyFor(&places_)->keys;
+        if (keys.isPending()) {
+            keys.drop();
+            show(context, keys);
+        }
+    }
+
+    // Shows what is pending, underlined, where the next text will stand.
+    static void show(fcitx::InputContext &context, const Keys &keys) {
+        // (where the focus leaves, it is dropped: fcitx5 would commit it)
+        fcitx::Text text(keys.shown([](uint32_t keysym) { return fcitx::Key::keySymToUTF8(static_cast<fcitx::KeySym>(keysym)); }),
+                         {fcitx::TextFormatFlag::Underline, fcitx::TextFormatFlag::DontCommit});
+        text.setCursor(static_cast<int>(text.textLength()));
+        auto &panel = context.inputPanel();
+        panel.reset();
+        if (context.capabilityFlags().test(fcitx::CapabilityFlag::Preedit)) {
+            panel.setClientPreedit(text);
+        } else {
+            panel.setPreedit(text);
+        }
+        context.updatePreedit();
+        context.updateUserInterface(fcitx::UserInterfaceComponent::InputPanel);
+    }
+
+    Configuration configuration_;
+    Service service_;
+    fcitx::LambdaInputContextPropertyFactory<Place> places_;
+    std::vector<std::unique_ptr<fcitx::HandlerTableEntry<fcitx::EventHandler>>> watchers_;
+};
+
+class Factory : public fcitx::AddonFactory {
+public:
+    fcitx::AddonInstance *create(fcitx::AddonManager *manager) override { return new Composecheck(manager->instance()); }
+};
+
+} // namespace
+
+FCITX_ADDON_FACTORY(Factory)
