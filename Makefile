@@ -3,11 +3,14 @@
 # make test           the gate: proves what has changed since earlier runs on this machine, and runs all tests but `make real`
 # make test-anew      the gate from nothing
 # make test-whole     the gate with each must-fail edit in a check of its own, as the kit's `rt ci` tries them: for a release
-# make install        installs below PREFIX (/usr/local), in DESTDIR if that is set
+# make install        installs below PREFIX (/usr/local), in DESTDIR if that is set: the program, and the engine of IBus
+# make install-ibus   the engine of IBus alone
+# make install-fcitx5 builds the addon of fcitx5 and installs it, likewise
 # make uninstall      takes away what `make install` put there
 # make dist           packs the proved program for others into packages/, as an archive
-# make deb            the same, as a Debian package
-# make test-packages  looks at what both packages hold
+# make deb            the same, as a Debian package, and one each for the engine of IBus and the addon of fcitx5
+# make test-packages  looks at what the packages hold
+# make desk           types into windows through IBus and fcitx5, on displays that nobody sees (docs/TYPING.md)
 # make names          writes the built-in names anew from HEADER (/usr/include/X11/keysymdef.h), and prints what changed
 # make compose_trials proves and builds ./compose_trials, which `make real` and `make bench` need too
 # make real           runs the program on the tables that Debian ships
@@ -17,6 +20,7 @@
 # make peers          runs libxkbcommon's own test of Compose, from Debian's source package, on the C library
 # make clean          removes what was built, proved and packed here
 PREFIX = /usr/local
+PYTHON = python3
 SOURCES = $(shell find crates -name out -prune -o '(' -name '*.rt' -o -name '*.antt' ')' -print) crates.txt
 # In a recipe: ends it where the kit isn't there.
 NEEDS_KIT = $(if $(shell command -v rt 2> /dev/null),,$(error this needs the Rattle kit: `rt` is not on the path; see "Install" in README.md))
@@ -63,7 +67,11 @@ test-whole:
 	$(NEEDS_KIT)
 	python3 tests/gate.py --whole
 
-install: composecheck install-lib
+# Where $(PYTHON) looks for modules below PREFIX, if it does.
+MODULES = $(shell $(PYTHON) -c 'import site, sys; print(next((it for it in site.getsitepackages() if it.startswith(sys.argv[1])), ""))' $(PREFIX)/lib/ 2> /dev/null)
+IBUS_ID = org.freedesktop.ibus.engine.composecheck
+
+install: composecheck install-lib install-ibus
 	install -D composecheck $(DESTDIR)$(PREFIX)/bin/composecheck
 	install -D -m 644 docs/composecheck.1 $(DESTDIR)$(PREFIX)/share/man/man1/composecheck.1
 	install -D -m 644 docs/composecheck.5 $(DESTDIR)$(PREFIX)/share/man/man5/composecheck.5
@@ -76,9 +84,28 @@ install: composecheck install-lib
 	install -D -m 644 share/completions/composecheck.bash $(DESTDIR)$(PREFIX)/share/bash-completion/completions/composecheck
 	install -D -m 644 share/completions/_composecheck $(DESTDIR)$(PREFIX)/share/zsh/site-functions/_composecheck
 	install -D -m 644 share/completions/composecheck.fish $(DESTDIR)$(PREFIX)/share/fish/vendor_completions.d/composecheck.fish
+	$(if $(MODULES),install -D -m 644 -t $(DESTDIR)$(MODULES) share/composecheck/composecheck_client.py share/composecheck/composecheck_typing.py)
+
+install-ibus: composecheck
+	install -D -t $(DESTDIR)$(PREFIX)/share/ibus-composecheck share/ibus/ibus-engine-composecheck share/ibus/ibus-setup-composecheck
+	install -D -m 644 -t $(DESTDIR)$(PREFIX)/share/ibus-composecheck share/ibus/composecheck_journal.py share/ibus/composecheck_keys.py
+	install -D -m 644 share/ibus/composecheck.xml.in $(DESTDIR)$(PREFIX)/share/ibus/component/composecheck.xml
+	sed -i "s|@PREFIX@|$(PREFIX)|; s|@VERSION@|$$(./composecheck --version | cut -d ' ' -f 2)|" $(DESTDIR)$(PREFIX)/share/ibus/component/composecheck.xml
+	install -D -m 644 share/ibus/ibus-composecheck.svg $(DESTDIR)$(PREFIX)/share/icons/hicolor/scalable/apps/ibus-composecheck.svg
+	install -D -m 644 share/ibus/$(IBUS_ID).gschema.xml $(DESTDIR)$(PREFIX)/share/glib-2.0/schemas/$(IBUS_ID).gschema.xml
+	install -D -m 644 share/ibus/$(IBUS_ID).metainfo.xml $(DESTDIR)$(PREFIX)/share/metainfo/$(IBUS_ID).metainfo.xml
+	$(if $(DESTDIR),,-glib-compile-schemas $(PREFIX)/share/glib-2.0/schemas)
+
+install-fcitx5: composecheck
+	cmake -S fcitx5 -B packages/fcitx5 -DCMAKE_BUILD_TYPE=Release -DCMAKE_INSTALL_PREFIX=$(PREFIX) -DCOMPOSECHECK_VERSION=$$(./composecheck --version | cut -d ' ' -f 2)
+	cmake --build packages/fcitx5
+	cmake --install packages/fcitx5 --strip
 
 uninstall:
-	rm -rf $(DESTDIR)$(PREFIX)/share/composecheck
+	rm -rf $(DESTDIR)$(PREFIX)/share/composecheck $(DESTDIR)$(PREFIX)/share/ibus-composecheck
+	rm -f $(DESTDIR)$(PREFIX)/share/ibus/component/composecheck.xml $(DESTDIR)$(PREFIX)/share/icons/hicolor/scalable/apps/ibus-composecheck.svg
+	rm -f $(DESTDIR)$(PREFIX)/share/glib-2.0/schemas/$(IBUS_ID).gschema.xml $(DESTDIR)$(PREFIX)/share/metainfo/$(IBUS_ID).metainfo.xml
+	$(if $(MODULES),rm -f $(DESTDIR)$(MODULES)/composecheck_client.py $(DESTDIR)$(MODULES)/composecheck_typing.py)
 	rm -f $(DESTDIR)$(PREFIX)/bin/composecheck $(DESTDIR)$(PREFIX)/share/man/man1/composecheck.1 $(DESTDIR)$(PREFIX)/share/man/man5/composecheck.5
 	rm -f $(DESTDIR)$(PREFIX)/lib/systemd/user/composecheck.service $(DESTDIR)$(PREFIX)/lib/systemd/user/composecheck.socket
 	rm -f $(DESTDIR)$(PREFIX)/lib/libcomposecheck.a $(DESTDIR)$(PREFIX)/lib/libcomposecheck.so $(DESTDIR)$(PREFIX)/lib/libcomposecheck.so.1
@@ -86,11 +113,20 @@ uninstall:
 	rm -f $(DESTDIR)$(PREFIX)/share/bash-completion/completions/composecheck
 	rm -f $(DESTDIR)$(PREFIX)/share/zsh/site-functions/_composecheck $(DESTDIR)$(PREFIX)/share/fish/vendor_completions.d/composecheck.fish
 
-dist deb: composecheck
-	python3 packaging/package.py $@ ./composecheck packages
+dist: composecheck
+	python3 packaging/package.py dist ./composecheck packages
+
+deb: composecheck
+	python3 packaging/package.py deb ./composecheck packages
+	python3 packaging/package.py ibus ./composecheck packages
+	python3 packaging/package.py fcitx5 ./composecheck packages
 
 test-packages: composecheck
 	python3 tests/packages.py ./composecheck
+	python3 tests/installed.py ./composecheck
+
+desk: composecheck
+	python3 tests/desk/run.py ./composecheck
 
 HEADER = /usr/include/X11/keysymdef.h
 names:
@@ -110,4 +146,4 @@ bench: composecheck compose_trials
 clean:
 	rm -rf composecheck compose_trials packages build crates/*/out
 
-.PHONY: all help lib install-lib peers test test-anew test-whole install uninstall dist deb test-packages names real bench clean
+.PHONY: all help lib install-lib install-ibus install-fcitx5 peers test test-anew test-whole install uninstall dist deb test-packages desk names real bench clean

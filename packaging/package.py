@@ -3,9 +3,12 @@
 
   package.py dist PROGRAM FOLDER    composecheck-VERSION-ARCH.tar.gz: the program, manual pages, share/, licence, SHA256SUMS and VERSION
   package.py deb PROGRAM FOLDER     composecheck_VERSION_ARCH.deb, by dpkg-deb
+  package.py ibus PROGRAM FOLDER    composecheck-ibus_VERSION_all.deb: the engine of IBus
+  package.py fcitx5 PROGRAM FOLDER  fcitx5-composecheck_VERSION_ARCH.deb: the addon of fcitx5, built by cmake where its headers are installed; else
+                                    it says that it isn't made
 
-Both hold the same files in the same places, the first below a prefix of one's own (the files name /usr/local), the second below /usr.
-They are the same to the byte when they are made from the same program and sources. Their files are as old as the last commit, or as
+The first two hold the same files in the same places, the first below a prefix of one's own (the files name /usr/local), the second below
+/usr. All are the same to the byte when they are made from the same program and sources. Their files are as old as the last commit, or as
 SOURCE_DATE_EPOCH says.
 """
 import gzip
@@ -13,10 +16,12 @@ import hashlib
 import io
 import os
 import platform
+import shutil
 import subprocess
 import sys
 import tarfile
 import tempfile
+from typing import NamedTuple
 
 TOP = os.path.dirname(os.path.dirname(os.path.abspath(__file__)))
 
@@ -27,6 +32,46 @@ COMPLETIONS = {
     "composecheck.fish": "share/fish/vendor_completions.d/composecheck.fish",
 }
 UNITS = ("composecheck.service", "composecheck.socket")
+IBUS_ID = "org.freedesktop.ibus.engine.composecheck"
+# The files of the engine of IBus by their places.
+IBUS_FILES = {
+    "share/ibus-composecheck/ibus-engine-composecheck": "ibus-engine-composecheck",
+    "share/ibus-composecheck/ibus-setup-composecheck": "ibus-setup-composecheck",
+    "share/ibus-composecheck/composecheck_journal.py": "composecheck_journal.py",
+    "share/ibus-composecheck/composecheck_keys.py": "composecheck_keys.py",
+    "share/icons/hicolor/scalable/apps/ibus-composecheck.svg": "ibus-composecheck.svg",
+    f"share/glib-2.0/schemas/{IBUS_ID}.gschema.xml": f"{IBUS_ID}.gschema.xml",
+    f"share/metainfo/{IBUS_ID}.metainfo.xml": f"{IBUS_ID}.metainfo.xml",
+}
+PROGRAMS = ("bin/composecheck", "/ci.sh", "/ibus-engine-composecheck", "/ibus-setup-composecheck")
+
+
+class Package(NamedTuple):
+    """What a Debian package is called, and what is told of it."""
+
+    name: str
+    section: str
+    architecture: str
+    depends: str
+    description: str
+
+
+THE_PROGRAM = Package("composecheck", "x11", "any", "libc6", """checks migrations between X11 Compose tables, and serves typing
+ composecheck lists what a new Compose table changes for people who type with
+ the old one, shows the shortest keys on which two tables differ, and serves
+ typing sessions over a Unix socket. Its promises are proved.
+""")
+IBUS = Package("composecheck-ibus", "utils", "all", "composecheck (= VERSION), gir1.2-gtk-3.0, gir1.2-ibus-1.0, ibus, python3 (>= 3.9), python3-gi", """Compose sequences of a composecheck service, for IBus
+ An engine of IBus that types by the Compose table of a running service. The
+ table can be replaced while people type, also in the middle of a sequence.
+ What is pending is shown where it will stand.
+""")
+FCITX5 = Package("fcitx5-composecheck", "utils", "any", "composecheck (= VERSION), fcitx5, libc6, libfcitx5config6, libfcitx5core7, libfcitx5utils2, libstdc++6", """Compose sequences of a composecheck service, for fcitx5
+ An addon of fcitx5 that types by the Compose table of a running service, under
+ every keyboard layout and before every input method. The table can be replaced
+ while people type, also in the middle of a sequence. It is on as soon as it is
+ installed.
+""")
 
 
 def text_of(*command):
@@ -61,9 +106,46 @@ def files_of(program, prefix):
     return files
 
 
+def ibus_files(version):
+    """The same for the engine of IBus."""
+    files = {place: read(f"{TOP}/share/ibus/{name}") for place, name in IBUS_FILES.items()}
+    component = read(f"{TOP}/share/ibus/composecheck.xml.in")
+    files["share/ibus/component/composecheck.xml"] = component.replace(b"@PREFIX@", b"/usr").replace(b"@VERSION@", version.encode())
+    files[f"share/doc/{IBUS.name}/LICENSE"] = read(f"{TOP}/LICENSE")
+    return files
+
+
+def has_fcitx5():
+    """Whether the addon of fcitx5 can be built here."""
+    tools = [shutil.which(it) for it in ("cmake", "c++", "pkg-config")]
+    return all(tools) and subprocess.run(["pkg-config", "--exists", "Fcitx5Core"], check=False).returncode == 0
+
+
+def fcitx5_files(version):
+    """The same for the addon of fcitx5, which is built."""
+    with tempfile.TemporaryDirectory() as room:
+        settings = ("BUILD_TYPE=Release", "INSTALL_PREFIX=/usr", "INSTALL_LIBDIR=lib/" + text_of("gcc", "-print-multiarch"))
+        steps = (
+            ["cmake", "-S", f"{TOP}/fcitx5", "-B", f"{room}/build", f"-DCOMPOSECHECK_VERSION={version}", *(f"-DCMAKE_{it}" for it in settings)],
+            ["cmake", "--build", f"{room}/build"],
+            ["cmake", "--install", f"{room}/build", "--strip"],
+        )
+        for step in steps:
+            subprocess.run(step, check=True, stdout=subprocess.DEVNULL, env={**os.environ, "DESTDIR": f"{room}/installed"})
+        top = f"{room}/installed/usr"
+        places = [os.path.relpath(os.path.join(at, name), top) for at, _, names in os.walk(top) for name in names]
+        files = {place: read(f"{top}/{place}") for place in places}
+    files[f"share/doc/{FCITX5.name}/LICENSE"] = read(f"{TOP}/LICENSE")
+    return files
+
+
+def mode_of(path):
+    return 0o755 if path.endswith(PROGRAMS) else 0o644
+
+
 def put(packed, name, content, time):
     item = tarfile.TarInfo(name)
-    item.size, item.mtime, item.mode = len(content), time, 0o755 if name.endswith(("bin/composecheck", "/ci.sh")) else 0o644
+    item.size, item.mtime, item.mode = len(content), time, mode_of(name)
     packed.addfile(item, io.BytesIO(content))
 
 
@@ -81,25 +163,25 @@ def make_dist(files, version, time, folder):
     return made
 
 
-def control_of(files, version):
+def architecture_of(package):
+    return ARCHITECTURES[platform.machine()] if package.architecture == "any" else package.architecture
+
+
+def control_of(package, files, version):
     size = sum(len(it) for it in files.values()) // 1024 + 1
-    return f"""Package: composecheck
+    return f"""Package: {package.name}
 Version: {version}
-Section: x11
+Section: {package.section}
 Priority: optional
-Architecture: {ARCHITECTURES[platform.machine()]}
-Depends: libc6
+Architecture: {architecture_of(package)}
+Depends: {package.depends.replace("VERSION", version)}
 Installed-Size: {size}
 Maintainer: Mewarogun maintainers <maintainers@users.noreply.mewarogun.example>
-Description: checks migrations between X11 Compose tables, and serves typing
- composecheck lists what a new Compose table changes for people who type with
- the old one, shows the shortest keys on which two tables differ, and serves
- typing sessions over a Unix socket. Its promises are proved.
-"""
+Description: {package.description}"""
 
 
-def make_deb(files, version, time, folder):
-    made = f"{folder}/composecheck_{version}_{ARCHITECTURES[platform.machine()]}.deb"
+def make_deb(package, files, version, time, folder):
+    made = f"{folder}/{package.name}_{version}_{architecture_of(package)}.deb"
     with tempfile.TemporaryDirectory() as room:
         os.chmod(room, 0o755)
         for path, content in files.items():
@@ -107,10 +189,10 @@ def make_deb(files, version, time, folder):
             os.makedirs(os.path.dirname(place), mode=0o755, exist_ok=True)
             with open(place, "wb") as file:
                 file.write(content)
-            os.chmod(place, 0o755 if path.endswith(("bin/composecheck", "/ci.sh")) else 0o644)
+            os.chmod(place, mode_of(path))
         os.mkdir(f"{room}/DEBIAN", 0o755)
         with open(f"{room}/DEBIAN/control", "w", encoding="utf-8") as file:
-            file.write(control_of(files, version))
+            file.write(control_of(package, files, version))
         with open(f"{room}/DEBIAN/md5sums", "w", encoding="utf-8") as file:
             file.writelines(f"{hashlib.md5(content).hexdigest()}  usr/{path}\n" for path, content in sorted(files.items()))
         for at, _, names in os.walk(room, topdown=False):
@@ -127,8 +209,16 @@ def main():
     os.makedirs(folder, exist_ok=True)
     version = text_of(os.path.abspath(program), "--version").split()[-1]
     time = int(os.environ.get("SOURCE_DATE_EPOCH") or text_of("git", "log", "-1", "--format=%ct"))
-    make, prefix = {"dist": (make_dist, "/usr/local"), "deb": (make_deb, "/usr")}[kind]
-    print(make(files_of(program, prefix), version, time, folder))
+    if kind == "dist":
+        print(make_dist(files_of(program, "/usr/local"), version, time, folder))
+    elif kind == "deb":
+        print(make_deb(THE_PROGRAM, files_of(program, "/usr"), version, time, folder))
+    elif kind == "ibus":
+        print(make_deb(IBUS, ibus_files(version), version, time, folder))
+    elif not has_fcitx5():
+        print(f"{FCITX5.name} is not made: it needs cmake, c++, pkg-config and the headers of fcitx5 (in Debian libfcitx5core-dev)")
+    else:
+        print(make_deb(FCITX5, fcitx5_files(version), version, time, folder))
 
 
 if __name__ == "__main__":

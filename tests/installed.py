@@ -1,0 +1,190 @@
+#!/usr/bin/env python3
+"""installed.py PROGRAM: what `make install` installs and `make uninstall` takes away, with the client imported from there; the packages of the
+engine of IBus and of the addon of fcitx5, made twice and unpacked; and the unit of systemd, whose command is run. The last line is
+`N passed, M failed`."""
+import hashlib
+import os
+import re
+import resource
+import shutil
+import subprocess
+import sys
+import tempfile
+import xml.etree.ElementTree
+
+from packages import check_sums, files_below, packed, read, run
+from service import Results
+from typing_service import TypingService
+
+TOP = os.path.dirname(os.path.dirname(os.path.abspath(__file__)))
+sys.path.insert(0, os.path.join(TOP, "share", "composecheck"))
+from composecheck_client import Client, TimedOut
+
+IMPORTED = "import composecheck_client, composecheck_typing; print(composecheck_client.__file__)"
+KEYS = "from composecheck_keys import Keys; from composecheck_typing import Service, Typing; print(Keys(Typing(Service('none'))).press(0x61))"
+
+
+def python(code, *folders):
+    """What Python prints, where modules lie in these folders too."""
+    return run(sys.executable, "-c", code, env={**os.environ, "PYTHONPATH": os.pathsep.join(folders), "PYTHONDONTWRITEBYTECODE": "1"})
+
+
+# ---- make install
+
+class Tree:
+    """A copy of the source tree with the program in it, in which `make` builds neither it nor the C library."""
+
+    def __init__(self, program, folder):
+        self.top = os.path.join(folder, "top")
+        for it in ("docs", "fcitx5", "share"):
+            shutil.copytree(os.path.join(TOP, it), os.path.join(self.top, it), ignore=shutil.ignore_patterns("__pycache__"))
+        shutil.copy(os.path.join(TOP, "Makefile"), self.top)
+        shutil.copy(program, os.path.join(self.top, "composecheck"))
+        os.mkdir(os.path.join(self.top, "crates"))
+
+    def make(self, *words):
+        return run("make", "-s", "-o", "composecheck", "-o", "install-lib", *words, cwd=self.top, timeout=600)
+
+
+def check_install(program, folder, results):
+    """Below a prefix that Python looks in, and below one that it doesn't."""
+    tree, place = Tree(program, folder), os.path.join(folder, "place")
+    run(sys.executable, "-m", "venv", "--without-pip", place)
+    before = files_below(place)
+    interpreter = os.path.join(place, "bin", "python3")
+    made = tree.make("install", f"PREFIX={place}", f"PYTHON={interpreter}")
+    results.expect("make install", (made.returncode, made.stdout), (0, ""))
+    got = run(interpreter, "-c", IMPORTED)
+    results.expect("the client is imported from the prefix", (got.stdout.startswith(f"{place}/lib/"), got.stderr), (True, ""))
+    shared = os.path.join(place, "share", "composecheck")
+    results.expect("the client is imported from its documented place", python(IMPORTED, shared).stdout, f"{shared}/composecheck_client.py\n")
+    check_component(place, place, version_of(program), results)
+    check_units(place, results)
+    made = tree.make("uninstall", f"PREFIX={place}", f"PYTHON={interpreter}")
+    left = [it for it in files_below(place) if it not in before and "__pycache__" not in it and not it.endswith("gschemas.compiled")]
+    results.expect("make uninstall leaves nothing", (made.returncode, left), (0, []))
+    other = os.path.join(folder, "other")
+    made = tree.make("install", f"DESTDIR={other}", "PREFIX=/opt/composecheck")
+    results.expect("make install with DESTDIR", (made.returncode, os.listdir(other)), (0, ["opt"]))
+    check_component(os.path.join(other, "opt", "composecheck"), "/opt/composecheck", version_of(program), results)
+
+
+def version_of(program):
+    return run(program, "--version").stdout.split()[-1]
+
+
+def check_component(place, prefix, version, results):
+    """The component of IBus names files that are there, and runs."""
+    component = xml.etree.ElementTree.parse(os.path.join(place, "share", "ibus", "component", "composecheck.xml")).getroot()
+    named = [component.findtext("exec").split()[0], component.findtext("engines/engine/setup")]
+    results.expect("the component's version", component.findtext("version"), version)
+    results.expect("the component's programs", [os.access(it.replace(prefix, place, 1), os.X_OK) for it in named], [True, True])
+    icon = component.findtext("engines/engine/icon")
+    results.expect("the component's icon", os.path.isfile(os.path.join(place, "share", "icons", "hicolor", "scalable", "apps", f"{icon}.svg")), True)
+    got = python(KEYS, *(os.path.join(place, "share", it) for it in ("ibus-composecheck", "composecheck")))
+    results.expect("the engine's keys", (got.stdout, got.stderr), ("Answer(taken=False, text='')\n", "nobody listens on none: [Errno 2] No such file or directory; keys pass\n"))
+
+
+def check_units(place, results):
+    """systemd finds no fault in the units."""
+    units = [os.path.join(place, "lib", "systemd", "user", f"composecheck.{it}") for it in ("service", "socket")]
+    if not shutil.which("systemd-analyze"):
+        print("no systemd-analyze here: the units are not verified")
+        return
+    made = run("systemd-analyze", "verify", "--user", "--man=no", *units, env={**os.environ, "XDG_RUNTIME_DIR": place, "HOME": place})
+    results.expect("the units", (made.returncode, made.stderr), (0, ""))
+
+
+# ---- the packages
+
+def check_package(path, version, folder, results):
+    """Unpacks a package, and returns where."""
+    name = os.path.basename(path).split("_")[0]
+    place, control = os.path.join(folder, name), os.path.join(folder, f"{name}-control")
+    results.expect(f"{name} is unpacked", [run("dpkg-deb", option, path, it).returncode for option, it in (("-x", place), ("-e", control))], [0, 0])
+    check_sums(name, read(os.path.join(control, "md5sums")).decode(), hashlib.md5, place, files_below(place), results)
+    results.expect(f"{name}: version", run("dpkg-deb", "-f", path, "Version").stdout, f"{version}\n")
+    depends = run("dpkg-deb", "-f", path, "Depends").stdout
+    results.expect(f"{name} needs the program of its version", f"composecheck (= {version})" in depends, True)
+    return os.path.join(place, "usr")
+
+
+def check_packages(program, folder, results):
+    version = version_of(program)
+    place = check_package(packed("ibus", program, folder, results), version, folder, results)
+    shutil.copytree(os.path.join(TOP, "share", "composecheck"), os.path.join(place, "share", "composecheck"))
+    check_component(place, "/usr", version, results)
+    path = packed("fcitx5", program, folder, results)
+    if "is not made" in path:
+        print(path)
+        return
+    place = check_package(path, version, folder, results)
+    with open(os.path.join(place, "share", "fcitx5", "addon", "composecheck.conf"), encoding="utf-8") as file:
+        told = file.read()
+    results.expect("fcitx5 loads the addon without being asked", (f"Version={version}\n" in told, "OnDemand=False\n" in told), (True, True))
+    results.expect("the addon's library", [it for it in files_below(place) if it.endswith("/fcitx5/composecheck.so")] != [], True)
+
+
+# ---- the unit
+
+def settings_of_the_unit():
+    with open(os.path.join(TOP, "share", "composecheck", "composecheck.service"), encoding="utf-8") as file:
+        return dict(re.findall(r"^(\w+)=(.*)$", file.read(), re.M))
+
+
+def command(program, settings, folder):
+    """The unit's command, with its specifiers written out."""
+    return [program, *settings["ExecStart"].replace("%t", folder).split()[1:]]
+
+
+def check_unit(program, _, results):
+    """The unit's command serves as many connections at once as it says with as many open files as the unit allows; and where it refuses to start,
+    systemd doesn't start it again."""
+    settings = settings_of_the_unit()
+    at_once, files = int(re.search(r"--at-once (\d+)", settings["ExecStart"])[1]), int(settings["LimitNOFILE"])
+    with TypingService(program) as service:
+        for name, source in {"table.manifest": "old.manifest", "certificate": "old-old"}.items():
+            shutil.copy(service.path(source), service.path(name))
+        words = command(service.program, settings, service.folder)
+        limit = lambda: resource.setrlimit(resource.RLIMIT_NOFILE, (files, files))
+        with subprocess.Popen(words, cwd=service.folder, stdout=subprocess.PIPE, text=True, preexec_fn=limit) as serving:
+            results.expect("the unit's command", serving.stdout.readline(), "listening\n")
+            clients = [Client(service.socket, timeout=30) for _ in range(at_once)]
+            results.expect("connections at once", [client.open(number) for number, client in enumerate(clients)], [None] * at_once)
+            with Client(service.socket, timeout=0.3) as waiting:
+                results.expect("one more waits", refusal(waiting.open, at_once), TimedOut)
+            for it in clients:
+                it.disconnect()
+            with Client(service.socket, timeout=30) as client:
+                results.expect("as soon as they end, another one is served", client.ask(0).status, "nothing")
+            serving.kill()
+        never_again = {int(it) for it in settings["RestartPreventExitStatus"].split()}
+        for name, content in {"certificate": "compose", "table.manifest": "root\tnone\n"}.items():
+            service.write(name, content)
+            refused = subprocess.run(words, cwd=service.folder, capture_output=True, text=True, timeout=60)
+            results.expect(f"a start that is refused: {name}", refused.returncode in never_again, True)
+
+
+def refusal(call, *arguments):
+    """The class of what a call raises."""
+    try:
+        call(*arguments)
+    except Exception as it:  # (whatever it is, it is compared)
+        return type(it)
+    return None
+
+
+def main():
+    program, results = os.path.abspath(sys.argv[1]), Results()
+    for check in (check_install, check_packages, check_unit):
+        if check is check_packages and not shutil.which("dpkg-deb"):
+            print("no dpkg-deb here: the packages are not made")
+            continue
+        with tempfile.TemporaryDirectory(prefix="installed-") as folder:
+            check(program, folder, results)
+    print(f"{results.passed} passed, {results.failed} failed")
+    return 1 if results.failed else 0
+
+
+if __name__ == "__main__":
+    sys.exit(main())
