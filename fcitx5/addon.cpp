@@ -33,10 +33,12 @@ FCITX_CONFIGURATION(
     fcitx::Option<bool> keepAccents{this, "KeepAccents", "Type the accents of a sequence that there is not", true};
     fcitx::Option<bool> commitPlain{this, "CommitPlain", "Keep quick keys in order in text fields", true};);
 
+std::string characterOf(uint32_t keysym) { return fcitx::Key::keySymToUTF8(static_cast<fcitx::KeySym>(keysym)); }
+
 // The keys of an input context.
 class Place : public fcitx::InputContextProperty {
 public:
-    explicit Place(Service &service) : keys(service) {}
+    explicit Place(Service &service) : keys(service, characterOf) {}
     Keys keys;
 };
 
@@ -113,8 +115,7 @@ private:
     // Shows what is pending, underlined, where the next text will stand.
     static void show(fcitx::InputContext &context, const Keys &keys) {
         // (where the focus leaves, it is dropped: fcitx5 would commit it)
-        fcitx::Text text(keys.shown([](uint32_t keysym) { return fcitx::Key::keySymToUTF8(static_cast<fcitx::KeySym>(keysym)); }),
-                         {fcitx::TextFormatFlag::Underline, fcitx::TextFormatFlag::DontCommit});
+        fcitx::Text text(keys.shown(), {fcitx::TextFormatFlag::Underline, fcitx::TextFormatFlag::DontCommit});
         text.setCursor(static_cast<int>(text.textLength()));
         auto &panel = context.inputPanel();
         panel.reset();

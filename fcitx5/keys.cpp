@@ -58,6 +58,10 @@ Answer Keys::press(uint32_t keysym, const Settings &settings, bool isTextField) 
     } else if (typed) {
         accents.clear();
     }
+    if (!typed && !accents.empty() && isPrinted(characterOf_(keysym))) {
+        // (no service is reached: an accent that is committed and a key that passes might change places)
+        return {true, accents + characterOf_(keysym)};
+    }
     if (!typed || !typed->isAccepted) {
         return {false, accents};
     }
@@ -71,11 +75,11 @@ Answer Keys::press(uint32_t keysym, const Settings &settings, bool isTextField) 
     return {typed->text.empty() && (keysym == MultiKey || isDeadKey(keysym)), accents};
 }
 
-std::string Keys::shown(const CharacterOf &characterOf) const {
+std::string Keys::shown() const {
     std::string text;
     for (auto it : typing_.pending()) {
         auto sign = it == MultiKey ? ComposeSign : accent(it);
-        auto character = sign.empty() ? characterOf(it) : sign;
+        auto character = sign.empty() ? characterOf_(it) : sign;
         text += isPrinted(character) ? character : Other;
     }
     return text;

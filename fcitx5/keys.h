@@ -26,18 +26,19 @@ using CharacterOf = std::function<std::string(uint32_t)>;
 // The keys of a place where somebody types.
 class Keys {
 public:
-    explicit Keys(Service &service) : typing_(service) {}
+    Keys(Service &service, CharacterOf characterOf) : typing_(service), characterOf_(std::move(characterOf)) {}
 
     // Answers a key that is pressed, and is no command. It takes no longer than the patience.
     Answer press(uint32_t keysym, const Settings &settings, bool isTextField);
     // The pending keys, as the person at the keyboard sees them.
-    std::string shown(const CharacterOf &characterOf) const;
+    std::string shown() const;
     bool isPending() const { return !typing_.pending().empty(); }
     // Forgets the pending keys: the focus has left, or the application wants it.
     void drop() { typing_.reset(); }
 
 private:
     Typing typing_;
+    CharacterOf characterOf_;
 };
 
 } // namespace composecheck

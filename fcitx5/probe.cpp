@@ -32,7 +32,7 @@ std::string hexadecimal(const std::string &text) {
 
 int main(int, char **arguments) {
     composecheck::Service service(arguments[1], [](const std::string &) {});
-    composecheck::Keys keys(service);
+    composecheck::Keys keys(service, numberedCharacter);
     uint32_t keysym;
     bool keepsAccents, commitsPlain, isTextField;
     while (std::cin >> keysym >> keepsAccents >> commitsPlain >> isTextField) {
@@ -42,6 +42,6 @@ int main(int, char **arguments) {
             continue;
         }
         auto answer = keys.press(keysym, {keepsAccents, commitsPlain}, isTextField);
-        std::cout << answer.isTaken << ' ' << hexadecimal(answer.text) << ' ' << hexadecimal(keys.shown(numberedCharacter)) << '\n';
+        std::cout << answer.isTaken << ' ' << hexadecimal(answer.text) << ' ' << hexadecimal(keys.shown()) << '\n';
     }
 }

@@ -50,7 +50,7 @@ class Keys:
     """The keys of a place where somebody types."""
 
     def __init__(self, typing: Typing, character_of: Callable[[int], str] = numbered_character):
-        """`character_of` gives the character of a keysym, or nothing, to show it."""
+        """`character_of` gives the character of a keysym, or nothing."""
         self._typing, self._character_of = typing, character_of
 
     @property
@@ -73,6 +73,9 @@ class Keys:
             typed = self._typing.key(keysym, end)
         elif typed:
             accents = ""
+        if not typed and accents and _is_printed(self._character_of(keysym)):
+            # (no service is reached: an accent that is committed and a key that passes might change places)
+            return Answer(True, accents + self._character_of(keysym))
         if not typed or not typed.accepted:
             return Answer(False, accents)
         if typed.status != "nothing":

@@ -1,0 +1,245 @@
+#!/usr/bin/env python3
+"""trial.py [--fcitx5] [--sway] [--pictures FOLDER] PROGRAM: types into entries of GTK 3 and 4 through IBus, or fcitx5, and a composecheck service,
+on a display that nobody sees: Xvfb, or sway, a compositor of Wayland. It prints a line for each trial, and last `N passed, M failed`."""
+import argparse
+import os
+import sys
+import threading
+import time
+
+from desk import HERE, PYTHON, Desk, end, wait_for
+
+# What is logged where a service isn't reached.
+SILENT = ("no reply", "nobody listens")
+
+
+class Trials:
+    """Counts what passed, and prints how each trial ended."""
+
+    def __init__(self, desk, label, pictures):
+        self.desk, self.label, self.pictures, self.passed, self.failed = desk, label, pictures, 0, 0
+
+    def got(self):
+        entry = self.desk.entry()
+        return {"text": entry["texts"][0], "pending": entry["pending"][0], "texts": entry["texts"], "focus": entry["focus"]}
+
+    def expect(self, what, **wanted):
+        """Waits until the window shows what is wanted: `text`, `pending` (both of the first entry), `texts` or `focus`."""
+        def is_so():
+            got = self.got()
+            return all(got[name] == value for name, value in wanted.items())
+
+        began = time.monotonic()
+        try:
+            wait_for(what, is_so, 5)
+            # (and nothing comes behind it)
+            time.sleep(0.1)
+            good = is_so()
+        except TimeoutError:
+            good = False
+        self.count(f"{what} ({time.monotonic() - began:.1f} s)", good or self.got(), good or wanted)
+
+    def count(self, what, got, wanted):
+        """Prints how a trial ended."""
+        good = got == wanted
+        self.passed, self.failed = self.passed + good, self.failed + (not good)
+        print(f"{self.label}: {what}: " + ("ok" if good else f"FAILED, wanted {wanted}, got {got}"), flush=True)
+
+    def clear(self):
+        """Empties the first entry."""
+        self.desk.type("ctrl+a", "Delete")
+        wait_for("an empty entry", lambda: self.desk.entry()["texts"][0] == "" and self.desk.entry()["pending"][0] == "")
+
+    def picture(self, what):
+        if self.pictures:
+            time.sleep(0.3)
+            name = f"{self.label} {what}".lower().replace(", ", "-").replace(" ", "-")
+            self.desk.picture(os.path.join(self.pictures, f"{name}.png"))
+
+
+def try_typing(trials):
+    type_keys, expect = trials.desk.type, trials.expect
+    type_keys("a", "B", "ssharp", "1", "space")
+    expect("plain keys", text="aBß1 ", pending="")
+    trials.clear()
+    type_keys("dead_acute")
+    expect("a dead key is pending", text="", pending="´")
+    trials.picture("dead key")
+    type_keys("e")
+    expect("a dead key and a letter", text="é", pending="")
+    trials.clear()
+    type_keys("x", "Multi_key", "apostrophe")
+    expect("two keys are pending", text="x", pending="·'")
+    trials.picture("two keys")
+    type_keys("e", "y")
+    expect("a sequence between letters", text="xⓔy", pending="")
+    trials.clear()
+    type_keys("Multi_key", "Shift_L", "apostrophe", "Shift_R", "e")
+    expect("a Shift in a sequence changes nothing", text="ⓔ", pending="")
+    trials.clear()
+    type_keys("dead_caron", "c")
+    expect("a dead key that the table doesn't have types nothing, and the toolkit's table isn't asked", text="c", pending="")
+    trials.clear()
+    type_keys("Multi_key", "apostrophe", "minus", "BackSpace")
+    expect("BackSpace takes the last pending key back", text="", pending="·'")
+    type_keys("e", "b", "BackSpace")
+    expect("BackSpace between sequences erases a character", text="ⓔ", pending="")
+    trials.clear()
+    type_keys("u", "dead_acute", "ctrl+a")
+    expect("a command goes to the application", text="u", pending="")
+    trials.clear()
+
+
+def try_cancelling(trials):
+    type_keys, expect = trials.desk.type, trials.expect
+    type_keys("dead_acute", "x", "x")
+    expect("a cancelled dead key becomes an accent", text="´xx", pending="")
+    trials.clear()
+    type_keys("dead_acute", "dead_grave", "a")
+    expect("the cancelling key begins a sequence", text="´à", pending="")
+    trials.clear()
+    type_keys("Multi_key", "apostrophe", "x")
+    expect("of a cancelled sequence without a dead key the last key is kept", text="x", pending="")
+    trials.clear()
+    type_keys("dead_acute", "Escape", "x")
+    expect("Escape drops a sequence", text="x", pending="")
+    trials.clear()
+
+
+def try_settings(trials):
+    """The settings of the engine of IBus, which count from the next key on."""
+    desk, expect = trials.desk, trials.expect
+    desk.set("keep-accents", "false")
+    desk.type("dead_acute", "x", "x")
+    expect("a cancelled sequence is lost, if that is chosen", text="x", pending="")
+    desk.set("keep-accents", "true")
+    trials.clear()
+    for value, wanted in (("false", "passed"), ("true", "taken")):
+        desk.set("commit-plain", value)
+        trials.count(f"a plain key of a text field, with commit-plain {value}", desk.run(PYTHON, os.path.join(HERE, "press.py"), "text", "0x78").strip(), wanted)
+        trials.count(f"a plain key of a terminal, with commit-plain {value}", desk.run(PYTHON, os.path.join(HERE, "press.py"), "terminal", "0x78").strip(), "passed")
+
+
+def try_focus(trials):
+    type_keys, expect = trials.desk.type, trials.expect
+    type_keys("Multi_key", "apostrophe")
+    expect("pending before the focus leaves", pending="·'")
+    trials.desk.click(100, 60)
+    expect("the other entry has the focus", focus=1)
+    type_keys("e")
+    expect("a sequence doesn't follow the focus", texts=["", "e"])
+    type_keys("BackSpace")
+    trials.desk.click(100, 15)
+    expect("back", texts=["", ""], focus=0)
+
+
+def try_load(trials):
+    type_keys, expect = trials.desk.type, trials.expect
+    type_keys("Multi_key", "apostrophe")
+    expect("pending before the load", pending="·'")
+    print(f"{trials.label}: load: {trials.desk.service.load('old', 'new').strip()}", flush=True)
+    type_keys("a", "Multi_key", "apostrophe", "e")
+    expect("a load in the middle of a sequence", text="ⓐⓔ", pending="")
+    trials.clear()
+
+
+def try_quick(trials):
+    """Many quick keys beside loads: the table is loaded over itself again and again, and no text overtakes a key."""
+    service, count, done = trials.desk.service, 0, threading.Event()
+
+    def load():
+        nonlocal count
+        while not done.is_set():
+            service.load("new", "new")
+            count += 1
+
+    loading = threading.Thread(target=load)
+    loading.start()
+    trials.desk.type(*["Multi_key", "apostrophe", "e", "x", "dead_acute", "a"] * 20, delay=12)
+    done.set()
+    loading.join()
+    trials.expect(f"120 keys, 12 ms apart, beside {count} loads", text="ⓔxá" * 20, pending="")
+    trials.clear()
+
+
+def try_restart(trials):
+    type_keys, expect, service = trials.desk.type, trials.expect, trials.desk.service
+    type_keys("dead_acute")
+    expect("pending before the restart", pending="´")
+    service.start("old")
+    type_keys("e")
+    expect("a restart in the middle of a sequence", text="é", pending="")
+    trials.clear()
+    type_keys("dead_acute")
+    expect("pending before the service ends", pending="´")
+    service.end()
+    type_keys("e", "a", "b", "BackSpace", "c")
+    expect("without a service keys pass, and the pending accent stays", text="´eac", pending="")
+    service.start("old")
+    type_keys("dead_acute", "e")
+    expect("the service is back", text="´eacé", pending="")
+    trials.clear()
+
+
+def try_hanging(trials):
+    type_keys, expect, service = trials.desk.type, trials.expect, trials.desk.service
+    type_keys("dead_acute")
+    expect("pending before the service hangs", pending="´")
+    service.stop()
+    type_keys("e", "a", "b", "c", "d")
+    expect("keys pass a service that hangs", text="´eabcd", pending="")
+    service.go_on()
+    time.sleep(2.1)
+    type_keys("dead_acute", "e")
+    expect("it goes on", text="´eabcdé", pending="")
+    trials.clear()
+
+
+def try_x11(trials, is_fcitx5):
+    for trial in (try_typing, try_cancelling, try_focus, try_load, try_quick, try_restart, try_hanging):
+        trial(trials)
+    if not is_fcitx5:
+        try_settings(trials)
+
+
+def try_wayland(trials):
+    desk, expect = trials.desk, trials.expect
+    desk.start_typing("a", "dead_acute", 3000, "e", "Multi_key", "apostrophe", 4000, "a", "Multi_key", "apostrophe", "x", "x", "dead_caron", "c", 3000)
+    expect("a dead key is pending", text="a", pending="´")
+    trials.picture("dead key")
+    expect("two keys are pending before the load", text="aé", pending="·'")
+    trials.picture("two keys")
+    print(f"{trials.label}: load: {desk.service.load('old', 'new').strip()}", flush=True)
+    expect("a load in the middle of a sequence, and a sequence that is cancelled", text="aéⓐxxc", pending="")
+
+
+def main():
+    arguments = argparse.ArgumentParser(description=__doc__, formatter_class=argparse.RawDescriptionHelpFormatter)
+    arguments.add_argument("--fcitx5", action="store_true", help="the addon of fcitx5 in the place of the engine of IBus")
+    arguments.add_argument("--sway", action="store_true", help="with --fcitx5: under Wayland, where the entries use its protocol for texts")
+    arguments.add_argument("--pictures", metavar="FOLDER", help="where pictures of entries with a pending sequence are put")
+    arguments.add_argument("program", help="composecheck")
+    given = arguments.parse_args()
+    began, passed, failed = time.monotonic(), 0, 0
+    with Desk(given.program) as desk:
+        desk.start_bus()
+        desk.start_sway() if given.sway else desk.start_display()
+        desk.service.start("old")
+        desk.start_fcitx5() if given.fcitx5 else desk.start_ibus()
+        for version in "34":
+            trials = Trials(desk, f"{'sway, ' if given.sway else ''}{'fcitx5' if given.fcitx5 else 'ibus'}, GTK {version}", given.pictures)
+            desk.service.start("old")
+            entry = desk.start_entry(version)
+            try_wayland(trials) if given.sway else try_x11(trials, given.fcitx5)
+            end(entry)
+            passed, failed = passed + trials.passed, failed + trials.failed
+        for name, log in desk.logs():
+            for line in log.splitlines():
+                if any(it in line for it in SILENT):
+                    print(f"{name}: {line}")
+    print(f"{time.monotonic() - began:.1f} s\n{passed} passed, {failed} failed")
+    return 1 if failed else 0
+
+
+if __name__ == "__main__":
+    sys.exit(main())
