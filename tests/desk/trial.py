@@ -52,7 +52,8 @@ class Trials:
 
     def picture(self, what):
         if self.pictures:
-            time.sleep(0.3)
+            # (a window is drawn a while after it knows what to show)
+            time.sleep(1)
             name = f"{self.label} {what}".lower().replace(", ", "-").replace(" ", "-")
             self.desk.picture(os.path.join(self.pictures, f"{name}.png"))
 
