@@ -6,6 +6,7 @@ import contextlib
 import logging
 import os
 import random
+import re
 import shutil
 import socket
 import struct
@@ -90,6 +91,16 @@ def check_deadline(_, results):
     }.items():
         with listening(answers_slowly, reply, 0) as path, Client(path, timeout=30) as client:
             results.expect(what, raised(client.key, 7, E)[0], UnexpectedReply)
+
+
+def check_document(service, results):
+    """The example of docs/PROTOCOL.md prints what stands there."""
+    with open(os.path.join(TOP, "docs", "PROTOCOL.md"), encoding="utf-8") as file:
+        code, printed = re.search(r"^```python\n(from composecheck_client import Client, Request\n.*?)^```$.*?^```\n(.*?)^```$", file.read(), re.M | re.S).groups()
+    service.start("old")
+    code = code.replace("compose.socket", service.socket)
+    ran = subprocess.run([sys.executable, "-B", "-c", code], capture_output=True, text=True, timeout=60, env={**os.environ, "PYTHONPATH": sys.path[0]})
+    results.expect("the example of several requests", (ran.stdout, ran.stderr), (printed, ""))
 
 
 # ---- a session
@@ -349,7 +360,7 @@ def main():
     logging.getLogger("composecheck").setLevel(logging.INFO)
     results = Results()
     with TypingService(sys.argv[1]) as service:
-        for check in (check_exchange, check_deadline, check_session, check_loads, check_lost_connections, check_silence, check_full, check_others, check_log,
+        for check in (check_exchange, check_document, check_deadline, check_session, check_loads, check_lost_connections, check_silence, check_full, check_others, check_log,
                       check_journal, check_keys, check_patience, check_fcitx5):
             check(service, results)
     print(f"{results.passed} passed, {results.failed} failed")
