@@ -30,8 +30,8 @@ constexpr const char *ConfigurationFile = "conf/composecheck.conf";
 
 FCITX_CONFIGURATION(
     Configuration,
-    fcitx::Option<bool> keepAccents{this, "KeepAccents", "Type the accents of a sequence that there is not", true};
-    fcitx::Option<bool> commitPlain{this, "CommitPlain", "Keep quick keys in order in text fields", true};);
+    fcitx::Option<bool> keepAccents{this, "KeepAccents", "Keep the accents of a cancelled sequence", true};
+    fcitx::Option<bool> commitPlain{this, "CommitPlain", "Keep quick keys and texts in order in text fields", true};);
 
 std::string characterOf(uint32_t keysym) { return fcitx::Key::keySymToUTF8(static_cast<fcitx::KeySym>(keysym)); }
 
@@ -51,6 +51,14 @@ std::string socketPath() {
     return std::string(folder ? folder : "/run") + "/composecheck.socket";
 }
 
+void log(bool isFault, const std::string &what) {
+    if (isFault) {
+        FCITX_LOGC(composecheckLog, Warn) << what;
+    } else {
+        FCITX_LOGC(composecheckLog, Info) << what;
+    }
+}
+
 // Whether a plain key is nothing but its text here. (A game tells no text around the cursor.)
 bool isTextField(const fcitx::InputContext &context) {
     auto flags = context.capabilityFlags();
@@ -60,7 +68,7 @@ bool isTextField(const fcitx::InputContext &context) {
 class Composecheck : public fcitx::AddonInstance {
 public:
     explicit Composecheck(fcitx::Instance *instance)
-        : service_(socketPath(), [](const std::string &what) { FCITX_LOGC(composecheckLog, Warn) << what; }),
+        : service_(socketPath(), log),
           places_([this](fcitx::InputContext &) { return new Place(service_); }) {
         reloadConfig();
         instance->inputContextManager().registerProperty("composecheckPlace", &places_);

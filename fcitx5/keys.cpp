@@ -39,7 +39,7 @@ bool isPrinted(const std::string &text) {
 } // namespace
 
 Answer Keys::press(uint32_t keysym, const Settings &settings, bool isTextField) {
-    auto end = Clock::now() + Patience;
+    auto end = typing_.deadline();
     if (keysym == BackSpace && isPending()) {
         typing_.erase();
         return {true, ""};

@@ -1,5 +1,6 @@
-// probe SOCKET: answers the keys on standard input, without fcitx5, for tests/engine.py. A line is a keysym, both settings, and whether it is a
-// text field; its answer whether the key is taken, the text, and what is shown, both in hexadecimal. Keysym 0 drops what is pending.
+// probe SOCKET PATIENCE: answers the keys on standard input, without fcitx5, for tests/engine.py. A line is a keysym, both settings, and whether it
+// is a text field; its answer whether the key is taken, the text, and what is shown, both in hexadecimal. Keysym 0 drops what is pending. The
+// patience is in milliseconds.
 #include "keys.h"
 
 #include <iostream>
@@ -31,7 +32,7 @@ std::string hexadecimal(const std::string &text) {
 } // namespace
 
 int main(int, char **arguments) {
-    composecheck::Service service(arguments[1], [](const std::string &) {});
+    composecheck::Service service(arguments[1], [](bool, const std::string &) {}, std::chrono::milliseconds(std::stoi(arguments[2])));
     composecheck::Keys keys(service, numberedCharacter);
     uint32_t keysym;
     bool keepsAccents, commitsPlain, isTextField;

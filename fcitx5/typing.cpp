@@ -25,7 +25,7 @@ void Service::lost() {
 
 void Service::tell(const std::string &what) {
     if (what != told_) {
-        log_(what.empty() ? path_ + " answers" : what);
+        log_(!what.empty(), what.empty() ? path_ + " answers" : what);
     }
     told_ = what;
 }
@@ -48,7 +48,7 @@ std::optional<Typed> Typing::key(uint32_t keysym, Clock::time_point end) {
 void Typing::erase() {
     auto requests = typedAnew(pending_.empty() ? 0 : pending_.size() - 1);
     requests.push_back({Kind::Ask});
-    auto replies = ask(requests, Clock::now() + Patience);
+    auto replies = ask(requests, deadline());
     if (!replies || !takeState(replies->back())) {
         pending_.clear();
     }
@@ -57,14 +57,14 @@ void Typing::erase() {
 void Typing::reset() {
     if (!pending_.empty()) {
         pending_.clear();
-        ask({{Kind::Reset}}, Clock::now() + Patience);
+        ask({{Kind::Reset}}, deadline());
     }
 }
 
 void Typing::close() {
     pending_.clear();
-    if (number_ && connection_ == service_.connections() && service_.isConnected()) {
-        ask({{Kind::Close}}, Clock::now() + Patience);
+    if (number_) {
+        ask({{Kind::Close}}, deadline());
     }
     number_.reset();
     connection_ = 0;

@@ -24,9 +24,13 @@ struct Typed {
 // The way to a service. It is connected to when it is needed, and once more when a connection has ended.
 class Service {
 public:
-    // `log` is told what keeps keys from the service, once while it lasts.
-    Service(std::string path, std::function<void(const std::string &)> log) : path_(std::move(path)), log_(std::move(log)) {}
+    // Told what keeps keys from the service, once while it lasts; and, where it is none, that the service answers again.
+    using Log = std::function<void(bool isFault, const std::string &what)>;
 
+    Service(std::string path, Log log, std::chrono::milliseconds patience = Patience) : path_(std::move(path)), log_(std::move(log)), patience_(patience) {}
+
+    // When a key that is asked about now is given up.
+    Clock::time_point deadline() const { return Clock::now() + patience_; }
     // The connection that stands, or a new one, or null.
     Client *client();
     bool isConnected() const { return client_ != nullptr; }
@@ -39,7 +43,8 @@ public:
 
 private:
     std::string path_;
-    std::function<void(const std::string &)> log_;
+    Log log_;
+    std::chrono::milliseconds patience_;
     std::unique_ptr<Client> client_;
     std::string told_;
     Clock::time_point silentUntil_{};
@@ -55,6 +60,7 @@ public:
     Typing &operator=(const Typing &) = delete;
 
     const std::vector<uint32_t> &pending() const { return pending_; }
+    Clock::time_point deadline() const { return service_.deadline(); }
     // Types a key. Nothing: no service was reached, and nothing is pending any more.
     std::optional<Typed> key(uint32_t keysym, Clock::time_point end);
     // Takes the last pending key back.

@@ -9,8 +9,8 @@ import time
 
 from desk import HERE, PYTHON, Desk, end, wait_for
 
-# What is logged where a service isn't reached.
-SILENT = ("no reply", "nobody listens")
+# What is printed of what is logged: where the service isn't reached, where it is again, and where a script fails, which counts as a trial that did.
+TOLD = ("no reply", "nobody listens", "composecheck.socket answers", "Traceback", "Error")
 
 
 class Trials:
@@ -29,12 +29,16 @@ class Trials:
             got = self.got()
             return all(got[name] == value for name, value in wanted.items())
 
-        began = time.monotonic()
-        try:
-            wait_for(what, is_so, 5)
-            # (and nothing comes behind it)
+        def stays():
+            """Whether it is so, and nothing comes behind it."""
+            if not is_so():
+                return False
             time.sleep(0.1)
-            good = is_so()
+            return is_so()
+
+        began, good = time.monotonic(), True
+        try:
+            wait_for(what, stays)
         except TimeoutError:
             good = False
         self.count(f"{what} ({time.monotonic() - began:.1f} s)", good or self.got(), good or wanted)
@@ -234,10 +238,10 @@ def main():
             try_wayland(trials) if given.sway else try_x11(trials, given.fcitx5)
             end(entry)
             passed, failed = passed + trials.passed, failed + trials.failed
-        for name, log in desk.logs():
-            for line in log.splitlines():
-                if any(it in line for it in SILENT):
-                    print(f"{name}: {line}")
+        for name, line in ((name, line) for name, log in desk.logs() for line in log.splitlines()):
+            if any(it in line for it in TOLD):
+                print(f"{name}: {line}")
+            failed += "Traceback" in line
     print(f"{time.monotonic() - began:.1f} s\n{passed} passed, {failed} failed")
     return 1 if failed else 0
 
