@@ -10,7 +10,7 @@ import time
 from desk import HERE, PYTHON, Desk, end, wait_for
 
 # What is printed of what is logged: where the service isn't reached, where it is again, and where a script fails, which counts as a trial that did.
-TOLD = ("no reply", "nobody listens", "composecheck.socket answers", "Traceback", "Error")
+TOLD = ("no reply", "nobody listens", "composecheck.socket answers", "Traceback")
 
 
 class Trials:
