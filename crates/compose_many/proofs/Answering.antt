@@ -1,27 +1,41 @@
 -- What is held is answered.
-use Rattle.std.proofs.Common.{◌≡◌, ℕ, ◌+◌, ◌<◌, ◌≤◌, List, [], ◌∷◌, ◌++◌, false, length, refl, sym, ◌∙◌, ap, subst}
-use Rattle.std.specs.Prelude.{Ok, Err}
+use Rattle.std.proofs.Common.{◌≡◌, ◌≢◌, ℕ, ◌+◌, ◌<◌, ◌≤◌, List, [], ◌∷◌, ◌++◌, Bool, true, false, length, refl, sym, ◌∙◌, ap, subst}
+use Rattle.std.specs.Prelude.{Err}
 use Rattle.compose_wire.specs.Messages.{Request, Fits, Reply}
 use Rattle.compose_wire.specs.Frames.{frame, reply_bytes}
 use Rattle.compose_machine.specs.Machine.{ServiceState, Reading, Step}
-use Rattle.compose_machine.specs.Laws.{Exchange, IsHistory}
+use Rattle.compose_machine.specs.Laws.{Exchange, IsHistory, is_load}
 use Rattle.compose_serve.specs.Ends.{max_frames, malformed_reply}
-use Rattle.compose_many.specs.Connection.{ConnectionState, Event, answers, refuses, Answers, AllHappen, piece_of, sent_of, exchanges, max_reply}
-use Rattle.compose_many.specs.Steps.{NextSo, AnswersSo, AreAnswers}
+use Rattle.compose_many.specs.Connection.{ConnectionState, Event, answers, refuses, Answers, AllHappen, piece_of, sent_of, exchanges, loads, max_reply}
+use Rattle.compose_many.specs.Steps.{NextSo, AnswersSo, AreAnswers, after_reply}
 use Rattle.compose_many.specs.declared.connection.Stop.{Stop}
-use Rattle.compose_many.specs.declared.connection.Stop.TheVariants.{NeedsBytes, Full, Refused, NoMemory, TooManyFrames}
-use Rattle.compose_many.proofs.Happening.{behind_nothing, flat-more, run-both, happen-more}
+use Rattle.compose_many.specs.declared.connection.Stop.TheVariants.{Loaded, NeedsBytes, Full, Refused, NoMemory, TooManyFrames}
+use Rattle.compose_many.proofs.Happening.{behind_nothing, flat-more, loads-both, loads-more, run-both, happen-more}
 
--- one request
-pub next_answered : (limit : ℕ) (reading : Reading) (old new : ServiceState) (s : ConnectionState) (held unsent : List ℕ) (q : Request) (r : Reply) → s.refused ≡ false → length s.unsent < limit
-    → s.answered < max_frames
-    → Fits q → s.held ≡ frame q ++ held → Step reading old q r new → unsent ≡ s.unsent ++ reply_bytes r → length (reply_bytes r) ≤ max_reply
-    → NextSo limit reading old new s (record { held = held; unsent = unsent; answered = s.answered + 1; refused = s.refused }) (Ok tt)
-next_answered limit reading old new s held unsent q r g b c f e t u l = (
+-- one request is answered
+abbrev pub OneAnswered : ℕ → Reading → ServiceState → ServiceState → ConnectionState → ConnectionState → Bool → Type 0
+OneAnswered limit reading old new s now b = (x : Exchange) × Answers limit s x now × IsHistory reading old (x ∷ []) new × (is_load x.request.body ≡ b)
+
+pub next_answered : (limit : ℕ) (reading : Reading) (old new : ServiceState) (s : ConnectionState) (held unsent : List ℕ) (q : Request) (r : Reply) (b : Bool) → s.refused ≡ false
+    → length s.unsent < limit → s.answered < max_frames
+    → Fits q → s.held ≡ frame q ++ held → Step reading old q r new → unsent ≡ s.unsent ++ reply_bytes r → length (reply_bytes r) ≤ max_reply → is_load q.body ≡ b
+    → OneAnswered limit reading old new s (record { held = held; unsent = unsent; answered = s.answered + 1; refused = s.refused }) b
+next_answered limit reading old new s held unsent q r b g l c f e t u w is = (
   record { request = q; reply = r },
-  record { goes_on = g; below = b; few = c; fit = f; short = l; first = e; after = ap (λ y. record s { held = held; unsent = y; answered = s.answered + 1 }) u },
+  record { goes_on = g; below = l; few = c; fit = f; short = w; first = e; after = ap (λ y. record s { held = held; unsent = y; answered = s.answered + 1 }) u },
   (new, t, refl),
+  is,
 )
+
+-- what is told after a reply is that this request was answered
+pub next_told : (limit : ℕ) (reading : Reading) (old new : ServiceState) (s now : ConnectionState) (b : Bool) → OneAnswered limit reading old new s now b
+    → NextSo limit reading old new s now (after_reply b)
+next_told limit reading old new s now true h = h
+next_told limit reading old new s now false h = h
+
+-- behind a reply something is unsent
+pub reply_unsent : (limit : ℕ) (s now : ConnectionState) (x : Exchange) → Answers limit s x now → now.unsent ≢ []
+reply_unsent limit s now x h e = let none = behind_nothing s.unsent (reply_bytes x.reply) (sym (ap (λ (t : ConnectionState). t.unsent) h.after) ∙ e) in cc
 
 -- a connection on which a request was answered has refused no faulty frame
 pub stays_open : (limit : ℕ) (s now : ConnectionState) (x : Exchange) → Answers limit s x now → now.refused ≡ false
@@ -48,16 +62,25 @@ module _ (limit : ℕ) (reading : Reading) (old : ServiceState) (before : Connec
     as_before : new ≡ mid → AreAnswers limit reading old new before s events
     as_before e = record { happen = a.happen; run = subst (λ (t : ServiceState). IsHistory reading old (exchanges events) t) (sym e) a.run; none_came = a.none_came; none_sent = a.none_sent }
 
-    -- where nothing further is answered, for any reason, what was answered before is all until this stop
-    pub answers_stop : (stop : Stop) → NextSo limit reading mid new s now (Err stop) → AnswersSo limit reading old new before now stop
-    answers_stop Refused n = (
+    -- where nothing further is answered, for any reason, what was answered before is all until this stop, and the load that is answered last
+    pub answers_stop : (stop : Stop) → loads events ≡ 0 → NextSo limit reading mid new s now (Err stop) → AnswersSo limit reading old new before now stop
+    answers_stop Loaded none n = (
+      events ++ answers n.0 ∷ [],
+      now,
+      answers_more n.0 n.1 n.2,
+      reply_unsent limit s now n.0 n.1,
+      refl,
+      loads-more events n.0 0 true n.3 none,
+    )
+    answers_stop Refused none n = (
       events ++ refuses ∷ [],
       now,
       one_more refuses refl refl (happen-more limit before s now events refuses a.happen n.1) n.0,
       (ap (λ (t : ConnectionState). t.refused) n.1.after, λ e. (let none = behind_nothing s.unsent (reply_bytes malformed_reply) (sym (ap (λ (t : ConnectionState). t.unsent) n.1.after) ∙ e) in cc)),
       refl,
+      loads-both events (refuses ∷ []) ∙ ap (λ m. m + 0) none,
     )
-    answers_stop NeedsBytes n = (events, s, as_before n.0, n.1, n.2)
-    answers_stop Full n = (events, s, as_before n.0, n.1, n.2)
-    answers_stop NoMemory n = (events, s, as_before n.0, n.1, n.2)
-    answers_stop TooManyFrames n = (events, s, as_before n.0, n.1, n.2)
+    answers_stop NeedsBytes none n = (events, s, as_before n.0, n.1, n.2, none)
+    answers_stop Full none n = (events, s, as_before n.0, n.1, n.2, none)
+    answers_stop NoMemory none n = (events, s, as_before n.0, n.1, n.2, none)
+    answers_stop TooManyFrames none n = (events, s, as_before n.0, n.1, n.2, none)

@@ -1,9 +1,9 @@
 -- Events one after another.
-use Rattle.std.proofs.Common.{◌≡◌, ℕ, List, [], ◌∷◌, ◌++◌, map, refl, sym, ◌∙◌, ap, subst, append_assoc, append-nil}
-use Rattle.std.specs.Prelude.{flat_map}
+use Rattle.std.proofs.Common.{◌≡◌, ℕ, ◌+◌, List, [], ◌∷◌, ◌++◌, Bool, true, false, cond, length, map, refl, sym, ◌∙◌, ap, subst, append_assoc, append-nil, length-append}
+use Rattle.std.specs.Prelude.{flat_map, filter}
 use Rattle.compose_machine.specs.Machine.{ServiceState, Reading}
-use Rattle.compose_machine.specs.Laws.{Exchange, IsHistory}
-use Rattle.compose_many.specs.Connection.{ConnectionState, Event, Happens, AllHappen, exchange_of, exchanges}
+use Rattle.compose_machine.specs.Laws.{Exchange, IsHistory, is_load}
+use Rattle.compose_many.specs.Connection.{ConnectionState, Event, answers, Happens, AllHappen, exchange_of, exchanges, loads}
 
 -- of two lists that are empty together, the second is empty
 pub behind_nothing : (xs ys : List ℕ) → xs ++ ys ≡ [] → ys ≡ []
@@ -23,6 +23,34 @@ flat-more f xs x = flat-both f xs (x ∷ []) ∙ ap (λ r. flat_map f xs ++ r) (
 pub map-both : {X Y : Type 0} (f : X → Y) (xs ys : List X) → map f (xs ++ ys) ≡ map f xs ++ map f ys
 map-both f [] ys = refl
 map-both f (x ∷ xs) ys = ap (λ r. f x ∷ r) (map-both f xs ys)
+
+-- the elements of two lists that are kept are those of the first, and then those of the second
+pub filter-both : {X : Type 0} (p : X → Bool) (xs ys : List X) → filter p (xs ++ ys) ≡ filter p xs ++ filter p ys
+filter-both p [] ys = refl
+filter-both p (x ∷ xs) ys = kept (p x) ∙ ap (λ zs. cond (p x) (x ∷ zs) zs) (filter-both p xs ys) ∙ sym (moved (p x))
+  where
+    kept : (b : Bool) → cond b (x ∷ filter p (xs ++ ys)) (filter p (xs ++ ys)) ≡ cond b (x ∷ filter p (xs ++ ys)) (filter p (xs ++ ys))
+    kept b = refl
+
+    moved : (b : Bool) → cond b (x ∷ filter p xs) (filter p xs) ++ filter p ys ≡ cond b (x ∷ (filter p xs ++ filter p ys)) (filter p xs ++ filter p ys)
+    moved true = refl
+    moved false = refl
+
+-- the loads of both are those of the first and those of the second
+pub loads-both : (es fs : List Event) → loads (es ++ fs) ≡ loads es + loads fs
+loads-both es fs =
+    ap (λ (h : List Exchange). length (filter (λ (x : Exchange). is_load x.request.body) h)) (flat-both exchange_of es fs)
+    ∙ ap (λ (h : List Exchange). length h) (filter-both (λ (x : Exchange). is_load x.request.body) (exchanges es) (exchanges fs))
+    ∙ length-append (filter (λ (x : Exchange). is_load x.request.body) (exchanges es)) (filter (λ (x : Exchange). is_load x.request.body) (exchanges fs))
+
+-- one more request that is answered is one more load where it is one
+pub loads-more : (es : List Event) (x : Exchange) (n : ℕ) (b : Bool) → is_load x.request.body ≡ b → loads es ≡ n → loads (es ++ answers x ∷ []) ≡ n + cond b 1 0
+loads-more es x n b l e =
+    loads-both es (answers x ∷ []) ∙ ap (λ m. m + loads (answers x ∷ [])) e ∙ ap (λ m. n + m) (one (is_load x.request.body) ∙ ap (λ c. cond c 1 0) l)
+  where
+    one : (c : Bool) → length (cond c (x ∷ []) []) ≡ cond c 1 0
+    one true = refl
+    one false = refl
 
 pub history-both : (reading : Reading) (old mid new : ServiceState) (g h : List Exchange) → IsHistory reading old g mid → IsHistory reading mid h new → IsHistory reading old (g ++ h) new
 history-both reading old mid new [] h a b = subst (λ (s : ServiceState). IsHistory reading s h new) a b

@@ -4,3 +4,5 @@ pub mod Turning
 pub mod Own
 pub mod Serving
 pub mod Ending
+pub mod OneOfMany
+pub mod TwoLists

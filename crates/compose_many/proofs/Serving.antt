@@ -4,7 +4,7 @@ use Rattle.std.specs.Prelude.{◌==◌, filter}
 use Rattle.compose_machine.specs.Laws.{IsHistory}
 use Rattle.compose_many.specs.Connection.{ConnectionState, Event, AllHappen, exchanges}
 use Rattle.compose_many.specs.Service.{NumberedEvent, events_of, numbered, EachHasItsOwn, TurnsAreServed, ServedOneAfterAnother}
-use Rattle.compose_many.proofs.Happening.{map-both, run-both, happen-both}
+use Rattle.compose_many.proofs.Happening.{filter-both, map-both, run-both, happen-both}
 use Rattle.compose_many.proofs.Own.{has_its_own}
 
 -- each connection has the replies to its own requests alone, whatever happens on others
@@ -18,7 +18,7 @@ without_numbers : (c : ℕ) (events : List Event) → map (λ (e : NumberedEvent
 without_numbers c [] = refl
 without_numbers c (e ∷ events) = ap (λ es. e ∷ es) (without_numbers c events)
 
-those_of : (c d : ℕ) (events : List Event) → c == d ≡ true → events_of d (numbered c events) ≡ events
+pub those_of : (c d : ℕ) (events : List Event) → c == d ≡ true → events_of d (numbered c events) ≡ events
 those_of c d [] h = refl
 those_of c d (e ∷ events) h =
     ap
@@ -27,7 +27,7 @@ those_of c d (e ∷ events) h =
     (filter (λ (e : NumberedEvent). e.connection == d) (numbered c events)))) h
     ∙ ap (λ es. e ∷ es) (those_of c d events h)
 
-none_of : (c d : ℕ) (events : List Event) → c == d ≡ false → events_of d (numbered c events) ≡ []
+pub none_of : (c d : ℕ) (events : List Event) → c == d ≡ false → events_of d (numbered c events) ≡ []
 none_of c d [] h = refl
 none_of c d (e ∷ events) h =
     ap
@@ -55,18 +55,7 @@ turns_are_served limit reading old new before after events c happen run others =
 
 -- ---- one after the other
 
-filter-both : {X : Type 0} (p : X → Bool) (xs ys : List X) → filter p (xs ++ ys) ≡ filter p xs ++ filter p ys
-filter-both p [] ys = refl
-filter-both p (x ∷ xs) ys = kept (p x) ∙ ap (λ zs. cond (p x) (x ∷ zs) zs) (filter-both p xs ys) ∙ sym (moved (p x))
-  where
-    kept : (b : Bool) → cond b (x ∷ filter p (xs ++ ys)) (filter p (xs ++ ys)) ≡ cond b (x ∷ filter p (xs ++ ys)) (filter p (xs ++ ys))
-    kept b = refl
-
-    moved : (b : Bool) → cond b (x ∷ filter p xs) (filter p xs) ++ filter p ys ≡ cond b (x ∷ (filter p xs ++ filter p ys)) (filter p xs ++ filter p ys)
-    moved true = refl
-    moved false = refl
-
-events_of-both : (c : ℕ) (first second : List NumberedEvent) → events_of c (first ++ second) ≡ events_of c first ++ events_of c second
+pub events_of-both : (c : ℕ) (first second : List NumberedEvent) → events_of c (first ++ second) ≡ events_of c first ++ events_of c second
 events_of-both c first second =
     ap (λ es. map (λ (e : NumberedEvent). e.event) es) (filter-both (λ (e : NumberedEvent). e.connection == c) first second)
     ∙ map-both (λ (e : NumberedEvent). e.event) (filter (λ (e : NumberedEvent). e.connection == c) first) (filter (λ (e : NumberedEvent). e.connection == c) second)

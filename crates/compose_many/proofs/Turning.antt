@@ -7,17 +7,17 @@ use Rattle.compose_wire.specs.Frames.{frame, IsBegun}
 use Rattle.compose_machine.specs.Machine.{ServiceState, Reading}
 use Rattle.compose_serve.specs.declared.ends.Ended.TheVariants.{InputEnd}
 use Rattle.compose_serve.specs.declared.ends.ServeFault.TheVariants.{Read, Write, Cut, NoMemory as EndsNoMemory}
-use Rattle.compose_many.specs.Connection.{ConnectionState, Event, receives, answers, refuses, sends, AllHappen, max_piece, Receives, Sends, piece_of, sent_of, received, sent}
+use Rattle.compose_many.specs.Connection.{ConnectionState, Event, receives, answers, refuses, sends, AllHappen, max_piece, loads, Receives, Sends, piece_of, sent_of, received, sent}
 use Rattle.compose_many.specs.Ends.{IsQuiet}
-use Rattle.compose_many.specs.Steps.{StopsSo, KeptSo, AreAnswers, SendsSo, IsRoomFor, ReadsSo}
-use Rattle.compose_many.specs.Turns.{IsTurn, Moves, IsIdle, FollowsSo}
+use Rattle.compose_many.specs.Steps.{StopsSo, KeptSo, loads_before, AreAnswers, SendsSo, IsRoomFor, ReadsSo, behind_answers}
+use Rattle.compose_many.specs.Turns.{IsTurn, Moves, IsIdle, FollowsSo, IsShort, loads_in}
 use Rattle.compose_many.specs.declared.connection.Stop.{Stop}
-use Rattle.compose_many.specs.declared.connection.Stop.TheVariants.{NeedsBytes, Full, Refused, NoMemory, TooManyFrames}
+use Rattle.compose_many.specs.declared.connection.Stop.TheVariants.{Loaded, NeedsBytes, Full, Refused, NoMemory, TooManyFrames}
 use Rattle.compose_many.specs.Streams.{is_failed}
 use Rattle.compose_many.specs.declared.streams.TryError.{TryError}
 use Rattle.compose_many.specs.declared.turn.Turn.{Turn}
-use Rattle.compose_many.specs.declared.turn.Turn.TheVariants.{GoesOn, Waits, NeedsRoom, Ends}
-use Rattle.compose_many.proofs.Happening.{behind_nothing, flat-both, flat-more, run-both, happen-both}
+use Rattle.compose_many.specs.declared.turn.Turn.TheVariants.{GoesOn, Loaded as LoadedThen, Waits, NeedsRoom, Ends}
+use Rattle.compose_many.proofs.Happening.{behind_nothing, flat-both, flat-more, loads-both, run-both, happen-both}
 
 -- the events of a turn, and those of another from where it leads, are the events of one turn
 pub turn_then : (limit : ℕ) (reading : Reading) (old mid new : ServiceState) (a b c : ConnectionState) (left left' left'' written written' written'' : Option (List ℕ)) (es fs : List Event)
@@ -83,6 +83,11 @@ holds_no_more limit most reading old new before mid after bytes events s a h =
     let grows = held_grows limit mid after events a.happen in
     omega arith
 
+-- a piece for which there was room is no longer than a piece may be
+pub few_bytes : (most : ℕ) (held piece : List ℕ) → IsRoomFor most held piece → length piece ≤ max_piece
+few_bytes most held piece (inl e) = let none : length piece ≡ 0 = ap length e in omega arith
+few_bytes most held piece (inr r) = r.1
+
 -- sending holds no more than was held before
 pub sent_holds_no_more : (most : ℕ) (before after : ConnectionState) (bytes : List ℕ) → Sends before bytes after → length before.held < most → length after.held < most
 sent_holds_no_more most before after bytes s h = let sent : length after.held ≡ length before.held = ap (λ (t : ConnectionState). length t.held) s.after in omega arith
@@ -114,9 +119,28 @@ pub moves : (before mid after : ConnectionState) (bytes : List ℕ) (events : Li
 moves before mid after [] events s e n = inr (inr (λ same. n (same ∙ s.first ∙ e)))
 moves before mid after (b ∷ bytes) events s e n = inl (λ none. cc)
 
+-- a turn that answered requests until it stopped so goes on, and tells the load
+pub loads_behind : (stop : Stop) → loads_before stop ≡ loads_in (behind_answers stop)
+loads_behind Loaded = refl
+loads_behind NeedsBytes = refl
+loads_behind Full = refl
+loads_behind Refused = refl
+loads_behind NoMemory = refl
+loads_behind TooManyFrames = refl
+
+pub follows_answers : (most : ℕ) (stop : Stop) (before after now : ConnectionState) (events : List Event) (left' : Option (List ℕ)) (read_mark write_mark : Option TryError) → now ≡ after
+    → Moves before events after → FollowsSo most (behind_answers stop) before events after now left' read_mark write_mark
+follows_answers most Loaded before after now events left' read_mark write_mark e m = (e, m)
+follows_answers most NeedsBytes before after now events left' read_mark write_mark e m = (e, m)
+follows_answers most Full before after now events left' read_mark write_mark e m = (e, m)
+follows_answers most Refused before after now events left' read_mark write_mark e m = (e, m)
+follows_answers most NoMemory before after now events left' read_mark write_mark e m = (e, m)
+follows_answers most TooManyFrames before after now events left' read_mark write_mark e m = (e, m)
+
 -- where something is unsent, no frame was given up
 pub is_kept : (stop : Stop) (after now : ConnectionState) → KeptSo stop after now → now.unsent ≢ [] → now ≡ after
 is_kept TooManyFrames after now k n = absurd (n k)
+is_kept Loaded after now k n = k
 is_kept NeedsBytes after now k n = k
 is_kept Full after now k n = k
 is_kept Refused after now k n = k
@@ -145,6 +169,7 @@ module _ (most : ℕ) (s now : ConnectionState) (piece : List ℕ) (left' : Opti
   pub follows_read : (turn : Turn) (before : ConnectionState) (events : List Event) → ReadsSo most turn s piece now left' read_mark
       → FollowsSo most turn before (events ++ receives piece ∷ []) with_piece now left' read_mark write_mark
   follows_read GoesOn before events h = (h.1, inr (inl (λ e. h.0 (behind_nothing (received events) piece (sym (flat-more piece_of events (receives piece)) ∙ e)))))
+  follows_read LoadedThen before events h = absurd h
   follows_read Waits before events h = (h.2 ∙ nothing_came h.1, inr (h.0, idle h.2))
   follows_read NeedsRoom before events h = (h.1 ∙ nothing_came h.0, subst (λ (t : ConnectionState). most ≤ length t.held) (sym h.1) h.2, idle h.1)
   follows_read (Ends (Ok InputEnd)) before events h = (h.1, held_is h.0 ∙ h.2, quiet_then)
@@ -165,6 +190,44 @@ turn_on limit reading old new before mid after left written written' bytes event
     turn_then limit reading old old new before mid after left left left written written' written' (sends bytes ∷ []) events (turn_sent limit reading old before mid left written written' bytes s w)
     (turn_answered limit reading old mid after new left written' events a)
 
+-- ---- a turn has little to do
+
+module _ (turn : Turn) (bytes : List ℕ) where
+  -- where bytes were sent and nothing else happened
+  pub short_sent : loads_in turn ≡ 0 → IsShort turn (sends bytes ∷ [])
+  short_sent e = record { piece = omega arith; load = sym e }
+
+  module _ (limit : ℕ) (reading : Reading) (old new : ServiceState) (before after : ConnectionState) (events : List Event) (a : AreAnswers limit reading old new before after events) where
+    -- where bytes were sent and then requests answered
+    pub short_answered : loads events ≡ loads_in turn → IsShort turn (sends bytes ∷ events)
+    short_answered e = record { piece = (let none : length (received events) ≡ 0 = ap length a.none_came in omega arith); load = e }
+
+    came : (piece : List ℕ) → received ((sends bytes ∷ events) ++ receives piece ∷ []) ≡ piece
+    came piece = flat-more piece_of (sends bytes ∷ events) (receives piece) ∙ ap (λ l. l ++ piece) a.none_came
+
+    -- and then a piece for which there was room came
+    pub short_read : (most : ℕ) (held piece : List ℕ) → IsRoomFor most held piece → loads events ≡ 0 → loads_in turn ≡ 0 → IsShort turn ((sends bytes ∷ events) ++ receives piece ∷ [])
+    short_read most held piece room e f = record {
+      piece = (let same : length (received ((sends bytes ∷ events) ++ receives piece ∷ [])) ≡ length piece = ap length (came piece) in let few = few_bytes most held piece room in omega arith);
+      load = loads-both (sends bytes ∷ events) (receives piece ∷ []) ∙ ap (λ m. m + 0) e ∙ sym f;
+    }
+
+-- sending is no load
+pub sent_loads : (turn : Turn) (bytes : List ℕ) (now : ConnectionState) (mark : Option TryError) → SendsSo (Some turn) bytes now mark → loads_in turn ≡ 0
+sent_loads LoadedThen bytes now mark h = absurd h
+sent_loads GoesOn bytes now mark h = refl
+sent_loads Waits bytes now mark h = refl
+sent_loads NeedsRoom bytes now mark h = refl
+sent_loads (Ends end) bytes now mark h = refl
+
+-- reading is no load
+pub read_loads : (turn : Turn) (most : ℕ) (s s' : ConnectionState) (piece : List ℕ) (left' : Option (List ℕ)) (mark : Option TryError) → ReadsSo most turn s piece s' left' mark → loads_in turn ≡ 0
+read_loads LoadedThen most s s' piece left' mark h = absurd h
+read_loads GoesOn most s s' piece left' mark h = refl
+read_loads Waits most s s' piece left' mark h = refl
+read_loads NeedsRoom most s s' piece left' mark h = refl
+read_loads (Ends end) most s s' piece left' mark h = refl
+
 -- a connection on which nothing is unsent and no faulty frame was refused is quiet
 pub is_quiet : (after now : ConnectionState) → now ≡ after → now.unsent ≡ [] → after.refused ≡ false → IsQuiet after
 is_quiet after now e u r = record { sent = ap (λ (t : ConnectionState). t.unsent) (sym e) ∙ u; goes_on = r }
@@ -178,16 +241,20 @@ none_left (y ∷ xs) ys b t e x = let z : length (y ∷ xs) ≡ 0 = eqb-true (le
 pub some_left : (xs ys : List ℕ) (b : Bool) → b ≡ false → b ≡ (length xs == 0) → xs ≡ ys → ys ≢ []
 some_left xs ys b t e x n = let z : false ≡ true = sym t ∙ e ∙ eq-eqb (length xs) 0 (ap length (x ∙ n)) in cc
 
--- where nothing is unsent, neither the limit is reached nor a faulty frame was refused just now
-pub not_full : (limit : ℕ) (stop : Stop) (after now : ConnectionState) → 0 < limit → (stop ≡ Full) ⊎ (stop ≡ Refused) → StopsSo limit stop after → KeptSo stop after now → now.unsent ≡ [] → ⊥
+-- where nothing is unsent, neither the limit is reached nor was a faulty frame refused or a load answered just now
+pub not_full : (limit : ℕ) (stop : Stop) (after now : ConnectionState) → 0 < limit → (stop ≡ Full) ⊎ ((stop ≡ Refused) ⊎ (stop ≡ Loaded)) → StopsSo limit stop after → KeptSo stop after now → now.unsent ≡ [] → ⊥
 not_full limit Full after now some is (inl s) k u =
     let none : length after.unsent ≡ 0 = ap (λ (t : ConnectionState). length t.unsent) (sym k) ∙ ap length u in
     absurd (omega arith)
 not_full limit Full after now some is (inr s) k u = s (ap (λ (t : ConnectionState). t.unsent) (sym k) ∙ u)
+not_full limit Loaded after now some is s k u = s (ap (λ (t : ConnectionState). t.unsent) (sym k) ∙ u)
 not_full limit Refused after now some is s k u = s.1 (ap (λ (t : ConnectionState). t.unsent) (sym k) ∙ u)
 not_full limit NeedsBytes after now some (inl e) s k u = cc
-not_full limit NeedsBytes after now some (inr e) s k u = cc
+not_full limit NeedsBytes after now some (inr (inl e)) s k u = cc
+not_full limit NeedsBytes after now some (inr (inr e)) s k u = cc
 not_full limit NoMemory after now some (inl e) s k u = cc
-not_full limit NoMemory after now some (inr e) s k u = cc
+not_full limit NoMemory after now some (inr (inl e)) s k u = cc
+not_full limit NoMemory after now some (inr (inr e)) s k u = cc
 not_full limit TooManyFrames after now some (inl e) s k u = cc
-not_full limit TooManyFrames after now some (inr e) s k u = cc
+not_full limit TooManyFrames after now some (inr (inl e)) s k u = cc
+not_full limit TooManyFrames after now some (inr (inr e)) s k u = cc

@@ -1,9 +1,9 @@
 -- A connection: what is kept of it, and what is done on it (this project's profile).
-use Rattle.std.specs.Prelude.{◌≡◌, ℕ, ◌+◌, ◌<◌, ◌≤◌, Bool, true, false, List, [], ◌∷◌, ◌++◌, length, map, flat_map, IsSome}
+use Rattle.std.specs.Prelude.{◌≡◌, ℕ, ◌+◌, ◌<◌, ◌≤◌, Bool, true, false, List, [], ◌∷◌, ◌++◌, length, map, flat_map, filter, IsSome}
 use Rattle.std.specs.List.{AllByRecursion}
 use Rattle.compose_wire.specs.Messages.{Request, Fits, Reply}
 use Rattle.compose_wire.specs.Frames.{frame, frames, reply_bytes, fault_at}
-use Rattle.compose_machine.specs.Laws.{Exchange}
+use Rattle.compose_machine.specs.Laws.{Exchange, is_load}
 use Rattle.compose_serve.specs.Ends.{max_frames, replies_bytes, malformed_reply}
 
 -- the bytes that came and are not answered, the bytes of replies that are not sent, how many requests were answered, and whether a
@@ -102,6 +102,10 @@ replies events = map (λ x. x.reply) (exchanges events)
 
 abbrev pub sent : List Event → List ℕ
 sent events = flat_map sent_of events
+
+-- how many loads were answered
+abbrev pub loads : List Event → ℕ
+loads events = length (filter (λ x. is_load x.request.body) (exchanges events))
 
 -- the reply to a faulty frame, where one was refused
 abbrev pub refusal : Bool → List Reply

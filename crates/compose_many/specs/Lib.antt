@@ -4,3 +4,5 @@ pub mod Ends
 pub mod Steps
 pub mod Turns
 pub mod Service
+pub mod Numbered
+pub mod Table

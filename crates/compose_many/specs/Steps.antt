@@ -1,25 +1,25 @@
 -- The parts of a turn: answering what is held, sending what is unsent, and reading a piece.
-use Rattle.std.specs.Prelude.{◌≡◌, ◌≢◌, ℕ, ◌+◌, ◌<◌, ◌≤◌, true, false, List, [], ◌∷◌, ◌++◌, length, Option, Some, None, Result, Ok, Err, IsSome, ⊤, ◌⊎◌}
+use Rattle.std.specs.Prelude.{◌≡◌, ◌≢◌, ℕ, ◌+◌, ◌<◌, ◌≤◌, Bool, true, false, List, [], ◌∷◌, ◌++◌, length, Option, Some, None, Result, Ok, Err, IsSome, ⊤, ◌⊎◌}
 use Rattle.std.specs.Io.KnownBytes.{IsAtEnd}
 use Rattle.compose_wire.specs.Messages.{Fits}
 use Rattle.compose_wire.specs.Requests.{request_of}
 use Rattle.compose_wire.specs.declared.request.Request.{Request}
 use Rattle.compose_wire.specs.Frames.{frame, fault_at, BeginsWithFrame, IsBegun}
 use Rattle.compose_machine.specs.Machine.{ServiceState, Reading}
-use Rattle.compose_machine.specs.Laws.{Exchange, IsHistory}
+use Rattle.compose_machine.specs.Laws.{Exchange, IsHistory, is_load}
 use Rattle.compose_serve.specs.Ends.{max_frames}
 use Rattle.compose_serve.specs.declared.ends.Ended.{Ended}
 use Rattle.compose_serve.specs.declared.ends.Ended.TheVariants.{InputEnd}
 use Rattle.compose_serve.specs.declared.ends.ServeFault.{ServeFault}
 use Rattle.compose_serve.specs.declared.ends.ServeFault.TheVariants.{Read, Write, Cut, NoMemory as EndsNoMemory}
-use Rattle.compose_many.specs.Connection.{ConnectionState, Event, Answers, AllHappen, Refuses, received, exchanges, sent, max_reply, max_piece}
+use Rattle.compose_many.specs.Connection.{ConnectionState, Event, Answers, AllHappen, Refuses, received, exchanges, sent, loads, max_reply, max_piece}
 use Rattle.compose_many.specs.Ends.{IsQuiet}
 use Rattle.compose_many.specs.declared.connection.Stop.{Stop}
-use Rattle.compose_many.specs.declared.connection.Stop.TheVariants.{NeedsBytes, Full, Refused, NoMemory, TooManyFrames}
+use Rattle.compose_many.specs.declared.connection.Stop.TheVariants.{Loaded, NeedsBytes, Full, Refused, NoMemory, TooManyFrames}
 use Rattle.compose_many.specs.declared.streams.TryError.{TryError}
 use Rattle.compose_many.specs.declared.streams.TryError.TheVariants.{WouldBlock, Failed}
 use Rattle.compose_many.specs.declared.turn.Turn.{Turn}
-use Rattle.compose_many.specs.declared.turn.Turn.TheVariants.{GoesOn, Waits, NeedsRoom, Ends}
+use Rattle.compose_many.specs.declared.turn.Turn.TheVariants.{GoesOn, Loaded as LoadedThen, Waits, NeedsRoom, Ends}
 
 -- the request that was given out of the held bytes, or why there is none
 abbrev pub ComesSo : Result Request Stop → List ℕ → List ℕ → Type 0
@@ -37,6 +37,7 @@ HasRoom (Err _) len capacity = ⊤
 
 -- why no further request is answered: what stands on the connection then
 abbrev pub StopsSo : ℕ → Stop → ConnectionState → Type 0
+StopsSo limit Loaded now = now.unsent ≢ []
 StopsSo limit NeedsBytes now = IsBegun now.held × (now.refused ≡ false)
 StopsSo limit Full now = (limit ≤ length now.unsent) ⊎ (now.unsent ≢ [])
 StopsSo limit Refused now = (now.refused ≡ true) × (now.unsent ≢ [])
@@ -48,9 +49,20 @@ abbrev pub KeptSo : Stop → ConnectionState → ConnectionState → Type 0
 KeptSo TooManyFrames after now = now.unsent ≡ []
 KeptSo _ after now = now ≡ after
 
--- one request was answered; or none was, and a faulty frame may have been refused
+-- how many loads were answered where it stops so
+abbrev pub loads_before : Stop → ℕ
+loads_before Loaded = 1
+loads_before _ = 0
+
+-- what follows a reply, where it is one to a load and where not
+abbrev pub after_reply : Bool → Result (Unit {0}) Stop
+after_reply true = Err Loaded
+after_reply false = Ok tt
+
+-- one request was answered, a load only where it says so; or none was, and a faulty frame may have been refused
 abbrev pub NextSo : ℕ → Reading → ServiceState → ServiceState → ConnectionState → ConnectionState → Result (Unit {0}) Stop → Type 0
-NextSo limit reading old new before now (Ok _) = (x : Exchange) × Answers limit before x now × IsHistory reading old (x ∷ []) new
+NextSo limit reading old new before now (Ok _) = (x : Exchange) × Answers limit before x now × IsHistory reading old (x ∷ []) new × (is_load x.request.body ≡ false)
+NextSo limit reading old new before now (Err Loaded) = (x : Exchange) × Answers limit before x now × IsHistory reading old (x ∷ []) new × (is_load x.request.body ≡ true)
 NextSo limit reading old new before now (Err Refused) = (new ≡ old) × Refuses limit before now
 NextSo limit reading old new before now (Err stop) = (new ≡ old) × StopsSo limit stop before × KeptSo stop before now
 
@@ -64,7 +76,7 @@ pub record AreAnswers (limit : ℕ) (reading : Reading) (old new : ServiceState)
 -- what is answered until it stops
 abbrev pub AnswersSo : ℕ → Reading → ServiceState → ServiceState → ConnectionState → ConnectionState → Stop → Type 0
 AnswersSo limit reading old new before now stop =
-    (events : List Event) × (after : ConnectionState) × AreAnswers limit reading old new before after events × StopsSo limit stop after × KeptSo stop after now
+    (events : List Event) × (after : ConnectionState) × AreAnswers limit reading old new before after events × StopsSo limit stop after × KeptSo stop after now × (loads events ≡ loads_before stop)
 
 -- all is sent, or why not
 abbrev pub SendsSo : Option Turn → List ℕ → ConnectionState → Option TryError → Type 0
@@ -73,6 +85,11 @@ SendsSo (Some GoesOn) bytes now mark' = bytes ≢ []
 SendsSo (Some Waits) bytes now mark' = (mark' ≡ Some WouldBlock) × (now.unsent ≢ [])
 SendsSo (Some (Ends (Err Write))) bytes now mark' = (mark' ≡ Some Failed) × (now.unsent ≢ [])
 SendsSo (Some _) bytes now mark' = ⊥
+
+-- what follows a turn in which requests were answered until it stopped so
+abbrev pub behind_answers : Stop → Turn
+behind_answers Loaded = LoadedThen
+behind_answers _ = GoesOn
 
 -- how a connection ends at the end of the input, where so many bytes are held
 abbrev pub EndsAt : ℕ → Result Ended ServeFault → Type 0
@@ -87,6 +104,7 @@ IsRoomFor most held piece = (piece ≡ []) ⊎ ((length held < most) × (length 
 -- a piece is read, or why there is none
 abbrev pub ReadsSo : ℕ → Turn → ConnectionState → List ℕ → ConnectionState → Option (List ℕ) → Option TryError → Type 0
 ReadsSo most GoesOn s piece s' left' mark' = (piece ≢ []) × (s' ≡ record s { held = s.held ++ piece })
+ReadsSo most LoadedThen s piece s' left' mark' = ⊥
 ReadsSo most Waits s piece s' left' mark' = (mark' ≡ Some WouldBlock) × (piece ≡ []) × (s' ≡ s)
 ReadsSo most NeedsRoom s piece s' left' mark' = (piece ≡ []) × (s' ≡ s) × (most ≤ length s.held)
 ReadsSo most (Ends (Ok InputEnd)) s piece s' left' mark' = (piece ≡ []) × IsAtEnd left' × (s.held ≡ [])

@@ -4,14 +4,14 @@ use Rattle.std.specs.Io.KnownBytes.{Consumes, Appends}
 use Rattle.compose_wire.specs.Frames.{IsBegun}
 use Rattle.compose_machine.specs.Machine.{ServiceState, Reading}
 use Rattle.compose_machine.specs.Laws.{IsHistory}
-use Rattle.compose_many.specs.Connection.{ConnectionState, Event, AllHappen, received, exchanges, sent, max_piece}
+use Rattle.compose_many.specs.Connection.{ConnectionState, Event, AllHappen, received, exchanges, sent, loads, max_piece}
 use Rattle.compose_many.specs.Ends.{IsQuiet, EndsSo}
 use Rattle.compose_many.specs.Streams.{is_failed}
 use Rattle.compose_many.specs.declared.streams.TryError.{TryError}
 use Rattle.compose_many.specs.declared.streams.TryError.TheVariants.{WouldBlock}
 use Rattle.compose_many.specs.declared.turn.Limits.{Limits}
 use Rattle.compose_many.specs.declared.turn.Turn.{Turn}
-use Rattle.compose_many.specs.declared.turn.Turn.TheVariants.{GoesOn, Waits, NeedsRoom, Ends}
+use Rattle.compose_many.specs.declared.turn.Turn.TheVariants.{GoesOn, Loaded, Waits, NeedsRoom, Ends}
 
 -- what a turn reads and writes is what comes and is sent in these events, and the service goes on by their exchanges
 pub record IsTurn (limit : ℕ) (reading : Reading) (old new : ServiceState) (before after : ConnectionState) (left left' written written' : Option (List ℕ)) (events : List Event) : Type 0 where
@@ -32,14 +32,26 @@ IsIdle now = IsBegun now.held × IsQuiet now
 -- the writer takes nothing for now, or the reader gives nothing and there is nothing to do; or it ends so
 abbrev pub FollowsSo : ℕ → Turn → ConnectionState → List Event → ConnectionState → ConnectionState → Option (List ℕ) → Option TryError → Option TryError → Type 0
 FollowsSo most GoesOn before events after now left' read_mark write_mark = (now ≡ after) × Moves before events after
+FollowsSo most Loaded before events after now left' read_mark write_mark = (now ≡ after) × Moves before events after
 FollowsSo most Waits before events after now left' read_mark write_mark =
     (now ≡ after) × (((write_mark ≡ Some WouldBlock) × (now.unsent ≢ [])) ⊎ ((read_mark ≡ Some WouldBlock) × IsIdle now))
 FollowsSo most NeedsRoom before events after now left' read_mark write_mark = (now ≡ after) × (most ≤ length now.held) × IsIdle now
 FollowsSo most (Ends end) before events after now left' read_mark write_mark = EndsSo end left' (is_failed read_mark) (is_failed write_mark) after
+
+-- how many loads a turn answers
+abbrev pub loads_in : Turn → ℕ
+loads_in Loaded = 1
+loads_in _ = 0
+
+-- a turn has little to do: a piece comes at most, and one load is answered where it says so, and else none
+pub record IsShort (turn : Turn) (events : List Event) : Type 0 where
+  pub piece : length (received events) ≤ max_piece
+  pub load : loads events ≡ loads_in turn
 
 -- a turn is events of its own connection; the limit 0 is as 1, and little is held where little was
 abbrev pub TurnSo : Limits → Reading → Turn → ServiceState → ServiceState → ConnectionState → ConnectionState
     → Option (List ℕ) → Option (List ℕ) → Option (List ℕ) → Option (List ℕ) → Option TryError → Option TryError → Type 0
 TurnSo limits reading turn old new before now left left' written written' read_mark write_mark =
     (events : List Event) × (after : ConnectionState) × IsTurn (max limits.unsent 1) reading old new before after left left' written written' events
-    × (length before.held < limits.held + max_piece → length after.held < limits.held + max_piece) × FollowsSo limits.held turn before events after now left' read_mark write_mark
+    × IsShort turn events × (length before.held < limits.held + max_piece → length after.held < limits.held + max_piece)
+    × FollowsSo limits.held turn before events after now left' read_mark write_mark

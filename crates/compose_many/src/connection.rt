@@ -1,10 +1,12 @@
 //! A connection: what came on it and is not answered, and what is not sent.
 ghost use Rattle.std.specs.Prelude.{◌≡◌, ◌≢◌, ◌+◌, ◌≤◌, ◌++◌, ℕ, List, [], false, length, take, drop, vec_len, vec_capacity, OnOk, OnErr};
+ghost use Rattle.compose_wire.specs.Requests.{request_of};
+ghost use Rattle.compose_machine.specs.Laws.{is_load};
 ghost use Rattle.compose_many.specs.Connection.{Sends, max_reply};
-ghost use Rattle.compose_many.specs.Steps.{ComesSo, HasRoom, NextSo, AnswersSo};
+ghost use Rattle.compose_many.specs.Steps.{ComesSo, HasRoom, NextSo, AnswersSo, after_reply};
 
 use compose_serve::Answer;
-use compose_wire::{Feeder, Request, WireFault, put_reply};
+use compose_wire::{Body, Feeder, Request, WireFault, put_reply};
 use std::alloc::Global;
 use std::marker::Model;
 
@@ -17,6 +19,8 @@ const MAX_REPLY: usize = 272;
 /// Why no further request of a connection is answered.
 #[derive(Clone, Copy)]
 pub(crate) enum Stop {
+    /// A load was answered.
+    Loaded,
     /// Less than a frame is held.
     NeedsBytes,
     /// What is unsent has to be sent first.
@@ -105,7 +109,7 @@ impl Connection {
         remove_prefix(&mut self.unsent, count);
     }
 
-    /// Answers the next request, or says why not; a faulty frame is refused.
+    /// Answers the next request, or says why not; a faulty frame is refused. After a load it says so.
     ///
     /// Room for the reply is taken first, so that no request is answered whose reply cannot be kept.
     fn answer_next<S: Answer>(
@@ -140,10 +144,10 @@ impl Connection {
         let reply = service.answer(alloc, &request);
         append(&mut self.unsent, put_reply(&reply).as_slice());
         self.answered += 1;
-        Ok(())
+        after_reply(&request)
     }
 
-    /// Answers the requests that are held, in order, while less than the limit is unsent.
+    /// Answers the requests that are held, in order, up to one load, while less than the limit is unsent.
     pub(crate) fn answer_held<S: Answer>(
         &mut self,
         service: &mut S,
@@ -160,6 +164,16 @@ impl Connection {
                 Err(stop) => return stop,
             }
         }
+    }
+}
+
+/// What follows the reply to a request: a load is told.
+fn after_reply(request: &Request) -> Result<(), Stop>
+    ensures { result ≡ after_reply (is_load (request_of request.now).body) }
+{
+    match &request.body {
+        Body::Load(_) | Body::LoadLongest(_) => Err(Stop::Loaded),
+        Body::Open | Body::Key(_) | Body::Reset | Body::Close | Body::Ask => Ok(()),
     }
 }
 

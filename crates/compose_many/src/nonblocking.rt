@@ -12,7 +12,8 @@ pub struct Nonblocking<D> {
 }
 
 impl<D> Nonblocking<D> {
-    ghost use Rattle.std.specs.Prelude.{◌≡◌, None, Some};
+    ghost use Rattle.std.specs.Prelude.{◌≡◌, ◌≢◌, None, Some};
+    ghost use Rattle.std.specs.IoError.{error_kind};
 
     /// A device that is not marked. O(1).
     pub fn new(inner: D) -> Nonblocking<D>
@@ -21,9 +22,12 @@ impl<D> Nonblocking<D> {
         Nonblocking { inner, mark: None }
     }
 
-    /// Marks it by what an error means: that it would wait, or that it failed.
+    /// Marks it by what an error means: that it would wait where the error says that, and else that it failed.
     fn stopped(&mut self, error: &Error) -> TryError
-        ensures { self.new ≡ record self.old { mark = Some result } }
+        ensures mark { self.new ≡ record self.old { mark = Some result } }
+        ensures waits { error_kind error.now ≡ ErrorKind.WouldBlock
+            → result ≡ TryError.WouldBlock }
+        ensures fails { error_kind error.now ≢ ErrorKind.WouldBlock → result ≡ TryError.Failed }
     {
         if error.kind() == ErrorKind::WouldBlock {
             self.marked(TryError::WouldBlock)

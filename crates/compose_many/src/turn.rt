@@ -2,11 +2,13 @@
 ghost use Rattle.std.specs.Prelude.{◌≡◌, ◌≢◌, ◌+◌, ◌<◌, ◌≤◌, ℕ, List, [], false, length, max, Err, Some};
 ghost use Rattle.std.specs.Io.KnownBytes.{Consumes, Appends};
 ghost use Rattle.compose_many.specs.Connection.{Sends};
-ghost use Rattle.compose_many.specs.Steps.{SendsSo, EndsAt, IsRoomFor, ReadsSo};
+ghost use Rattle.compose_many.specs.Steps.{SendsSo, EndsAt, IsRoomFor, ReadsSo, behind_answers};
 ghost use Rattle.compose_many.specs.Turns.{TurnSo};
+ghost use Rattle.compose_many.specs.Numbered.{OthersStay, ReaderStays, WriterStays};
 
 use crate::connection::{Connection, Stop};
-use crate::streams::{TryError, TryPull, TryPush};
+use crate::numbered::Streams;
+use crate::streams::TryError;
 use compose_serve::{Answer, Ended, ServeFault};
 use std::alloc::Global;
 
@@ -27,6 +29,8 @@ pub struct Limits {
 pub enum Turn {
     /// There may be more to do at once.
     GoesOn,
+    /// The same, after a load was answered.
+    Loaded,
     /// The stream gives no bytes for now, or takes none.
     Waits,
     /// As much is held as may be, and less than a frame: nothing was read.
@@ -35,35 +39,38 @@ pub enum Turn {
     Ends(Result<Ended, ServeFault>),
 }
 
-/// Sends what is unsent, answers what is held, and where all is answered and sent, reads a piece.
+/// Sends what is unsent, answers what is held up to one load, and where all is answered and sent, reads a piece.
 ///
-/// One push or none, and one pull or none. Nothing is answered once the limit of what may be unsent is reached, and nothing is read
-/// before all is sent. So fewer bytes are unsent than the limit and a reply have together.
+/// One push or none, and one pull or none, on the stream with this number alone. Nothing is answered once the limit of what may be
+/// unsent is reached or a load was answered, and nothing is read before all is sent. So fewer bytes are unsent than the limit and a
+/// reply have together; at most 4,096 bytes are read; and a load is answered only where Loaded is told, and then one.
 ///
-/// A connection ends as a stream does that `serve` serves: InputEnd and Cut come at the reader's end, without and with a part of a
-/// frame; Malformed once the reply to a faulty frame is sent; Read and Write where the device fails, Write with what is unsent
+/// A connection ends as a stream does that `serve` serves: InputEnd and Cut come at the stream's end, without and with a part of a
+/// frame; Malformed once the reply to a faulty frame is sent; Read and Write where the stream fails, Write with what is unsent
 /// missing; TooManyFrames where a whole frame follows the 16,777,216th; NoMemory for bytes that came. At all ends but Write every
 /// reply is sent. It is no error to call it after that, but nothing is said of it.
 ///
 /// Its cost is that of the answers, and linear in the bytes that it moves.
-pub fn take_turn<S: Answer, R: TryPull, W: TryPush>(
+pub fn turn_on<M: Streams, A: Answer>(
+    streams: &mut M,
     connection: &mut Connection,
-    service: &mut S,
+    service: &mut A,
     alloc: Global,
     limits: Limits,
-    reader: &mut R,
-    writer: &mut W,
+    number: u64,
 ) -> Turn
-    ensures turn { TurnSo limits S.reading result (S.state service.old)
-        (S.state service.new) connection.old connection.new (R.left reader.old)
-        (R.left reader.new) (W.written writer.old) (W.written writer.new) (R.mark reader.new)
-        (W.mark writer.new) }
+    ensures turn { TurnSo limits A.reading result (A.state service.old)
+        (A.state service.new) connection.old connection.new (M.stream streams.old number).left
+        (M.stream streams.new number).left (M.stream streams.old number).written
+        (M.stream streams.new number).written (M.stream streams.new number).read_mark
+        (M.stream streams.new number).write_mark }
     ensures read_mark { result ≢ Turn.Waits → result ≢ Turn.Ends (Err ServeFault.Read)
-        → R.mark reader.new ≡ R.mark reader.old }
+        → (M.stream streams.new number).read_mark ≡ (M.stream streams.old number).read_mark }
     ensures write_mark { result ≢ Turn.Waits → result ≢ Turn.Ends (Err ServeFault.Write)
-        → W.mark writer.new ≡ W.mark writer.old }
+        → (M.stream streams.new number).write_mark ≡ (M.stream streams.old number).write_mark }
+    ensures others { OthersStay number (M.stream streams.old) (M.stream streams.new) }
 {
-    if let Some(turn) = send(connection, writer) {
+    if let Some(turn) = send_on(connection, streams, number) {
         return turn;
     }
     if connection.is_refused() {
@@ -71,28 +78,40 @@ pub fn take_turn<S: Answer, R: TryPull, W: TryPush>(
     }
     let stop = connection.answer_held(service, alloc, limits.unsent.max(1));
     if !connection.unsent().is_empty() {
-        return Turn::GoesOn;
+        return behind_answers(stop);
     }
     match stop {
-        Stop::NeedsBytes => read(connection, reader, limits.held),
+        Stop::NeedsBytes => read_on(connection, streams, number, limits.held),
         Stop::NoMemory => Turn::Ends(Err(ServeFault::NoMemory)),
         Stop::TooManyFrames => Turn::Ends(Err(ServeFault::TooManyFrames)),
-        Stop::Full | Stop::Refused => Turn::GoesOn,
+        Stop::Full | Stop::Refused | Stop::Loaded => Turn::GoesOn,
+    }
+}
+
+/// What follows a turn in which requests were answered until it stopped so.
+fn behind_answers(stop: Stop) -> Turn
+    ensures { result ≡ behind_answers stop }
+{
+    match stop {
+        Stop::Loaded => Turn::Loaded,
+        _ => Turn::GoesOn,
     }
 }
 
 /// Sends what is unsent, as far as the stream takes it at once; None where all is sent.
-fn send<W: TryPush>(connection: &mut Connection, writer: &mut W) -> Option<Turn>
+fn send_on<M: Streams>(connection: &mut Connection, streams: &mut M, number: u64) -> Option<Turn>
     ensures so { (bytes : List ℕ) × Sends connection.old bytes connection.new
-        × Appends (W.written writer.old) (W.written writer.new) bytes
-        × SendsSo result bytes connection.new (W.mark writer.new) }
+        × Appends (M.stream streams.old number).written (M.stream streams.new number).written bytes
+        × SendsSo result bytes connection.new (M.stream streams.new number).write_mark }
     ensures mark { result ≢ Some Turn.Waits → result ≢ Some (Turn.Ends (Err ServeFault.Write))
-        → W.mark writer.new ≡ W.mark writer.old }
+        → (M.stream streams.new number).write_mark ≡ (M.stream streams.old number).write_mark }
+    ensures stays { ReaderStays (M.stream streams.old number) (M.stream streams.new number) }
+    ensures others { OthersStay number (M.stream streams.old) (M.stream streams.new) }
 {
     if connection.unsent().is_empty() {
         return None;
     }
-    match writer.try_push(connection.unsent()) {
+    match streams.try_push(number, connection.unsent()) {
         Ok(count) => connection.sent(count),
         Err(TryError::WouldBlock) => return Some(Turn::Waits),
         Err(TryError::Failed) => return Some(Turn::Ends(Err(ServeFault::Write))),
@@ -104,19 +123,27 @@ fn send<W: TryPush>(connection: &mut Connection, writer: &mut W) -> Option<Turn>
 }
 
 /// Reads a piece, unless as much is held as may be.
-fn read<R: TryPull>(connection: &mut Connection, reader: &mut R, most: usize) -> Turn
-    ensures so { (piece : List ℕ) × Consumes (R.left reader.old) (R.left reader.new) piece
+fn read_on<M: Streams>(
+    connection: &mut Connection,
+    streams: &mut M,
+    number: u64,
+    most: usize,
+) -> Turn
+    ensures so { (piece : List ℕ)
+        × Consumes (M.stream streams.old number).left (M.stream streams.new number).left piece
         × IsRoomFor most connection.old.held piece
-        × ReadsSo most result connection.old piece connection.new (R.left reader.new)
-        (R.mark reader.new) }
+        × ReadsSo most result connection.old piece connection.new
+        (M.stream streams.new number).left (M.stream streams.new number).read_mark }
     ensures mark { result ≢ Turn.Waits → result ≢ Turn.Ends (Err ServeFault.Read)
-        → R.mark reader.new ≡ R.mark reader.old }
+        → (M.stream streams.new number).read_mark ≡ (M.stream streams.old number).read_mark }
+    ensures stays { WriterStays (M.stream streams.old number) (M.stream streams.new number) }
+    ensures others { OthersStay number (M.stream streams.old) (M.stream streams.new) }
 {
     if connection.held() >= most {
         return Turn::NeedsRoom;
     }
     let mut piece = [0u8; PIECE];
-    match reader.try_pull(&mut piece) {
+    match streams.try_pull(number, &mut piece) {
         Ok(0) => Turn::Ends(at_end(connection.held())),
         Ok(count) => match connection.receive(&piece[..count]) {
             Ok(()) => Turn::GoesOn,
@@ -127,7 +154,7 @@ fn read<R: TryPull>(connection: &mut Connection, reader: &mut R, most: usize) ->
     }
 }
 
-/// How a connection ends at the reader's end, where so many bytes are held.
+/// How a connection ends at its stream's end, where so many bytes are held.
 fn at_end(held: usize) -> Result<Ended, ServeFault>
     ensures { EndsAt held result }
 {

@@ -1,11 +1,11 @@
 use Rattle.std.proofs.Common.{◌≡◌, List, false, length}
-use Rattle.compose_many.specs.Connection.{Event}
+use Rattle.compose_many.specs.Connection.{Event, loads}
 use Rattle.compose_many.specs.Steps.{AreAnswers}
 use Rattle.compose_many.proofs.connection.Connection.answer_held.Given as goal
 
 abbrev pub invariant-answers : goal.invariant-answers
 invariant-answers g l = record {
-  so : (events : List Event) × AreAnswers l.limit g.S.Answer.reading (g.S.Answer.state l.fn.service) (g.S.Answer.state l.service) l.fn.self l.self events;
+  so : (events : List Event) × AreAnswers l.limit g.S.Answer.reading (g.S.Answer.state l.fn.service) (g.S.Answer.state l.service) l.fn.self l.self events × (loads events ≡ 0);
   goes_on : l.self.refused ≡ false;
 }
 
