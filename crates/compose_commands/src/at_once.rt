@@ -1,7 +1,9 @@
 //! `serve --at-once`: many connections to one service.
+ghost use Rattle.std.specs.Prelude.{None};
+
 use compose_answer::Ended;
 use compose_arguments::ServeArguments;
-use compose_hub::{Limits, Report, serve_at_once};
+use compose_hub::{ConnectionEnd, Limits, PolledSockets, Report, serve_at_once};
 use compose_report::{no_memory, refused, written};
 use compose_serve::{Answer, Ended as ConnectionEnded, ServeFault};
 use compose_serving::connection_line;
@@ -19,7 +21,14 @@ struct Lines<'r, R> {
 }
 
 impl<R: Print + Eprint + AllocGlobal> Report for Lines<'_, R> {
-    fn ended(&mut self, number: u32, how: Result<ConnectionEnded, ServeFault>) -> io::Result<()> {
+    ghost told = { λ lines. None };
+
+    /// Prints the line of the connection; one that held room for a load of which nothing came was cut.
+    fn ended(&mut self, number: u32, how: ConnectionEnd) -> io::Result<()> {
+        let how = match how {
+            ConnectionEnd::Served(how) => how,
+            ConnectionEnd::Stalled => Err(ServeFault::Cut),
+        };
         self.ended = print_end(self.rt, number, how);
         match self.ended {
             Ended::Yes => Ok(()),
@@ -73,8 +82,9 @@ fn poll_all<S: Answer, E: Report>(
     report: &mut E,
 ) -> io::Result<()> {
     listener.set_nonblocking(true)?;
-    let mut listener = PolledListener::from_std(listener);
-    serve_at_once(rt, rt.alloc(), &mut listener, service, limits, report)
+    let listener = PolledListener::from_std(listener);
+    let mut sockets = PolledSockets::new(rt, rt.alloc(), listener)?;
+    serve_at_once(&mut sockets, rt.alloc(), service, limits, report)
 }
 
 /// Tells why connections can't be served: memory was refused, or anything else.

@@ -1,2 +1,4 @@
 pub mod Turns
+pub mod Slots
 pub mod Serving
+pub mod Longest

@@ -1,178 +1,510 @@
 -- What happened on all connections, by one step more.
-use Rattle.std.proofs.Common.{◌≡◌, ◌≢◌, ℕ, zero, suc, ◌+◌, ◌<◌, ◌≤◌, List, [], ◌∷◌, ◌++◌, Bool, true, false, cond, length, get_or, set, get_or-set_same, get_or-set_other, max, refl, sym, ◌∙◌, ap, subst, inl, inr, eq-eqb, eqb-true, arith}
-use Rattle.std.proofs.lemmas.Bool.{eqb-false}
+use Rattle.std.proofs.Common.{◌≡◌, ◌≢◌, ℕ, ◌+◌, ◌-◌, ◌<◌, ◌≤◌, List, [], ◌∷◌, ◌++◌, Bool, true, false, cond, length, get_or, set, max, refl, sym, ◌∙◌, ap, subst, inl, inr, eq-eqb, eqb-true, append_assoc, append-nil, length-append, arith}
+use Rattle.std.proofs.lemmas.Bool.{eqb-false, leb-true}
 use Rattle.std.proofs.lemmas.List.{get_or_default, set-get_or}
-use Rattle.std.specs.Prelude.{◌==◌, ◌⊎◌, Option, Some, None}
+use Rattle.std.specs.Prelude.{◌==◌, ◌&&◌, ◌⊎◌, Option, Some, None, Ok, Err, filter, nat_le}
+use Rattle.std.specs.List.{AllByRecursion, list_all}
+use Rattle.std.specs.Option.{is_none}
+use Rattle.std.specs.Io.KnownBytes.{Consumes, Appends}
+use Rattle.std.proofs.KnownBytes.{Consumes-nil, Appends-nil}
 use Rattle.compose_machine.specs.Machine.{ServiceState, Reading}
-use Rattle.compose_machine.specs.Laws.{IsHistory}
-use Rattle.compose_many.specs.Connection.{ConnectionState, new_connection, Event, AllHappen, exchanges}
-use Rattle.compose_many.specs.Service.{numbered}
-use Rattle.compose_many.proofs.Serving.{turns_are_served, served_one_after_another}
-use Rattle.compose_hub.specs.Serving.{ServesMany, StandsAs, IsStill, SlotIsStill, AllAreStill, AcceptsSo, SlotTurnsSo, IsIn, HasNone, ServedSoFar, GoesOnServing}
+use Rattle.compose_many.specs.Connection.{ConnectionState, new_connection, Event, received, sent}
+use Rattle.compose_many.specs.Service.{NumberedEvent, events_of, numbered}
+use Rattle.compose_many.specs.Turns.{IsTurn}
+use Rattle.compose_many.specs.Numbered.{StreamState}
+use Rattle.compose_many.proofs.Happening.{filter-both}
+use Rattle.compose_many.proofs.OneOfMany.{turns_are_streamed, streamed_one_after_another}
+use Rattle.compose_hub.specs.Sockets.{AllStay, BytesStay, KeepsBytes}
+use Rattle.compose_hub.specs.Ends.{ToldEnd, told_more, HasEnded, times_told, max_held, TellsEnd}
+use Rattle.compose_hub.specs.Turns.{AreTurns}
+use Rattle.compose_hub.specs.Serving.{World, world, AreNumberedTo, ServesMany, EachIsTold, StandsAs, SlotGoesOn, SlotTurnsSo, AcceptsSo, AllAreStill, IsIn, HasNone, IsServed, ServedSoFar}
+use Rattle.compose_hub.specs.Rounds.{is_done, uses_room, patience, SlotGivesUp}
 use Rattle.compose_hub.specs.declared.client.Client.{Client}
+use Rattle.compose_hub.specs.declared.client.Limits.{Limits}
+use Rattle.compose_many.specs.Ends.{EndsSo}
+use Rattle.compose_hub.specs.declared.ends.ConnectionEnd.{ConnectionEnd}
+use Rattle.compose_hub.specs.declared.ends.ConnectionEnd.TheVariants.{Served, Stalled}
+use Rattle.compose_hub.proofs.Turns.{closed}
+use Rattle.compose_hub.proofs.Slots.{IsAt, at_slot, in_slot, same_or, still_at_first, still_back, still_forth, all_free}
 
--- ---- what is in a slot once one is written
+-- ---- lists
 
-abbrev IsAt : List (Option Client) → ℕ → Option Client → ℕ → Client → Type 0
-IsAt slots key x j c = ((j ≡ key) × (x ≡ Some c)) ⊎ ((j ≢ key) × IsIn slots j c)
+pub all_map : {X : Type 0} (P Q : X → Type 0) → ((x : X) → P x → Q x) → (xs : List X) → AllByRecursion P xs → AllByRecursion Q xs
+all_map P Q f [] a = tt
+all_map P Q f (x ∷ xs) a = (f x a.0, all_map P Q f xs a.1)
 
-module _ (slots : List (Option Client)) (key : ℕ) (x : Option Client) (lt : key < length slots) (j : ℕ) (c : Client) (h : IsIn (set slots key x) j c) where
-  by_same : (b : Bool) → j == key ≡ b → IsAt slots key x j c
-  by_same true e =
-      let same = eqb-true j key e in
-      inl (same, sym (get_or-set_same slots key x None lt) ∙ subst (λ (n : ℕ). get_or (set slots key x) n None ≡ Some c) same h)
-  by_same false e = inr (eqb-false j key e, sym (get_or-set_other slots key j x None (eqb-false j key e)) ∙ h)
+pub all_both : {X : Type 0} (P : X → Type 0) (xs ys : List X) → AllByRecursion P xs → AllByRecursion P ys → AllByRecursion P (xs ++ ys)
+all_both P [] ys a b = b
+all_both P (x ∷ xs) ys a b = (a.0, all_both P xs ys a.1 b)
 
-  at_slot : IsAt slots key x j c
-  at_slot = by_same (j == key) refl
+pub numbered_to : (last n : ℕ) (events : List Event) → 0 < n → n ≤ last → AreNumberedTo last (numbered n events)
+numbered_to last n [] some le = tt
+numbered_to last n (e ∷ events) some le = ((some, le), numbered_to last n events some le)
 
--- ---- clients that are still
+pub told_both : (told : Option (List ToldEnd)) (a b : List ToldEnd) → told_more (told_more told a) b ≡ told_more told (a ++ b)
+told_both None a b = refl
+told_both (Some ends) a b = ap (λ (es : List ToldEnd). Some es) (append_assoc ends a b)
 
-pub still_at_first : (slots : List (Option Client)) → AllAreStill slots slots
-still_at_first slots key d h = (d, h, (refl, refl))
+pub told_none : (told : Option (List ToldEnd)) → told ≡ told_more told []
+told_none None = refl
+told_none (Some ends) = ap (λ (es : List ToldEnd). Some es) (sym (append-nil ends))
 
-module _ (slots now : List (Option Client)) (key : ℕ) (x : Option Client) (lt : key < length now) (all : AllAreStill slots now) (one : SlotIsStill (get_or now key None) x) where
-  still_at : (j : ℕ) (d : Client) → IsAt now key x j d → (c : Client) × (get_or slots j None ≡ Some c) × IsStill c d
-  still_at j d (inl p) =
-      let m = one d p.1 in
-      let f = all key m.0 m.1 in
-      (f.0, subst (λ (n : ℕ). get_or slots n None ≡ Some f.0) (sym p.0) f.1, (m.2.0 ∙ f.2.0, m.2.1 ∙ f.2.1))
-  still_at j d (inr p) = all j d p.1
+one_told : (n : ℕ) (e : ToldEnd) (b : Bool) → e.number == n ≡ b → times_told n (e ∷ []) ≡ cond b 1 0
+one_told n e b h = by (e.number == n) ∙ ap (λ (c : Bool). cond c 1 0) h
+  where
+    by : (c : Bool) → length (cond c (e ∷ []) []) ≡ cond c 1 0
+    by true = refl
+    by false = refl
 
-  pub still_more : AllAreStill slots (set now key x)
-  still_more j d h = still_at j d (at_slot now key x lt j d h)
+times_more : (n : ℕ) (ends : List ToldEnd) (e : ToldEnd) (b : Bool) → e.number == n ≡ b → times_told n (ends ++ e ∷ []) ≡ times_told n ends + cond b 1 0
+times_more n ends e b h =
+    ap (λ (es : List ToldEnd). length es) (filter-both (λ (t : ToldEnd). t.number == n) ends (e ∷ []))
+    ∙ length-append (filter (λ (t : ToldEnd). t.number == n) ends) (filter (λ (t : ToldEnd). t.number == n) (e ∷ []))
+    ∙ ap (λ (m : ℕ). times_told n ends + m) (one_told n e b h)
 
-module _ (unsent : ℕ) (reading : Reading) (state : ServiceState) (accepted accepted' : ℕ) (slots now : List (Option Client)) (same : accepted' ≡ accepted) (still : AllAreStill slots now) where
-  -- where no further connection is accepted and all clients are still, what was true of all that happened stays true
-  pub still_goes_on : GoesOnServing unsent reading state state accepted accepted' slots now
-  still_goes_on first s = record {
-    all = s.all;
-    after = s.after;
-    served = s.served;
-    few = λ key d h. let p = still key d h in subst (λ (n : ℕ). d.number ≤ n) (sym same) (subst (λ (n : ℕ). n ≤ accepted) (sym p.2.0) (s.few key p.0 p.1));
-    each = λ key d h. let p = still key d h in p.2.1 ∙ s.each key p.0 p.1 ∙ ap s.after (sym p.2.0);
-    apart = λ j k b c hb hc e. let p = still j b hb in let q = still k c hc in s.apart j k p.0 q.0 p.1 q.1 (sym p.2.0 ∙ e ∙ q.2.0);
-    later = λ n past. s.later n (subst (λ (m : ℕ). m < n) same past);
-  }
+not_told : (b : Bool) (e : ToldEnd) (rest : List ToldEnd) → length (cond b (e ∷ rest) rest) ≡ 0 → (b ≡ false) × (length rest ≡ 0)
+not_told true e rest h = absurd (omega arith)
+not_told false e rest h = (refl, h)
 
--- ---- the turns of a client
+-- what holds of the ends of others holds of all, where the end of this one isn't told
+pub others_ended : (P Q : ToldEnd → Type 0) (n : ℕ) → ((e : ToldEnd) → e.number == n ≡ false → P e → Q e) → (ends : List ToldEnd) → times_told n ends ≡ 0 → AllByRecursion P ends → AllByRecursion Q ends
+others_ended P Q n f [] none a = tt
+others_ended P Q n f (e ∷ ends) none a =
+    let no = not_told (e.number == n) e (filter (λ (t : ToldEnd). t.number == n) ends) none in
+    (f e no.0 a.0, others_ended P Q n f ends no.1 a.1)
 
-differ : (m n : ℕ) (b : Bool) → m == n ≡ b → (m ≡ n → ⊥) → m == n ≡ false
+pub differ : (m n : ℕ) (b : Bool) → m == n ≡ b → (m ≡ n → ⊥) → m == n ≡ false
 differ m n true e f = absurd (f (eqb-true m n e))
 differ m n false e f = e
 
-module _ (unsent : ℕ) (reading : Reading) (first old new : ServiceState) (accepted : ℕ) (slots : List (Option Client)) (key : ℕ) (x : Option Client) (lt : key < length slots)
-    (s : ServedSoFar unsent reading first old accepted slots) where
-  module _ (c : Client) (here : IsIn slots key c) (events : List Event) (state : ConnectionState) (happen : AllHappen (max unsent 1) c.connection events state)
-      (run : IsHistory reading old (exchanges events) new) (stands : StandsAs c.number state x) where
-    abbrev after : ℕ → ConnectionState
-    after n = cond (c.number == n) state (s.after n)
+-- a connection has ended so whatever else is known of its stream than the bytes that are left
+pub has_ended_on : (how : ConnectionEnd) (a b : StreamState) (state : ConnectionState) → b.left ≡ a.left → HasEnded how a state → HasEnded how b state
+has_ended_on (Served end) a b state e h = (h.0, h.1, subst (λ (l : Option (List ℕ)). EndsSo end l h.0 h.1 state) (sym e) h.2)
+has_ended_on Stalled a b state e h = h
 
-    after_own : after c.number ≡ state
-    after_own = ap (λ b. cond b state (s.after c.number)) (eq-eqb c.number c.number refl)
+-- ---- where nothing happens
 
-    after_other : (n : ℕ) → c.number == n ≡ false → after n ≡ s.after n
-    after_other n e = ap (λ b. cond b state (s.after n)) e
+module _ (limits : Limits) (reading : Reading) (first : World) (state : ServiceState) (streams streams' : ℕ → StreamState) (told : Option (List ToldEnd)) (stay : BytesStay streams streams') where
+  -- where all streams stay, what happened so far is as before
+  abbrev pub serves_stay : ServesMany limits reading first (world state streams told) → ServesMany limits reading first (world state streams' told)
+  serves_stay s = record {
+    all = s.all;
+    after = s.after;
+    streamed = record {
+      served = s.streamed.served;
+      read = λ c. subst (λ (l : Option (List ℕ)). Consumes (first.streams c).left l (received (events_of c s.all))) (sym (stay c).0) (s.streamed.read c);
+      wrote = λ c. subst (λ (l : Option (List ℕ)). Appends (first.streams c).written l (sent (events_of c s.all))) (sym (stay c).1) (s.streamed.wrote c);
+    };
+    numbered = s.numbered;
+    ends = s.ends;
+    told = s.told;
+    ended =
+        all_map (λ (e : ToldEnd). HasEnded e.how (streams e.number) (s.after e.number)) (λ (e : ToldEnd). HasEnded e.how (streams' e.number) (s.after e.number))
+        (λ e h. has_ended_on e.how (streams e.number) (streams' e.number) (s.after e.number) (stay e.number).0 h) s.ends s.ended;
+  }
 
-    few_at : (j : ℕ) (d : Client) → IsAt slots key x j d → d.number ≤ accepted
-    few_at j d (inl p) = subst (λ (n : ℕ). n ≤ accepted) (sym (stands d p.1).0) (s.few key c here)
-    few_at j d (inr p) = s.few j d p.1
+  module _ (accepted accepted' : ℕ) (slots now : List (Option Client)) (same : accepted' ≡ accepted) (still : AllAreStill slots now) where
+    served_back : (n : ℕ) → IsServed now n → IsServed slots n
+    served_back n h = let p = still_back (get_or slots h.0 None) (get_or now h.0 None) h.1 (still h.0) h.2 in (h.0, p.0, p.1, sym p.2.0 ∙ h.3)
 
-    each_at : (j : ℕ) (d : Client) → IsAt slots key x j d → d.connection ≡ after d.number
-    each_at j d (inl p) = (stands d p.1).1 ∙ sym after_own ∙ ap after (sym (stands d p.1).0)
-    each_at j d (inr p) =
-        s.each j d p.1 ∙ sym (after_other d.number (differ c.number d.number (c.number == d.number) refl (λ same. p.0 (s.apart j key d c p.1 here (sym same)))))
+    served_forth : (n : ℕ) → IsServed slots n → IsServed now n
+    served_forth n h = let p = still_forth (get_or slots h.0 None) (get_or now h.0 None) h.1 (still h.0) h.2 in (h.0, p.0, p.1, p.2.0 ∙ h.3)
 
-    apart_at : (j k : ℕ) (b d : Client) → IsAt slots key x j b → IsAt slots key x k d → b.number ≡ d.number → j ≡ k
-    apart_at j k b d (inl p) (inl q) e = p.0 ∙ sym q.0
-    apart_at j k b d (inl p) (inr q) e = p.0 ∙ sym (s.apart k key d c q.1 here (sym e ∙ (stands b p.1).0))
-    apart_at j k b d (inr p) (inl q) e = s.apart j key b c p.1 here (e ∙ (stands d q.1).0) ∙ sym q.0
-    apart_at j k b d (inr p) (inr q) e = s.apart j k b d p.1 q.1 e
-
-    client_turned : ServedSoFar unsent reading first new accepted (set slots key x)
-    client_turned = record {
-      all = s.all ++ numbered c.number events;
-      after = after;
-      served =
-          served_one_after_another (max unsent 1) reading first old new (λ n. new_connection) s.after after s.all (numbered c.number events) s.served
-          (turns_are_served (max unsent 1) reading old new s.after after events c.number
-          (subst (λ (t : ConnectionState). AllHappen (max unsent 1) t events (after c.number)) (s.each key c here)
-          (subst (λ (t : ConnectionState). AllHappen (max unsent 1) c.connection events t) (sym after_own) happen)) run after_other);
-      few = λ j d h. few_at j d (at_slot slots key x lt j d h);
-      each = λ j d h. each_at j d (at_slot slots key x lt j d h);
-      apart = λ j k b d hb hd e. apart_at j k b d (at_slot slots key x lt j b hb) (at_slot slots key x lt k d hd) e;
-      later = λ n past. let few = s.few key c here in after_other n (differ c.number n (c.number == n) refl (λ same. absurd (omega arith))) ∙ s.later n past;
+    -- and where also no further connection is accepted and all clients are still, what was true stays true
+    pub still_so_far : ServedSoFar limits reading first (world state streams told) accepted slots → ServedSoFar limits reading first (world state streams' told) accepted' now
+    still_so_far s = record {
+      so_far = serves_stay s.so_far;
+      within = (let within = s.within in omega arith);
+      few =
+          λ key d h. let p = still_back (get_or slots key None) (get_or now key None) d (still key) h in
+          let few = s.few key p.0 p.1 in let some = few.0 in let le = few.1 in let number = p.2.0 in (omega arith, omega arith);
+      each = λ key d h. let p = still_back (get_or slots key None) (get_or now key None) d (still key) h in p.2.1 ∙ s.each key p.0 p.1 ∙ ap s.so_far.after (sym p.2.0);
+      apart =
+          λ j k b c hb hc e. let p = still_back (get_or slots j None) (get_or now j None) b (still j) hb in let q = still_back (get_or slots k None) (get_or now k None) c (still k) hc in
+          s.apart j k p.0 q.0 p.1 q.1 (sym p.2.0 ∙ e ∙ q.2.0);
+      later = λ n past. s.later n (omega arith);
+      untold = λ n past. s.untold n (omega arith);
+      served = λ n h. s.served n (served_back n h);
+      ended = λ n some le. elim (s.ended n some (omega arith)) [ inl h ↦ inl (served_forth n h) | inr e ↦ inr e ];
     }
 
-  turned_at : SlotTurnsSo unsent reading old new (get_or slots key None) x → ServedSoFar unsent reading first new accepted (set slots key x)
-  turned_at (inl p) =
-      subst (λ (now : List (Option Client)). ServedSoFar unsent reading first new accepted now) (sym (ap (λ (o : Option Client). set slots key o) p.1 ∙ set-get_or slots key None))
-      (subst (λ (state : ServiceState). ServedSoFar unsent reading first state accepted slots) (sym p.0) s)
-  turned_at (inr t) = client_turned t.0 t.1 t.2 t.3 t.4 t.5 t.6
+-- ---- the turns of a client
 
-  -- once the connection in a slot had its turns, what happened so far is what happened before and these turns
-  pub slot_turned : (d : Option Client) → SlotTurnsSo unsent reading old new (get_or slots key d) x → ServedSoFar unsent reading first new accepted (set slots key x)
-  slot_turned d t = turned_at (subst (λ (o : Option Client). SlotTurnsSo unsent reading old new o x) (get_or_default slots key d None lt) t)
+module _ (limits : Limits) (reading : Reading) (first : World) (old new : ServiceState) (streams streams' : ℕ → StreamState) (told : Option (List ToldEnd)) (accepted : ℕ) (slots : List (Option Client))
+    (s : ServedSoFar limits reading first (world old streams told) accepted slots) (key : ℕ) (lt : key < length slots) (c : Client) (here : IsIn slots key c) (events : List Event) (state : ConnectionState)
+    (are : AreTurns limits.unsent reading old new c.number streams streams' c.connection state events) where
+  abbrev after : ℕ → ConnectionState
+  after n = cond (c.number == n) state (s.so_far.after n)
+
+  pub after_own : after c.number ≡ state
+  after_own = ap (λ b. cond b state (s.so_far.after c.number)) (eq-eqb c.number c.number refl)
+
+  pub after_other : (n : ℕ) → c.number == n ≡ false → after n ≡ s.so_far.after n
+  after_other n e = ap (λ b. cond b state (s.so_far.after n)) e
+
+  pub own_untold : times_told c.number s.so_far.ends ≡ 0
+  own_untold = s.served c.number (key, c, here, refl)
+
+  -- what happened so far, and these turns
+  abbrev pub serves_turned : ServesMany limits reading first (world new streams' told)
+  serves_turned = record {
+    all = s.so_far.all ++ numbered c.number events;
+    after = after;
+    streamed =
+        streamed_one_after_another (max limits.unsent 1) reading first.service old new (λ n. new_connection) s.so_far.after after first.streams streams streams' s.so_far.all (numbered c.number events) s.so_far.streamed
+        (turns_are_streamed (max limits.unsent 1) reading old new s.so_far.after after streams streams' events c.number
+        (subst (λ (t : ConnectionState). IsTurn (max limits.unsent 1) reading old new t (after c.number) (streams c.number).left (streams' c.number).left (streams c.number).written (streams' c.number).written events)
+        (s.each key c here)
+        (subst (λ (t : ConnectionState). IsTurn (max limits.unsent 1) reading old new c.connection t (streams c.number).left (streams' c.number).left (streams c.number).written (streams' c.number).written events)
+        (sym after_own) are.turn))
+        (λ d ne. after_other d (differ c.number d (c.number == d) refl (λ same. ne (sym same)))) are.others);
+    numbered =
+        all_both (λ (e : NumberedEvent). (0 < e.connection) × (e.connection ≤ limits.connections)) s.so_far.all (numbered c.number events) s.so_far.numbered
+        (numbered_to limits.connections c.number events (s.few key c here).0 (let le = (s.few key c here).1 in let within = s.within in omega arith));
+    ends = s.so_far.ends;
+    told = s.so_far.told;
+    ended =
+        others_ended (λ (e : ToldEnd). HasEnded e.how (streams e.number) (s.so_far.after e.number)) (λ (e : ToldEnd). HasEnded e.how (streams' e.number) (after e.number)) c.number
+        (λ e ne h. subst (λ (t : ConnectionState). HasEnded e.how (streams' e.number) t)
+        (sym (after_other e.number (differ c.number e.number (c.number == e.number) refl (λ same. eqb-false e.number c.number ne (sym same)))))
+        (subst (λ (t : StreamState). HasEnded e.how t (s.so_far.after e.number)) (sym (are.others e.number (eqb-false e.number c.number ne))) h)) s.so_far.ends own_untold s.so_far.ended;
+  }
+
+  later_on : (n : ℕ) → accepted < n → after n ≡ new_connection
+  later_on n past = let le = (s.few key c here).1 in after_other n (differ c.number n (c.number == n) refl (λ same. absurd (omega arith))) ∙ s.later n past
+
+  -- the client that was at a slot, where another slot is written
+  number_apart : (j : ℕ) (d : Client) → j ≢ key → IsIn slots j d → c.number == d.number ≡ false
+  number_apart j d ne h = differ c.number d.number (c.number == d.number) refl (λ same. ne (s.apart j key d c h here (sym same)))
+
+  is_own : (d : Client) → IsIn slots key d → d ≡ c
+  is_own d h = let same : Some d ≡ Some c = sym h ∙ here in cc
+
+  module _ (x : Option Client) where
+    -- where it goes on, this is true of what happened so far
+    module _ (stands : StandsAs c.number state x) where
+      own_at : (d : Client) → x ≡ Some d → (d.number ≡ c.number) × (d.connection ≡ state)
+      own_at d h =
+          let same : Some stands.0 ≡ Some d = sym stands.1 ∙ h in
+          let is : stands.0 ≡ d = cc in
+          subst (λ (t : Client). (t.number ≡ c.number) × (t.connection ≡ state)) is (stands.2, stands.3)
+
+      few_at : (j : ℕ) (d : Client) → IsAt slots key x j d → (0 < d.number) × (d.number ≤ accepted)
+      few_at j d (inl p) = subst (λ (n : ℕ). (0 < n) × (n ≤ accepted)) (sym (own_at d p.1).0) (s.few key c here)
+      few_at j d (inr p) = s.few j d p.1
+
+      each_at : (j : ℕ) (d : Client) → IsAt slots key x j d → d.connection ≡ after d.number
+      each_at j d (inl p) = (own_at d p.1).1 ∙ sym after_own ∙ ap after (sym (own_at d p.1).0)
+      each_at j d (inr p) = s.each j d p.1 ∙ sym (after_other d.number (number_apart j d p.0 p.1))
+
+      apart_at : (j k : ℕ) (b d : Client) → IsAt slots key x j b → IsAt slots key x k d → b.number ≡ d.number → j ≡ k
+      apart_at j k b d (inl p) (inl q) e = p.0 ∙ sym q.0
+      apart_at j k b d (inl p) (inr q) e = p.0 ∙ sym (s.apart k key d c q.1 here (sym e ∙ (own_at b p.1).0))
+      apart_at j k b d (inr p) (inl q) e = s.apart j key b c p.1 here (e ∙ (own_at d q.1).0) ∙ sym q.0
+      apart_at j k b d (inr p) (inr q) e = s.apart j k b d p.1 q.1 e
+
+      served_at : (n j : ℕ) (d : Client) → d.number ≡ n → IsAt slots key x j d → times_told n s.so_far.ends ≡ 0
+      served_at n j d e (inl p) = subst (λ (m : ℕ). times_told m s.so_far.ends ≡ 0) (sym (own_at d p.1).0 ∙ e) own_untold
+      served_at n j d e (inr p) = s.served n (j, d, p.1, e)
+
+      still_served : (n j : ℕ) (d : Client) → d.number ≡ n → IsIn slots j d → (j ≡ key) ⊎ (j ≢ key) → IsServed (set slots key x) n
+      still_served n j d e h (inl same) =
+          let is = is_own d (subst (λ (k : ℕ). IsIn slots k d) same h) in
+          (key, stands.0, in_slot slots key x lt key stands.0 (inl (refl, stands.1)), stands.2 ∙ ap (λ (t : Client). t.number) (sym is) ∙ e)
+      still_served n j d e h (inr ne) = (j, d, in_slot slots key x lt j d (inr (ne, h)), e)
+
+      client_turned : ServedSoFar limits reading first (world new streams' told) accepted (set slots key x)
+      client_turned = record {
+        so_far = serves_turned;
+        within = s.within;
+        few = λ j d h. few_at j d (at_slot slots key x lt j d h);
+        each = λ j d h. each_at j d (at_slot slots key x lt j d h);
+        apart = λ j k b d hb hd e. apart_at j k b d (at_slot slots key x lt j b hb) (at_slot slots key x lt k d hd) e;
+        later = later_on;
+        untold = s.untold;
+        served = λ n h. served_at n h.0 h.1 h.3 (at_slot slots key x lt h.0 h.1 h.2);
+        ended = λ n some le. elim (s.ended n some le) [ inl h ↦ inl (still_served n h.0 h.1 h.3 h.2 (same_or h.0 key (h.0 == key) refl)) | inr e ↦ inr e ];
+      }
+
+    -- where it ended and that is told, its slot is empty, and this is true
+    module _ (empty : x ≡ None) (how : ConnectionEnd) (has_ended : HasEnded how (streams' c.number) state) (told' : Option (List ToldEnd))
+        (tells : told' ≡ told_more told (record { number = c.number; how = how } ∷ [])) where
+      abbrev end : ToldEnd
+      end = record { number = c.number; how = how }
+
+      abbrev ends : List ToldEnd
+      ends = s.so_far.ends ++ end ∷ []
+
+      left_at : (j : ℕ) (d : Client) → IsAt slots key x j d → (j ≢ key) × IsIn slots j d
+      left_at j d (inl p) = let no : None ≡ Some d = sym empty ∙ p.1 in absurd (cc)
+      left_at j d (inr p) = p
+
+      left : (j : ℕ) (d : Client) → IsIn (set slots key x) j d → (j ≢ key) × IsIn slots j d
+      left j d h = left_at j d (at_slot slots key x lt j d h)
+
+      once_more : (n : ℕ) → c.number == n ≡ false → times_told n ends ≡ times_told n s.so_far.ends
+      once_more n ne = times_more n s.so_far.ends end false ne ∙ plus (times_told n s.so_far.ends)
+        where
+          plus : (m : ℕ) → m + 0 ≡ m
+          plus m = omega arith
+
+      own_told : times_told c.number ends ≡ 1
+      own_told = times_more c.number s.so_far.ends end true (eq-eqb c.number c.number refl) ∙ ap (λ (m : ℕ). m + 1) own_untold
+
+      abbrev serves_ended : ServesMany limits reading first (world new streams' told')
+      serves_ended = record {
+        all = serves_turned.all;
+        after = after;
+        streamed = serves_turned.streamed;
+        numbered = serves_turned.numbered;
+        ends = ends;
+        told = tells ∙ ap (λ (t : Option (List ToldEnd)). told_more t (end ∷ [])) s.so_far.told ∙ told_both first.told s.so_far.ends (end ∷ []);
+        ended =
+            all_both (λ (e : ToldEnd). HasEnded e.how (streams' e.number) (after e.number)) s.so_far.ends (end ∷ []) serves_turned.ended
+            (subst (λ (t : ConnectionState). HasEnded how (streams' c.number) t) (sym after_own) has_ended, tt);
+      }
+
+      gone : (n j : ℕ) (d : Client) → d.number ≡ n → IsIn slots j d → (j ≡ key) ⊎ (j ≢ key) → IsServed (set slots key x) n ⊎ (times_told n ends ≡ 1)
+      gone n j d e h (inl same) =
+          let is = is_own d (subst (λ (k : ℕ). IsIn slots k d) same h) in
+          inr (subst (λ (m : ℕ). times_told m ends ≡ 1) (ap (λ (t : Client). t.number) (sym is) ∙ e) own_told)
+      gone n j d e h (inr ne) = inl (j, d, in_slot slots key x lt j d (inr (ne, h)), e)
+
+      told_before : (n : ℕ) → times_told n s.so_far.ends ≡ 1 → times_told n ends ≡ 1
+      told_before n e =
+          once_more n
+          (differ c.number n (c.number == n) refl (λ same. let none : times_told n s.so_far.ends ≡ 0 = subst (λ (m : ℕ). times_told m s.so_far.ends ≡ 0) same own_untold in absurd (omega arith)))
+          ∙ e
+
+      client_ended : ServedSoFar limits reading first (world new streams' told') accepted (set slots key x)
+      client_ended = record {
+        so_far = serves_ended;
+        within = s.within;
+        few = λ j d h. s.few j d (left j d h).1;
+        each = λ j d h. let p = left j d h in s.each j d p.1 ∙ sym (after_other d.number (number_apart j d p.0 p.1));
+        apart = λ j k b d hb hd e. s.apart j k b d (left j b hb).1 (left k d hd).1 e;
+        later = later_on;
+        untold = λ n past. let le = (s.few key c here).1 in once_more n (differ c.number n (c.number == n) refl (λ same. absurd (omega arith))) ∙ s.untold n past;
+        served =
+            λ n h. let p = left h.0 h.1 h.2 in
+            once_more n (subst (λ (m : ℕ). c.number == m ≡ false) h.3 (number_apart h.0 h.1 p.0 p.1)) ∙ s.served n (h.0, h.1, p.1, h.3);
+        ended =
+            λ n some le. elim (s.ended n some le) [ inl h ↦ gone n h.0 h.1 h.3 h.2 (same_or h.0 key (h.0 == key) refl) | inr e ↦ inr (told_before n e) ];
+      }
+
+  pub turned_on : (x : Option Client) → StandsAs c.number state x → ServedSoFar limits reading first (world new streams' told) accepted (set slots key x)
+  turned_on x stands = client_turned x stands
+
+  pub turned_out : (x : Option Client) → x ≡ None → (how : ConnectionEnd) → HasEnded how (streams' c.number) state → (told' : Option (List ToldEnd))
+      → told' ≡ told_more told (record { number = c.number; how = how } ∷ []) → ServedSoFar limits reading first (world new streams' told') accepted (set slots key x)
+  turned_out x empty how has_ended told' tells = client_ended x empty how has_ended told' tells
+
+-- where both tests together hold, each does
+pub both_hold : (a b : Bool) → (a && b) ≡ true → (a ≡ true) × (b ≡ true)
+both_hold true true h = (refl, refl)
+both_hold true false h = absurd (cc)
+both_hold false b h = absurd (cc)
+
+-- ---- a slot once its connection had its turns, or none
+
+pub stays : (streams streams' : ℕ → StreamState) → AllStay streams streams' → BytesStay streams streams'
+stays streams streams' h c = (ap (λ (t : StreamState). t.left) (h c), ap (λ (t : StreamState). t.written) (h c))
+
+pub keeps : (number : ℕ) (streams streams' : ℕ → StreamState) → KeepsBytes number streams streams' → BytesStay streams streams'
+keeps number streams streams' h c = elim (same_or c number (c == number) refl) [
+  | inl e ↦ subst (λ (n : ℕ). ((streams' n).left ≡ (streams n).left) × ((streams' n).written ≡ (streams n).written)) (sym e) (h.left, h.written)
+  | inr ne ↦ (ap (λ (t : StreamState). t.left) (h.others c ne), ap (λ (t : StreamState). t.written) (h.others c ne))
+]
+
+-- turns of the connection in a slot, if it was ready
+pub slot_turns : (unsent : ℕ) (reading : Reading) (old new : ServiceState) (streams streams' : ℕ → StreamState) (before now : Option Client) (ended : Option (ℕ × ConnectionEnd))
+    → SlotTurnsSo unsent reading old new streams streams' before now ended → SlotGoesOn unsent reading old new streams streams' before now ended
+slot_turns unsent reading old new streams streams' before now ended (inl p) = inl (p.0, p.1, p.2, p.3)
+slot_turns unsent reading old new streams streams' before now ended (inr p) = inr (p.0, p.1, p.3, p.4, p.5, p.6)
+
+-- the end of the connection in a slot, if it was stalled
+pub slot_gives_up : (unsent time : ℕ) (reading : Reading) (state : ServiceState) (streams streams' : ℕ → StreamState) (before now : Option Client) (ended : Option (ℕ × ConnectionEnd))
+    → SlotGivesUp time streams streams' before now ended → SlotGoesOn unsent reading state state streams streams' before now ended
+slot_gives_up unsent time reading state streams streams' before now None p = inl (refl, p.0, p.1, refl)
+slot_gives_up unsent time reading state streams streams' before now (Some e) p =
+    let c = p.0 in
+    let uses = (both_hold (uses_room c) (nat_le patience (time - c.since)) p.2).0 in
+    let much = leb-true max_held (length c.connection.held) (both_hold c.has_room (nat_le max_held (length c.connection.held)) uses).1 in
+    inr (
+      c,
+      p.1,
+      [],
+      c.connection,
+      closed unsent reading state c.number streams streams' c.connection p.6,
+      (p.3, p.4, subst (λ (h : ConnectionEnd). HasEnded h (streams' c.number) c.connection) (sym p.5) much),
+    )
+
+-- the end was told, if there was one
+abbrev pub Tells : Option (List ToldEnd) → Option (List ToldEnd) → Option (ℕ × ConnectionEnd) → Type 0
+Tells told told' ended = TellsEnd {X = Unit {0}} {Y = Unit {0}} told told' ended (Ok tt)
+
+-- there was one, and it wasn't told
+abbrev pub NotTold : Option (List ToldEnd) → Option (List ToldEnd) → Option (ℕ × ConnectionEnd) → Type 0
+NotTold told told' ended = TellsEnd {X = Unit {0}} {Y = Unit {0}} told told' ended (Err tt)
+
+-- what was told is told whatever it gives, and so is what wasn't
+pub tells : (X Y : Type 0) (x : X) (told told' : Option (List ToldEnd)) (ended : Option (ℕ × ConnectionEnd)) → TellsEnd {X = X} {Y = Y} told told' ended (Ok x) → Tells told told' ended
+tells X Y x told told' None h = h
+tells X Y x told told' (Some e) h = h
+
+pub not_told_end : (X Y : Type 0) (y : Y) (told told' : Option (List ToldEnd)) (ended : Option (ℕ × ConnectionEnd)) → TellsEnd {X = X} {Y = Y} told told' ended (Err y) → NotTold told told' ended
+not_told_end X Y y told told' None h = absurd h
+not_told_end X Y y told told' (Some e) h = h
+
+module _ (limits : Limits) (reading : Reading) (first : World) (old new : ServiceState) (streams streams' : ℕ → StreamState) (told told' : Option (List ToldEnd)) (accepted : ℕ) (slots : List (Option Client))
+    (s : ServedSoFar limits reading first (world old streams told) accepted slots) (key : ℕ) (x : Option Client) (lt : key < length slots) where
+  same_slots : AllStay streams streams' → new ≡ old → x ≡ get_or slots key None → told' ≡ told → ServedSoFar limits reading first (world new streams' told') accepted (set slots key x)
+  same_slots stay e same t =
+      subst (λ (now : List (Option Client)). ServedSoFar limits reading first (world new streams' told') accepted now) (sym (ap (λ (o : Option Client). set slots key o) same ∙ set-get_or slots key None))
+      (subst (λ (state : ServiceState). ServedSoFar limits reading first (world state streams' told') accepted slots) (sym e)
+      (subst (λ (r : Option (List ToldEnd)). ServedSoFar limits reading first (world old streams' r) accepted slots) (sym t)
+      (still_so_far limits reading first old streams streams' told (stays streams streams' stay) accepted accepted slots slots refl (still_at_first slots) s)))
+
+  goes_on : (ended : Option (ℕ × ConnectionEnd)) → Tells told told' ended → SlotGoesOn limits.unsent reading old new streams streams' (get_or slots key None) x ended
+      → ServedSoFar limits reading first (world new streams' told') accepted (set slots key x)
+  goes_on None t (inl p) = same_slots p.1 p.0 p.2 t
+  goes_on None t (inr p) =
+      subst (λ (r : Option (List ToldEnd)). ServedSoFar limits reading first (world new streams' r) accepted (set slots key x)) (sym t)
+      (turned_on limits reading first old new streams streams' told accepted slots s key lt p.0 p.1 p.2 p.3 p.4 x p.5)
+  goes_on (Some e) t (inl p) = let no = p.3 in absurd (cc)
+  goes_on (Some e) t (inr p) =
+      turned_out limits reading first old new streams streams' told accepted slots s key lt p.0 p.1 p.2 p.3 p.4 x p.5.0 e.1 p.5.2 told'
+      (t ∙ ap (λ (n : ℕ). told_more told (record { number = n; how = e.1 } ∷ [])) p.5.1)
+
+  fails : (ended : Option (ℕ × ConnectionEnd)) → NotTold told told' ended → SlotGoesOn limits.unsent reading old new streams streams' (get_or slots key None) x ended
+      → ServesMany limits reading first (world new streams' told')
+  fails None t h = absurd t
+  fails (Some e) t (inl p) = let no = p.3 in absurd (cc)
+  fails (Some e) t (inr p) =
+      subst (λ (r : Option (List ToldEnd)). ServesMany limits reading first (world new streams' r)) (sym t)
+      (serves_turned limits reading first old new streams streams' told accepted slots s key lt p.0 p.1 p.2 p.3 p.4)
+
+  module _ (d : Option Client) (ended : Option (ℕ × ConnectionEnd)) (h : SlotGoesOn limits.unsent reading old new streams streams' (get_or slots key d) x ended) where
+    at_none : SlotGoesOn limits.unsent reading old new streams streams' (get_or slots key None) x ended
+    at_none = subst (λ (o : Option Client). SlotGoesOn limits.unsent reading old new streams streams' o x ended) (get_or_default slots key d None lt) h
+
+    -- once the connection in a slot had its turns and its end was told, what happened so far is what happened before and these turns
+    pub slot_goes_on : Tells told told' ended → ServedSoFar limits reading first (world new streams' told') accepted (set slots key x)
+    slot_goes_on t = goes_on ended t at_none
+
+    -- where its end couldn't be told, nothing more was told
+    pub slot_fails : NotTold told told' ended → ServesMany limits reading first (world new streams' told')
+    slot_fails t = fails ended t at_none
 
 -- ---- a further connection
 
-module _ (unsent : ℕ) (reading : Reading) (first now : ServiceState) (accepted : ℕ) (slots : List (Option Client)) (key : ℕ) (x : Option Client) (lt : key < length slots)
-    (s : ServedSoFar unsent reading first now accepted slots) (stands : StandsAs (accepted + 1) new_connection x) where
-  more_few : (j : ℕ) (d : Client) → IsAt slots key x j d → d.number ≤ accepted + 1
-  more_few j d (inl p) = let e = (stands d p.1).0 in omega arith
-  more_few j d (inr p) = let e = s.few j d p.1 in omega arith
+module _ (limits : Limits) (reading : Reading) (first now : World) (accepted : ℕ) (slots : List (Option Client)) (key : ℕ) (x : Option Client) (lt : key < length slots)
+    (s : ServedSoFar limits reading first now accepted slots) (below : accepted < limits.connections) (free : get_or slots key None ≡ None) (stands : StandsAs (accepted + 1) new_connection x) where
+  new_at : (d : Client) → x ≡ Some d → (d.number ≡ accepted + 1) × (d.connection ≡ new_connection)
+  new_at d h =
+      let same : Some stands.0 ≡ Some d = sym stands.1 ∙ h in
+      let is : stands.0 ≡ d = cc in
+      subst (λ (t : Client). (t.number ≡ accepted + 1) × (t.connection ≡ new_connection)) is (stands.2, stands.3)
 
-  more_each : (j : ℕ) (d : Client) → IsAt slots key x j d → d.connection ≡ s.after d.number
-  more_each j d (inl p) = (stands d p.1).1 ∙ sym (s.later (accepted + 1) (omega arith)) ∙ ap s.after (sym (stands d p.1).0)
+  more_few : (j : ℕ) (d : Client) → IsAt slots key x j d → (0 < d.number) × (d.number ≤ accepted + 1)
+  more_few j d (inl p) = let e = (new_at d p.1).0 in (omega arith, omega arith)
+  more_few j d (inr p) = let some = (s.few j d p.1).0 in let e = (s.few j d p.1).1 in (some, omega arith)
+
+  more_each : (j : ℕ) (d : Client) → IsAt slots key x j d → d.connection ≡ s.so_far.after d.number
+  more_each j d (inl p) = (new_at d p.1).1 ∙ sym (s.later (accepted + 1) (omega arith)) ∙ ap s.so_far.after (sym (new_at d p.1).0)
   more_each j d (inr p) = s.each j d p.1
 
   more_apart : (j k : ℕ) (b d : Client) → IsAt slots key x j b → IsAt slots key x k d → b.number ≡ d.number → j ≡ k
   more_apart j k b d (inl p) (inl q) e = p.0 ∙ sym q.0
-  more_apart j k b d (inl p) (inr q) e = let f = (stands b p.1).0 in let g = s.few k d q.1 in absurd (omega arith)
-  more_apart j k b d (inr p) (inl q) e = let f = (stands d q.1).0 in let g = s.few j b p.1 in absurd (omega arith)
+  more_apart j k b d (inl p) (inr q) e = let f = (new_at b p.1).0 in let g = (s.few k d q.1).1 in absurd (omega arith)
+  more_apart j k b d (inr p) (inl q) e = let f = (new_at d q.1).0 in let g = (s.few j b p.1).1 in absurd (omega arith)
   more_apart j k b d (inr p) (inr q) e = s.apart j k b d p.1 q.1 e
 
-  one_accepted : ServedSoFar unsent reading first now (accepted + 1) (set slots key x)
+  more_served : (n j : ℕ) (d : Client) → d.number ≡ n → IsAt slots key x j d → times_told n s.so_far.ends ≡ 0
+  more_served n j d e (inl p) = subst (λ (m : ℕ). times_told m s.so_far.ends ≡ 0) (sym (new_at d p.1).0 ∙ e) (s.untold (accepted + 1) (omega arith))
+  more_served n j d e (inr p) = s.served n (j, d, p.1, e)
+
+  kept : (n j : ℕ) (d : Client) → d.number ≡ n → IsIn slots j d → IsServed (set slots key x) n
+  kept n j d e h =
+      (j, d, in_slot slots key x lt j d (inr ((λ same. let g = subst (λ (k : ℕ). IsIn slots k d) same h in let no : None ≡ Some d = sym free ∙ g in absurd (cc)), h)), e)
+
+  last_or : (n : ℕ) → n ≤ accepted + 1 → (n ≤ accepted) ⊎ (n ≡ accepted + 1)
+  last_or n le = elim (same_or n (accepted + 1) (n == accepted + 1) refl) [ inl e ↦ inr e | inr ne ↦ inl (omega arith) ]
+
+  more_ended : (n : ℕ) → 0 < n → (n ≤ accepted) ⊎ (n ≡ accepted + 1) → IsServed (set slots key x) n ⊎ (times_told n s.so_far.ends ≡ 1)
+  more_ended n some (inl le) = elim (s.ended n some le) [ inl h ↦ inl (kept n h.0 h.1 h.3 h.2) | inr e ↦ inr e ]
+  more_ended n some (inr e) = inl (key, stands.0, in_slot slots key x lt key stands.0 (inl (refl, stands.1)), stands.2 ∙ sym e)
+
+  -- one further connection, in a slot that was free
+  pub one_accepted : ServedSoFar limits reading first now (accepted + 1) (set slots key x)
   one_accepted = record {
-    all = s.all;
-    after = s.after;
-    served = s.served;
+    so_far = s.so_far;
+    within = omega arith;
     few = λ j d h. more_few j d (at_slot slots key x lt j d h);
     each = λ j d h. more_each j d (at_slot slots key x lt j d h);
     apart = λ j k b d hb hd e. more_apart j k b d (at_slot slots key x lt j b hb) (at_slot slots key x lt k d hd) e;
     later = λ n past. s.later n (omega arith);
+    untold = λ n past. s.untold n (omega arith);
+    served = λ n h. more_served n h.0 h.1 h.3 (at_slot slots key x lt h.0 h.1 h.2);
+    ended = λ n some le. more_ended n some (last_or n le);
   }
 
-module _ (unsent : ℕ) (reading : Reading) (first now : ServiceState) (accepted accepted' : ℕ) (slots : List (Option Client)) (key : ℕ) (x : Option Client) (lt : key < length slots)
-    (s : ServedSoFar unsent reading first now accepted slots) (slot : Option Client) (e : slot ≡ get_or slots key slot) where
-  pub slot_accepted : AcceptsSo accepted accepted' slot x → ServedSoFar unsent reading first now accepted' (set slots key x)
+module _ (limits : Limits) (reading : Reading) (first : World) (state : ServiceState) (streams streams' : ℕ → StreamState) (told : Option (List ToldEnd)) (accepted accepted' : ℕ) (slots : List (Option Client))
+    (key : ℕ) (slot x : Option Client) (lt : key < length slots) (s : ServedSoFar limits reading first (world state streams told) accepted slots) (below : accepted < limits.connections) (free : slot ≡ None)
+    (here : slot ≡ get_or slots key slot) (stay : BytesStay streams streams') where
+  at_key : get_or slots key None ≡ slot
+  at_key = sym (here ∙ get_or_default slots key slot None lt)
+
+  before : ServedSoFar limits reading first (world state streams' told) accepted slots
+  before = still_so_far limits reading first state streams streams' told stay accepted accepted slots slots refl (still_at_first slots) s
+
+  -- once it was tried to accept a connection into a free slot
+  pub slot_accepted : AcceptsSo accepted accepted' slot x → ServedSoFar limits reading first (world state streams' told) accepted' (set slots key x)
   slot_accepted (inl p) =
-      let still = subst (λ (o : Option Client). SlotIsStill o x) (e ∙ get_or_default slots key slot None lt) p.1 in
-      still_goes_on unsent reading now accepted accepted' slots (set slots key x) p.0 (still_more slots slots key x lt (still_at_first slots) still) first s
+      subst (λ (n : ℕ). ServedSoFar limits reading first (world state streams' told) n (set slots key x)) (sym p.0)
+      (subst (λ (now : List (Option Client)). ServedSoFar limits reading first (world state streams' told) accepted now)
+      (sym (ap (λ (o : Option Client). set slots key o) (p.1 ∙ sym at_key) ∙ set-get_or slots key None)) before)
   slot_accepted (inr p) =
-      subst (λ (n : ℕ). ServedSoFar unsent reading first now n (set slots key x)) (sym p.0)
-      (one_accepted unsent reading first now accepted slots key x lt s (subst (λ (n : ℕ). StandsAs n new_connection x) p.0 p.1))
+      subst (λ (n : ℕ). ServedSoFar limits reading first (world state streams' told) n (set slots key x)) (sym p.0)
+      (one_accepted limits reading first (world state streams' told) accepted slots key x lt before below (at_key ∙ free) (subst (λ (n : ℕ). StandsAs n new_connection x) p.0 p.1))
 
--- ---- the start
+-- ---- the start and the end
 
-pub none_more : (slots : List (Option Client)) → HasNone slots → HasNone (slots ++ None ∷ [])
-none_more [] none zero c h = absurd (cc)
-none_more [] none (suc key) c h = absurd (cc)
-none_more (x ∷ slots) none zero c h = none zero c h
-none_more (x ∷ slots) none (suc key) c h = none_more slots (λ j d e. none (suc j) d e) key c h
-
--- where no slot has a client, nothing happened on any connection so far
-pub none_served : (unsent : ℕ) (reading : Reading) (first : ServiceState) (accepted : ℕ) (slots : List (Option Client)) → HasNone slots → ServedSoFar unsent reading first first accepted slots
-none_served unsent reading first accepted slots none = record {
+-- a world in which nothing happened
+abbrev pub nothing_happened : (limits : Limits) (reading : Reading) (state : ServiceState) (streams : ℕ → StreamState) (told : Option (List ToldEnd))
+    → ServesMany limits reading (world state streams told) (world state streams told)
+nothing_happened limits reading state streams told = record {
   all = [];
   after = λ n. new_connection;
-  served = record { run = refl; each = λ c. refl };
-  few = λ key c h. absurd (none key c h);
-  each = λ key c h. absurd (none key c h);
-  apart = λ j k b c hb hc e. absurd (none j b hb);
-  later = λ n past. refl;
+  streamed = record { served = record { run = refl; each = λ c. refl }; read = λ c. Consumes-nil (streams c).left; wrote = λ c. Appends-nil (streams c).written };
+  numbered = tt;
+  ends = [];
+  told = told_none told;
+  ended = tt;
 }
 
--- a service that stays as it is served many connections on which nothing happened
-pub nothing_happened : (unsent : ℕ) (reading : Reading) (first : ServiceState) → ServesMany unsent reading first first
-nothing_happened unsent reading first = ([], λ n. new_connection, record { run = refl; each = λ c. refl })
+no_client : (slots : List (Option Client)) → HasNone slots → {P : Type 0} → (key : ℕ) (c : Client) → IsIn slots key c → P
+no_client slots none key c h = let no : None ≡ Some c = sym (none key) ∙ h in absurd (cc)
+
+-- where no slot has a client and none was accepted, nothing happened on any connection so far
+pub none_served : (limits : Limits) (reading : Reading) (state : ServiceState) (streams : ℕ → StreamState) (told : Option (List ToldEnd)) (accepted : ℕ) (slots : List (Option Client)) → HasNone slots → accepted ≡ 0
+    → ServedSoFar limits reading (world state streams told) (world state streams told) accepted slots
+none_served limits reading state streams told accepted slots none zero = record {
+  so_far = nothing_happened limits reading state streams told;
+  within = omega arith;
+  few = λ key c h. no_client slots none key c h;
+  each = λ key c h. no_client slots none key c h;
+  apart = λ j k b c hb hc e. no_client slots none j b hb;
+  later = λ n past. refl;
+  untold = λ n past. refl;
+  served = λ n h. refl;
+  ended = λ n some le. absurd (omega arith);
+}
+
+-- where as many were accepted as were asked for and no slot has a client, each was told as ended, once
+pub all_told : (limits : Limits) (reading : Reading) (first now : World) (accepted : ℕ) (slots : List (Option Client)) → is_done limits accepted slots ≡ true
+    → (s : ServedSoFar limits reading first now accepted slots) → EachIsTold limits.connections s.so_far.ends
+all_told limits reading first now accepted slots done s n some le =
+    let both = both_hold (nat_le limits.connections accepted) (list_all is_none slots) done in
+    let enough = leb-true limits.connections accepted both.0 in
+    elim (s.ended n some (omega arith)) [ inl h ↦ no_client slots (all_free slots both.1) h.0 h.1 h.2 | inr e ↦ e ]

@@ -1,37 +1,86 @@
 -- Turns of a connection, one after another.
-use Rattle.std.proofs.Common.{◌≡◌, ℕ, List, [], ◌++◌, max, refl, subst, sym}
+use Rattle.std.proofs.Common.{◌≡◌, ℕ, ◌+◌, ◌*◌, ◌<◌, ◌≤◌, List, [], ◌++◌, length, max, refl, sym, ◌∙◌, ap, subst, length-append, zero-add, arith}
+use Rattle.std.specs.Prelude.{Option}
+use Rattle.std.proofs.KnownBytes.{Consumes-nil, Appends-nil}
+use Rattle.std.specs.Io.KnownBytes.{Consumes, Appends}
 use Rattle.compose_machine.specs.Machine.{ServiceState, Reading}
-use Rattle.compose_machine.specs.Laws.{IsHistory}
-use Rattle.compose_many.specs.Connection.{ConnectionState, Event, AllHappen, exchanges}
+use Rattle.compose_many.specs.Connection.{ConnectionState, Event, piece_of, received, loads, max_piece}
+use Rattle.compose_many.specs.Numbered.{StreamState}
 use Rattle.compose_many.specs.declared.turn.Turn.{Turn}
-use Rattle.compose_many.proofs.Happening.{run-both, happen-both}
-use Rattle.compose_hub.specs.Turns.{TurnsSo}
+use Rattle.compose_many.specs.declared.turn.Turn.TheVariants.{GoesOn}
+use Rattle.compose_many.proofs.Happening.{flat-both, loads-both}
+use Rattle.compose_many.proofs.Turning.{turn_then}
+use Rattle.compose_hub.specs.Sockets.{KeepsBytes}
+use Rattle.compose_hub.specs.Turns.{AreTurns, TurnsSo}
 
--- turns after which the connection goes on
-pub record WentOn (unsent : ℕ) (reading : Reading) (old new : ServiceState) (before now : ConnectionState) : Type 0 where
+-- so many turns after which the connection goes on, and in which no load was answered
+pub record WentOn (turns unsent : ℕ) (reading : Reading) (old new : ServiceState) (number : ℕ) (streams streams' : ℕ → StreamState) (before now : ConnectionState) : Type 0 where
   pub events : List Event
-  pub happen : AllHappen (max unsent 1) before events now
-  pub run : IsHistory reading old (exchanges events) new
+  pub are : AreTurns unsent reading old new number streams streams' before now events
+  pub few : length (received events) ≤ turns * max_piece
+  pub no_load : loads events ≡ 0
 
-pub no_turn : (unsent : ℕ) (reading : Reading) (old : ServiceState) (before : ConnectionState) → WentOn unsent reading old old before before
-no_turn unsent reading old before = record { events = []; happen = refl; run = refl }
+-- a stream that is closed, while nothing happens on its connection
+pub closed : (unsent : ℕ) (reading : Reading) (old : ServiceState) (number : ℕ) (streams streams' : ℕ → StreamState) (state : ConnectionState) → KeepsBytes number streams streams'
+    → AreTurns unsent reading old old number streams streams' state state []
+closed unsent reading old number streams streams' state h = record {
+  turn = record {
+    happen = refl;
+    run = refl;
+    read = subst (λ (l : Option (List ℕ)). Consumes (streams number).left l []) (sym h.left) (Consumes-nil (streams number).left);
+    wrote = subst (λ (l : Option (List ℕ)). Appends (streams number).written l []) (sym h.written) (Appends-nil (streams number).written);
+  };
+  others = h.others;
+}
 
-module _ (unsent : ℕ) (reading : Reading) (old mid new : ServiceState) (before between now : ConnectionState) (so_far : WentOn unsent reading old mid before between) where
+pub no_turn : (unsent : ℕ) (reading : Reading) (old : ServiceState) (number : ℕ) (streams : ℕ → StreamState) (before : ConnectionState) → WentOn 0 unsent reading old old number streams streams before before
+no_turn unsent reading old number streams before = record {
+  events = [];
+  are = closed unsent reading old number streams streams before (record { left = refl; written = refl; others = λ c ne. refl });
+  few = omega arith;
+  no_load = refl;
+}
+
+-- turns, and then further ones, are turns
+pub are_both : (unsent : ℕ) (reading : Reading) (old mid new : ServiceState) (number : ℕ) (streams streams' streams'' : ℕ → StreamState) (before between after : ConnectionState) (es fs : List Event)
+    → AreTurns unsent reading old mid number streams streams' before between es → AreTurns unsent reading mid new number streams' streams'' between after fs
+    → AreTurns unsent reading old new number streams streams'' before after (es ++ fs)
+are_both unsent reading old mid new number streams streams' streams'' before between after es fs x y = record {
+  turn =
+      turn_then (max unsent 1) reading old mid new before between after (streams number).left (streams' number).left (streams'' number).left (streams number).written (streams' number).written
+      (streams'' number).written es fs x.turn y.turn;
+  others = λ c ne. y.others c ne ∙ x.others c ne;
+}
+
+module _ (turns unsent : ℕ) (reading : Reading) (old mid new : ServiceState) (number : ℕ) (streams streams' streams'' : ℕ → StreamState) (before between now : ConnectionState)
+    (so_far : WentOn turns unsent reading old mid number streams streams' before between) where
+  few_both : (fs : List Event) → length (received fs) ≤ 1 * max_piece → length (received (so_far.events ++ fs)) ≤ (turns + 1) * max_piece
+  few_both fs h =
+      let both : length (received (so_far.events ++ fs)) ≡ length (received so_far.events) + length (received fs) = ap length (flat-both piece_of so_far.events fs) ∙ length-append (received so_far.events) (received fs) in
+      let few = so_far.few in
+      omega arith
+
+  no_load_both : (fs : List Event) → loads (so_far.events ++ fs) ≡ loads fs
+  no_load_both fs = loads-both so_far.events fs ∙ ap (λ n. n + loads fs) so_far.no_load ∙ zero-add (loads fs)
+
   -- a last turn after turns on which the connection went on is turns of it altogether
-  pub turns_then : (turn : Turn) → TurnsSo unsent reading turn mid new between now → TurnsSo unsent reading turn old new before now
-  turns_then turn t = (
+  pub turns_then : (most : ℕ) (turn : Turn) → turns < most → TurnsSo 1 unsent reading turn mid new number streams' streams'' between now → TurnsSo most unsent reading turn old new number streams streams'' before now
+  turns_then most turn lt t = (
     so_far.events ++ t.0,
     t.1,
-    happen-both (max unsent 1) before between t.1 so_far.events t.0 so_far.happen t.2,
-    run-both reading old mid new so_far.events t.0 so_far.run t.3,
-    t.4,
+    are_both unsent reading old mid new number streams streams' streams'' before between t.1 so_far.events t.0 so_far.are t.2,
+    (let few = few_both t.0 t.3 in omega arith),
+    no_load_both t.0 ∙ t.4,
+    t.5,
   )
 
-  -- events on which the connection goes on, after turns on which it went on, are such turns with these
-  pub went_on : (events : List Event) (after : ConnectionState) → AllHappen (max unsent 1) between events after → IsHistory reading mid (exchanges events) new → now ≡ after
-      → WentOn unsent reading old new before now
-  went_on events after h r e = record {
-    events = so_far.events ++ events;
-    happen = happen-both (max unsent 1) before between now so_far.events events so_far.happen (subst (λ (s : ConnectionState). AllHappen (max unsent 1) between events s) (sym e) h);
-    run = run-both reading old mid new so_far.events events so_far.run r;
+  -- and where it goes on after that one too, it went on
+  pub went_on : TurnsSo 1 unsent reading GoesOn mid new number streams' streams'' between now → WentOn (turns + 1) unsent reading old new number streams streams'' before now
+  went_on t = record {
+    events = so_far.events ++ t.0;
+    are =
+        are_both unsent reading old mid new number streams streams' streams'' before between now so_far.events t.0 so_far.are
+        (subst (λ (s : ConnectionState). AreTurns unsent reading mid new number streams' streams'' between s t.0) (sym t.5) t.2);
+    few = few_both t.0 t.3;
+    no_load = no_load_both t.0 ∙ t.4;
   }

@@ -1,2 +1,6 @@
+pub mod Sockets
+pub mod Ends
 pub mod Turns
 pub mod Serving
+pub mod Rounds
+pub mod Polled

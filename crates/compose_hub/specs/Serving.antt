@@ -1,47 +1,97 @@
 -- The connections in the slots of a server, and what happened on all connections since the first.
-use Rattle.std.specs.Prelude.{◌≡◌, ◌⊎◌, ℕ, ◌+◌, ◌<◌, ◌≤◌, max, List, get_or, Option, Some, None}
+use Rattle.std.specs.Prelude.{◌≡◌, ◌≢◌, ◌⊎◌, ℕ, ◌+◌, ◌<◌, ◌≤◌, max, List, get_or, Option, Some, None}
+use Rattle.std.specs.List.{AllByRecursion}
 use Rattle.compose_machine.specs.Machine.{ServiceState, Reading}
-use Rattle.compose_machine.specs.Laws.{IsHistory}
-use Rattle.compose_many.specs.Connection.{ConnectionState, new_connection, Event, AllHappen, exchanges}
-use Rattle.compose_many.specs.Service.{NumberedEvent, AllServed}
+use Rattle.compose_many.specs.Connection.{ConnectionState, new_connection, Event}
+use Rattle.compose_many.specs.Service.{NumberedEvent}
+use Rattle.compose_many.specs.Numbered.{StreamState, AllStreamed}
 use Rattle.compose_many.specs.declared.turn.Turn.{Turn}
-use Rattle.compose_hub.specs.Turns.{TurnsSo}
+use Rattle.compose_hub.specs.Sockets.{AllStay}
+use Rattle.compose_hub.specs.Ends.{ToldEnd, told_more, HasEnded, times_told}
+use Rattle.compose_hub.specs.Turns.{TurnsSo, AreTurns}
 use Rattle.compose_hub.specs.declared.client.Client.{Client}
+use Rattle.compose_hub.specs.declared.client.Limits.{Limits}
+use Rattle.compose_hub.specs.declared.client.WaitsFor.TheVariants.{Turn as ForTurn}
+use Rattle.compose_hub.specs.declared.ends.ConnectionEnd.{ConnectionEnd}
 
--- everything that happened, in order, each with the number of its connection: all connections were new, and the service goes on by the
--- exchanges of all of them
-abbrev pub ServesMany : ℕ → Reading → ServiceState → ServiceState → Type 0
-ServesMany unsent reading old new = (all : List NumberedEvent) × (after : ℕ → ConnectionState) × AllServed (max unsent 1) reading old new (λ n. new_connection) after all
+-- the service, the streams of all connections, and what was told of those that ended
+pub record World : Type 0 where
+  pub service : ServiceState
+  pub streams : ℕ → StreamState
+  pub told : Option (List ToldEnd)
+
+abbrev pub world : ServiceState → (ℕ → StreamState) → Option (List ToldEnd) → World
+world service streams told = record { service = service; streams = streams; told = told }
+
+-- each event is on a connection with one of the numbers from 1 to this one
+abbrev pub AreNumberedTo : ℕ → List NumberedEvent → Type 0
+AreNumberedTo last all = AllByRecursion (λ (e : NumberedEvent). (0 < e.connection) × (e.connection ≤ last)) all
+
+-- everything that happened, in order, each with the number of its connection: all connections were new, the service goes on by the
+-- exchanges of all of them, what each stream gave and took is what came and was sent in the events of its own connection, and
+-- each connection that was told as ended has ended so
+pub record ServesMany (limits : Limits) (reading : Reading) (first now : World) : Type 0 where
+  pub all : List NumberedEvent
+  pub after : ℕ → ConnectionState
+  pub streamed : AllStreamed (max limits.unsent 1) reading first.service now.service (λ n. new_connection) after first.streams now.streams all
+  pub numbered : AreNumberedTo limits.connections all
+  pub ends : List ToldEnd
+  pub told : now.told ≡ told_more first.told ends
+  pub ended : AllByRecursion (λ (e : ToldEnd). HasEnded e.how (now.streams e.number) (after e.number)) ends
+
+-- each of the connections that were asked for was told as ended, and once
+abbrev pub EachIsTold : ℕ → List ToldEnd → Type 0
+EachIsTold connections ends = (n : ℕ) → 0 < n → n ≤ connections → times_told n ends ≡ 1
+
+-- everything that happened, where all connections that were asked for have ended
+abbrev pub ServesAll : Limits → Reading → World → World → Type 0
+ServesAll limits reading first now = (s : ServesMany limits reading first now) × EachIsTold limits.connections s.ends
+
+-- ---- the slots
 
 -- the connection in a slot, if there is one, has this number and stands so
 abbrev pub StandsAs : ℕ → ConnectionState → Option Client → Type 0
-StandsAs number state slot = (c : Client) → slot ≡ Some c → (c.number ≡ number) × (c.connection ≡ state)
+StandsAs number state slot = (c : Client) × (slot ≡ Some c) × (c.number ≡ number) × (c.connection ≡ state)
 
 -- a client is on the same connection, which stands as before
 abbrev pub IsStill : Client → Client → Type 0
 IsStill before now = (now.number ≡ before.number) × (now.connection ≡ before.connection)
 
--- a client in a slot was there, and its connection stands as before
+-- a slot has a client where it had one, and its connection stands as before
 abbrev pub SlotIsStill : Option Client → Option Client → Type 0
-SlotIsStill before now = (d : Client) → now ≡ Some d → (c : Client) × (before ≡ Some c) × IsStill c d
+SlotIsStill None now = now ≡ None
+SlotIsStill (Some c) now = (d : Client) × (now ≡ Some d) × IsStill c d
 
 abbrev pub AllAreStill : List (Option Client) → List (Option Client) → Type 0
 AllAreStill before now = (key : ℕ) → SlotIsStill (get_or before key None) (get_or now key None)
 
 -- a slot once the next connection was accepted into it, if one could be: so many were accepted before, and so many now
 abbrev pub AcceptsSo : ℕ → ℕ → Option Client → Option Client → Type 0
-AcceptsSo accepted accepted' before now =
-    ((accepted' ≡ accepted) × SlotIsStill before now) ⊎ ((accepted' ≡ accepted + 1) × StandsAs accepted' new_connection now)
+AcceptsSo accepted accepted' before now = ((accepted' ≡ accepted) × (now ≡ before)) ⊎ ((accepted' ≡ accepted + 1) × StandsAs accepted' new_connection now)
 
--- turns of a client are turns of its connection
-abbrev pub ClientTurnsSo : ℕ → Reading → Turn → ServiceState → ServiceState → Client → Client → Type 0
-ClientTurnsSo unsent reading turn old new before now = TurnsSo unsent reading turn old new before.connection now.connection × (now.number ≡ before.number)
+-- up to so many turns of a client are turns of its connection
+abbrev pub ClientTurnsSo : ℕ → ℕ → Reading → Turn → ServiceState → ServiceState → (ℕ → StreamState) → (ℕ → StreamState) → Client → Client → Type 0
+ClientTurnsSo most unsent reading turn old new streams streams' before now =
+    TurnsSo most unsent reading turn old new before.number streams streams' before.connection now.connection × (now.number ≡ before.number)
 
--- the turns of the connection in a slot are events of it
-abbrev pub SlotTurnsSo : ℕ → Reading → ServiceState → ServiceState → Option Client → Option Client → Type 0
-SlotTurnsSo unsent reading old new before now =
-    ((new ≡ old) × (now ≡ before)) ⊎ ((c : Client) × (before ≡ Some c) × (events : List Event) × (after : ConnectionState) × AllHappen (max unsent 1) c.connection events after
-    × IsHistory reading old (exchanges events) new × StandsAs c.number after now)
+-- the connection goes on, or it ended, its slot is empty and its end is said
+abbrev pub GoesOnOrEnds : Client → ConnectionState → StreamState → Option Client → Option (ℕ × ConnectionEnd) → Type 0
+GoesOnOrEnds c after stream now None = StandsAs c.number after now
+GoesOnOrEnds c after stream now (Some told) = (now ≡ None) × (told.0 ≡ c.number) × HasEnded told.1 stream after
+
+-- the client in a slot has had turns, which are events of its connection, or nothing happened; its end is said, if it ended
+abbrev pub SlotGoesOn : ℕ → Reading → ServiceState → ServiceState → (ℕ → StreamState) → (ℕ → StreamState) → Option Client → Option Client → Option (ℕ × ConnectionEnd) → Type 0
+SlotGoesOn unsent reading old new streams streams' before now ended =
+    ((new ≡ old) × AllStay streams streams' × (now ≡ before) × (ended ≡ None))
+    ⊎ ((c : Client) × (before ≡ Some c) × (events : List Event) × (after : ConnectionState)
+    × AreTurns unsent reading old new c.number streams streams' c.connection after events × GoesOnOrEnds c after (streams' c.number) now ended)
+
+-- the client in a slot has had turns if its turn was next, and else nothing happened
+abbrev pub SlotTurnsSo : ℕ → Reading → ServiceState → ServiceState → (ℕ → StreamState) → (ℕ → StreamState) → Option Client → Option Client → Option (ℕ × ConnectionEnd) → Type 0
+SlotTurnsSo unsent reading old new streams streams' before now ended =
+    ((new ≡ old) × AllStay streams streams' × (now ≡ before) × (ended ≡ None) × ((c : Client) → before ≡ Some c → c.waits_for ≢ ForTurn))
+    ⊎ ((c : Client) × (before ≡ Some c) × (c.waits_for ≡ ForTurn) × (events : List Event) × (after : ConnectionState)
+    × AreTurns unsent reading old new c.number streams streams' c.connection after events × GoesOnOrEnds c after (streams' c.number) now ended)
 
 -- the client that is in a slot
 abbrev pub IsIn : List (Option Client) → ℕ → Client → Type 0
@@ -49,20 +99,30 @@ IsIn slots key c = get_or slots key None ≡ Some c
 
 -- there is no client
 abbrev pub HasNone : List (Option Client) → Type 0
-HasNone slots = (key : ℕ) (c : Client) → IsIn slots key c → ⊥
+HasNone slots = (key : ℕ) → get_or slots key None ≡ None
+
+-- the connection with this number is served
+abbrev pub IsServed : List (Option Client) → ℕ → Type 0
+IsServed slots n = (key : ℕ) × (c : Client) × IsIn slots key c × (c.number ≡ n)
 
 -- what happened since the first connection was accepted: each connection in a slot stands as its events left it, no two have one number,
--- and so many were accepted
-pub record ServedSoFar (unsent : ℕ) (reading : Reading) (first now : ServiceState) (accepted : ℕ) (slots : List (Option Client)) : Type 0 where
-  pub all : List NumberedEvent
-  pub after : ℕ → ConnectionState
-  pub served : AllServed (max unsent 1) reading first now (λ n. new_connection) after all
-  pub few : (key : ℕ) (c : Client) → IsIn slots key c → c.number ≤ accepted
-  pub each : (key : ℕ) (c : Client) → IsIn slots key c → c.connection ≡ after c.number
+-- so many were accepted, and each of these is served or was told as ended once
+pub record ServedSoFar (limits : Limits) (reading : Reading) (first now : World) (accepted : ℕ) (slots : List (Option Client)) : Type 0 where
+  pub so_far : ServesMany limits reading first now
+  pub within : accepted ≤ limits.connections
+  pub few : (key : ℕ) (c : Client) → IsIn slots key c → (0 < c.number) × (c.number ≤ accepted)
+  pub each : (key : ℕ) (c : Client) → IsIn slots key c → c.connection ≡ so_far.after c.number
   pub apart : (j k : ℕ) (b c : Client) → IsIn slots j b → IsIn slots k c → b.number ≡ c.number → j ≡ k
-  pub later : (n : ℕ) → accepted < n → after n ≡ new_connection
+  pub later : (n : ℕ) → accepted < n → so_far.after n ≡ new_connection
+  pub untold : (n : ℕ) → accepted < n → times_told n so_far.ends ≡ 0
+  pub served : (n : ℕ) → IsServed slots n → times_told n so_far.ends ≡ 0
+  pub ended : (n : ℕ) → 0 < n → n ≤ accepted → IsServed slots n ⊎ (times_told n so_far.ends ≡ 1)
 
 -- what was true of all that happened stays true where the connections go on so
-abbrev pub GoesOnServing : ℕ → Reading → ServiceState → ServiceState → ℕ → ℕ → List (Option Client) → List (Option Client) → Type 0
-GoesOnServing unsent reading old new accepted accepted' slots slots' =
-    (first : ServiceState) → ServedSoFar unsent reading first old accepted slots → ServedSoFar unsent reading first new accepted' slots'
+abbrev pub GoesOnServing : Limits → Reading → World → World → ℕ → ℕ → List (Option Client) → List (Option Client) → Type 0
+GoesOnServing limits reading old new accepted accepted' slots slots' =
+    (first : World) → ServedSoFar limits reading first old accepted slots → ServedSoFar limits reading first new accepted' slots'
+
+-- everything that happened, whether or not its last end was told
+abbrev pub HasServed : Limits → Reading → World → World → ℕ → List (Option Client) → Type 0
+HasServed limits reading old new accepted slots = (first : World) → ServedSoFar limits reading first old accepted slots → ServesMany limits reading first new

@@ -1,11 +1,12 @@
-//! A connection and its stream.
-ghost use Rattle.std.specs.Prelude.{◌≡◌};
+//! A connection that is served.
+ghost use Rattle.std.specs.Prelude.{◌≡◌, true};
 ghost use Rattle.compose_many.specs.Connection.{new_connection};
-ghost use Rattle.compose_hub.specs.Serving.{ClientTurnsSo, IsStill};
+ghost use Rattle.compose_hub.specs.Turns.{max_turns};
+ghost use Rattle.compose_hub.specs.Serving.{ClientTurnsSo};
+ghost use Rattle.compose_hub.specs.Rounds.{uses_room, is_stalled};
 
-use compose_many::{Connection, Limits as TurnLimits, Nonblocking, Turn, take_turn};
+use compose_many::{Connection, Limits as TurnLimits, Streams, Turn, turn_on};
 use compose_serve::Answer;
-use mio::net::UnixStream;
 use std::alloc::Global;
 
 /// So many turns a connection has before the others have theirs.
@@ -13,6 +14,9 @@ const TURNS: u32 = 4;
 
 /// So many bytes a connection may hold without more room.
 const HELD: usize = 65_536;
+
+/// For so long, in microseconds, nothing of a load may come while others wait for its room.
+const PATIENCE: u64 = 10_000_000;
 
 /// How much is served.
 #[derive(Clone, Copy, Debug, PartialEq, Eq, Drop)]
@@ -36,27 +40,28 @@ pub(crate) enum WaitsFor {
     Room,
 }
 
-/// A connection and its stream.
+/// A connection that is served.
 #[derive(Drop)]
 pub(crate) struct Client {
-    stream: UnixStream,
     connection: Connection,
     number: u32,
     pub(crate) waits_for: WaitsFor,
     has_room: bool,
+    /// Since when it waits for room, or when a piece came last, in microseconds.
+    since: u64,
 }
 
 impl Client {
     /// A client that has had no turn.
-    pub(crate) fn new(alloc: Global, number: u32, stream: UnixStream) -> Client
+    pub(crate) fn new(alloc: Global, number: u32) -> Client
         ensures { (result.number ≡ number) × (result.connection ≡ new_connection) }
     {
         Client {
-            stream,
             connection: Connection::new(alloc),
             number,
             waits_for: WaitsFor::Turn,
             has_room: false,
+            since: 0,
         }
     }
 
@@ -68,59 +73,92 @@ impl Client {
     }
 
     /// Whether it uses the room that it was given.
-    pub(crate) fn uses_room(&self) -> bool {
+    pub(crate) fn uses_room(&self) -> bool
+        ensures { result ≡ uses_room self.now }
+    {
         self.has_room && self.connection.held() >= HELD
     }
 
-    /// Takes room that it does not use, or gives it some where it waits for it and there is some left.
-    pub(crate) fn share_room(&mut self, rooms_left: &mut usize)
-        ensures { IsStill self.old self.new }
+    /// Whether it uses its room, and nothing came for ten seconds.
+    pub(crate) fn is_stalled(&self, time: u64) -> bool
+        ensures { result ≡ is_stalled time self.now }
     {
-        if self.uses_room() {
-            return;
-        }
-        self.has_room = self.waits_for == WaitsFor::Room && *rooms_left > 0;
-        if self.has_room {
-            *rooms_left -= 1;
-            self.waits_for = WaitsFor::Turn;
-        }
+        self.uses_room() && time.saturating_sub(self.since) >= PATIENCE
     }
 
-    /// So many turns, as long as it goes on; says what follows the last.
-    pub(crate) fn take_turns<S: Answer>(
+    /// Since when it waits for room, or when a piece came last.
+    pub(crate) fn since(&self) -> u64
+        ensures { result ≡ self.now.since }
+    {
+        self.since
+    }
+
+    /// Takes room that it does not use.
+    pub(crate) fn give_back_room(&mut self)
+        ensures { self.new ≡ record self.old { has_room = uses_room self.old } }
+    {
+        self.has_room = self.uses_room();
+    }
+
+    /// Gives it room, and its next turn.
+    pub(crate) fn take_room(&mut self, time: u64)
+        ensures { self.new ≡ record self.old { has_room = true; waits_for = WaitsFor.Turn; since = time } }
+    {
+        self.has_room = true;
+        self.waits_for = WaitsFor::Turn;
+        self.since = time;
+    }
+
+    /// Waits for room from now on.
+    pub(crate) fn wait_for_room(&mut self, time: u64)
+        ensures { self.new ≡ record self.old { waits_for = WaitsFor.Room; since = time } }
+    {
+        self.waits_for = WaitsFor::Room;
+        self.since = time;
+    }
+
+    /// So many turns, as long as it goes on and answers no load; says what follows the last.
+    pub(crate) fn take_turns<N: Streams, A: Answer>(
         &mut self,
-        service: &mut S,
+        streams: &mut N,
+        service: &mut A,
         alloc: Global,
         unsent: usize,
+        time: u64,
     ) -> Turn
-        ensures { ClientTurnsSo unsent S.reading result (S.state service.old)
-            (S.state service.new) self.old self.new }
+        ensures { ClientTurnsSo max_turns unsent A.reading result (A.state service.old)
+            (A.state service.new) (N.stream streams.old) (N.stream streams.new) self.old self.new }
     {
         'turns: for _ in 0..TURNS {
-            match self.turn(service, alloc, unsent) {
-                Turn::GoesOn => {}
+            match self.turn(streams, service, alloc, unsent) {
+                Turn::GoesOn => self.since = time,
                 turn => return turn,
             }
         }
         Turn::GoesOn
     }
 
-    /// One turn, with its own stream.
-    fn turn<S: Answer>(&mut self, service: &mut S, alloc: Global, unsent: usize) -> Turn
-        ensures { ClientTurnsSo unsent S.reading result (S.state service.old)
-            (S.state service.new) self.old self.new }
+    /// One turn, on its own stream.
+    fn turn<N: Streams, A: Answer>(
+        &mut self,
+        streams: &mut N,
+        service: &mut A,
+        alloc: Global,
+        unsent: usize,
+    ) -> Turn
+        ensures { ClientTurnsSo 1 unsent A.reading result (A.state service.old)
+            (A.state service.new) (N.stream streams.old) (N.stream streams.new) self.old self.new }
     {
         let held = if self.has_room { usize::MAX } else { HELD };
         let limits = TurnLimits { unsent, held };
-        let mut reader = Nonblocking::new(&self.stream);
-        let mut writer = Nonblocking::new(&self.stream);
-        take_turn(
+        let number = u64::from(self.number);
+        turn_on(
+            streams,
             &mut self.connection,
             service,
             alloc,
             limits,
-            &mut reader,
-            &mut writer,
+            number,
         )
     }
 }

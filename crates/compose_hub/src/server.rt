@@ -1,35 +1,33 @@
 //! The connections of a service, and their turns.
-ghost use Rattle.std.specs.Prelude.{◌≡◌, ℕ, ◌+◌, ◌<◌, ◌^◌, max, vec_len, IfOk};
+ghost use Rattle.std.specs.Prelude.{◌≡◌, ◌≤◌, ◌==◌, ◌&&◌, ℕ, Bool, Option, List, ◌+◌, ◌<◌, ◌^◌, max, vec_len, IfOk, OnOk};
 ghost use Rattle.compose_machine.specs.Machine.{ServiceState, Reading};
 ghost use Rattle.compose_many.specs.Connection.{new_connection};
-ghost use Rattle.compose_hub.specs.Serving.{ServesMany, GoesOnServing, AcceptsSo, AllAreStill, HasNone, SlotIsStill, SlotTurnsSo, StandsAs};
+ghost use Rattle.compose_hub.specs.Sockets.{KeepsBytes};
+ghost use Rattle.compose_hub.specs.Ends.{ToldEnd};
+ghost use Rattle.compose_hub.specs.Serving.{world, ServesMany, ServesAll, HasServed, GoesOnServing, AcceptsSo, AllAreStill, HasNone, SlotIsStill, SlotTurnsSo};
+ghost use Rattle.compose_hub.specs.Rounds.{queue_after, retried, is_wanted, is_done, has_turns, waits_for_room, has_slot, longest_wait, slot_uses_room, waits_since, given_turn, given_room, longer, WaitsLongest, SlotGivesUp};
+ghost use Rattle.std.specs.Option.{option_map, is_none};
+ghost use Rattle.std.specs.List.{list_any, list_all};
+ghost use Rattle.std.specs.Duration.{as_nanos};
 
 use crate::client::{Client, Limits, WaitsFor};
+use crate::ends::{ConnectionEnd, Report, tell};
+use crate::sockets::{Accepted, Ready, Sockets};
 use compose_many::Turn;
-use compose_serve::{Answer, Ended, ServeFault};
-use mio::net::{UnixListener, UnixStream};
-use mio::{Events, Interest, Poll, Registry, Token};
+use compose_serve::Answer;
 use std::alloc::Global;
 use std::io;
-use std::io::ErrorKind;
-use std::net::Net;
 use std::time::Duration;
-
-/// What the listener is reported as.
-const LISTENER: Token = Token(usize::MAX);
 
 /// So many connections may hold more of a load than the others.
 const ROOMS: usize = 8;
 
-/// What is told of the connections.
-pub trait Report {
-    /// The connection with this number, from 1 in the order in which they were accepted, has ended so. An error ends the service.
-    fn ended(&mut self, number: u32, how: Result<Ended, ServeFault>) -> io::Result<()>;
-}
+/// What a round counts at least, in microseconds.
+const ROUND: u64 = 10;
 
-/// Whether connections may wait in the listener's queue.
+/// Whether connections may wait to be accepted.
 #[derive(Clone, Copy, Debug, PartialEq, Eq, Drop)]
-enum Queue {
+pub(crate) enum Queue {
     /// None did when it was last looked at.
     Empty,
     /// Some may.
@@ -38,251 +36,389 @@ enum Queue {
     Failed,
 }
 
-/// The connections, each in a slot of its own, which is the token of its stream.
+/// The connections, each in a slot of its own, which is the key of its stream.
 #[derive(Drop)]
 struct Server {
     slots: Vec<Option<Client>>,
     accepted: u32,
     queue: Queue,
-    limits: Limits,
+    /// How long it served, as far as that is counted, in microseconds.
+    time: u64,
 }
 
-/// Serves the connections to the listener, many at once, until as many as are asked for have ended.
+/// Serves the connections to the sockets, many at once, until as many as are asked for have ended.
 ///
 /// Whatever is ready, and however it ends: all that happened on the connections is one list of events, in which each connection goes on
-/// from new by its own events, and the service goes on by the requests of all of them as they were answered. What `law_connections` of
-/// `compose_many` says holds of it. Which connections are ready, and which bytes come on them, no contract says.
+/// from new by its own events, and the service goes on by the requests of all of them as they were answered; what each stream gave is
+/// what came in the events of its own connection, and what it took is what was sent in them. The connections have the numbers from 1,
+/// and no more than were asked for. What `law_connections` and `law_streams` of `compose_many` say holds of it. Each connection that is
+/// told to the report has ended so, and where it ends without an error, each was told once. Which connections are ready no contract
+/// says.
 ///
-/// An error of `accept` or of registering a stream ends nothing but that connection; where `accept` fails for another cause, as too
-/// many open files, it is tried again after a second at the latest. An error is one of `Poll`, of the memory for the slots, or of
-/// the report.
+/// Where a connection can't be accepted for another cause than its own, as too many open files, it is tried again after a second at the
+/// latest. An error is one of waiting, of the memory for the slots, or of the report.
 ///
 /// It takes memory for as many slots as connections are served at once. A round costs O(slots) beside the turns in it.
-pub fn serve_at_once<S: Answer, E: Report>(
-    net: &impl Net,
+pub fn serve_at_once<N: Sockets, A: Answer, E: Report>(
+    sockets: &mut N,
     alloc: Global,
-    listener: &mut UnixListener,
-    service: &mut S,
+    service: &mut A,
     limits: Limits,
     report: &mut E,
 ) -> io::Result<()>
-    ensures { ServesMany limits.unsent S.reading (S.state service.old) (S.state service.new) }
+    ensures serves { ServesMany limits A.reading
+        (world (A.state service.old) (N.stream sockets.old) (E.told report.old))
+        (world (A.state service.new) (N.stream sockets.new) (E.told report.new)) }
+    ensures all { OnOk result (ServesAll limits A.reading
+        (world (A.state service.old) (N.stream sockets.old) (E.told report.old))
+        (world (A.state service.new) (N.stream sockets.new) (E.told report.new))) }
 {
-    let mut poll = Poll::new(net)?;
-    poll.registry()
-        .register(listener, LISTENER, Interest::READABLE)?;
-    let mut events = Events::with_capacity(alloc, 256)?;
-    let mut server = Server::new(alloc, limits)?;
+    let mut ready = Vec::new(alloc);
+    let mut server = Server::new(alloc, limits.at_once)?;
     'rounds: for _ in 0..u64::MAX {
-        server.accept_all(alloc, poll.registry(), listener);
-        if server.is_done() {
+        server.accept_all(alloc, sockets, limits);
+        if server.is_done(limits) {
             return Ok(());
         }
-        poll.poll(&mut events, server.longest_wait())?;
-        server.mark_ready(&events);
-        server.take_turns(service, alloc, limits.unsent, report)?;
+        let waited = sockets.poll(server.longest_wait(limits), &mut ready)?;
+        server.count_time(waited);
+        server.mark_ready(&ready);
+        server.take_turns(sockets, service, alloc, limits, report)?;
         server.share_room();
+        server.give_up_stalled(sockets, limits, report)?;
     }
-    Ok(())
+    Err(io::Error::from(io::ErrorKind::TimedOut))
 }
 
 impl Server {
     /// A server without connections.
-    fn new(alloc: Global, limits: Limits) -> io::Result<Server>
+    fn new(alloc: Global, at_once: usize) -> io::Result<Server>
         ensures { IfOk result
-            (λ server. (vec_len server.slots ≡ max limits.at_once 1) × HasNone server.slots.items) }
+            (λ server. (vec_len server.slots ≡ max at_once 1) × HasNone server.slots.items
+            × (server.accepted ≡ 0)) }
     {
         let mut slots = Vec::new(alloc);
-        'slots: for _ in 0..limits.at_once.max(1) {
+        'slots: for _ in 0..at_once.max(1) {
             slots.push(None)?;
         }
         Ok(Server {
             slots,
             accepted: 0,
             queue: Queue::Waits,
-            limits,
+            time: 0,
         })
     }
 
     /// Whether all connections that are asked for have ended.
-    fn is_done(&self) -> bool {
-        self.accepted >= self.limits.connections && self.slots.iter().all(|slot| slot.is_none())
+    fn is_done(&self, limits: Limits) -> bool
+        ensures { result ≡ is_done limits self.now.accepted self.now.slots.items }
+    {
+        self.accepted >= limits.connections && self.all_free()
+    }
+
+    /// Whether no slot has a connection.
+    fn all_free(&self) -> bool
+        ensures { result ≡ list_all is_none self.now.slots.items }
+    {
+        self.slots.iter().all(|slot| slot.is_none())
     }
 
     /// How long there is nothing to do unless something becomes ready.
-    fn longest_wait(&self) -> Option<Duration> {
-        if self.has_turns() || (self.queue == Queue::Waits && self.has_slot()) {
+    fn longest_wait(&self, limits: Limits) -> Option<Duration>
+        ensures { option_map as_nanos result ≡ longest_wait self.now.queue (has_slot limits self.now.accepted self.now.slots.items)
+            (has_turns self.now.slots.items) (waits_for_room self.now.slots.items) }
+    {
+        if self.has_turns() || (self.queue == Queue::Waits && self.has_slot(limits)) {
             return Some(Duration::ZERO);
         }
-        match self.queue {
-            Queue::Failed => Some(Duration::from_secs(1)),
-            Queue::Empty | Queue::Waits => None,
+        if self.queue == Queue::Failed || self.waits_for_room() {
+            return Some(Duration::from_secs(1));
         }
+        None
     }
 
     /// Whether a connection waits for its next turn alone.
-    fn has_turns(&self) -> bool {
+    fn has_turns(&self) -> bool
+        ensures { result ≡ has_turns self.now.slots.items }
+    {
         self.slots.iter().any(|slot| match slot {
             Some(client) => client.waits_for == WaitsFor::Turn,
             None => false,
         })
     }
 
-    /// Whether a further connection is served.
-    fn has_slot(&self) -> bool {
-        self.accepted < self.limits.connections && self.slots.iter().any(|slot| slot.is_none())
+    /// Whether a connection waits for room.
+    fn waits_for_room(&self) -> bool
+        ensures { result ≡ waits_for_room self.now.slots.items }
+    {
+        self.slots.iter().any(|slot| match slot {
+            Some(client) => client.waits_for == WaitsFor::Room,
+            None => false,
+        })
     }
 
-    /// Accepts the connections that wait in the listener's queue, while there is a slot for them.
-    fn accept_all(&mut self, alloc: Global, registry: &Registry, listener: &UnixListener)
-        ensures { (unsent : ℕ) (reading : Reading) (state : ServiceState)
-            → GoesOnServing unsent reading state state self.old.accepted
+    /// Whether a further connection is served.
+    fn has_slot(&self, limits: Limits) -> bool
+        ensures { result ≡ has_slot limits self.now.accepted self.now.slots.items }
+    {
+        self.accepted < limits.connections && self.any_free()
+    }
+
+    /// Whether a slot has no connection.
+    fn any_free(&self) -> bool
+        ensures { result ≡ list_any is_none self.now.slots.items }
+    {
+        self.slots.iter().any(|slot| slot.is_none())
+    }
+
+    /// Counts the time of a round in which it waited so long; a round takes 10 microseconds at least.
+    fn count_time(&mut self, waited: Duration)
+        ensures { (self.new.accepted ≡ self.old.accepted) × (self.new.slots ≡ self.old.slots) }
+    {
+        let micros = u64::try_from(waited.as_micros()).unwrap_or(u64::MAX);
+        self.time = self.time.saturating_add(micros.max(ROUND));
+    }
+
+    /// Accepts the connections that wait, while there is a slot for them.
+    fn accept_all<N: Sockets>(&mut self, alloc: Global, sockets: &mut N, limits: Limits)
+        ensures { (reading : Reading) (state : ServiceState) (told : Option (List ToldEnd))
+            → GoesOnServing limits reading (world state (N.stream sockets.old) told)
+            (world state (N.stream sockets.new) told) self.old.accepted
             self.new.accepted self.old.slots.items self.new.slots.items }
     {
-        if self.queue == Queue::Failed {
-            self.queue = Queue::Waits;
-        }
+        self.queue = retried(self.queue);
         'slots: for (key, slot) in self.slots.iter_mut().enumerate() {
-            if self.queue != Queue::Waits || self.accepted >= self.limits.connections {
-                return;
-            }
-            if slot.is_some() {
+            if !is_wanted(slot, self.queue, self.accepted, limits) {
                 continue;
             }
-            let token = Token(key);
-            self.queue = accept_into(slot, &mut self.accepted, alloc, registry, listener, token);
+            self.queue = accept_into(slot, &mut self.accepted, alloc, sockets, key);
         }
     }
 
-    /// Gives what is reported as ready its next turn.
-    fn mark_ready(&mut self, events: &Events)
+    /// Gives what is ready its next turn.
+    fn mark_ready(&mut self, ready: &[Ready])
         ensures { (self.new.accepted ≡ self.old.accepted)
             × AllAreStill self.old.slots.items self.new.slots.items }
     {
-        'events: for event in events {
-            let Token(key) = event.token();
-            if key == usize::MAX {
-                self.queue = Queue::Waits;
-            } else if key < self.slots.len() {
-                give_turn(&mut self.slots[key]);
+        'ready: for source in ready {
+            match source {
+                Ready::Listener => self.queue = Queue::Waits,
+                Ready::Key(key) => {
+                    let key = *key;
+                    if key < self.slots.len() {
+                        give_turn(&mut self.slots[key]);
+                    }
+                }
             }
         }
     }
 
     /// The turns of all connections that are ready.
-    fn take_turns<S: Answer, E: Report>(
+    fn take_turns<N: Sockets, A: Answer, E: Report>(
         &mut self,
-        service: &mut S,
+        sockets: &mut N,
+        service: &mut A,
         alloc: Global,
-        unsent: usize,
+        limits: Limits,
         report: &mut E,
     ) -> io::Result<()>
-        ensures { GoesOnServing unsent S.reading (S.state service.old)
-            (S.state service.new) self.old.accepted
-            self.new.accepted self.old.slots.items self.new.slots.items }
+        ensures happened { HasServed limits A.reading
+            (world (A.state service.old) (N.stream sockets.old) (E.told report.old))
+            (world (A.state service.new) (N.stream sockets.new) (E.told report.new))
+            self.old.accepted self.old.slots.items }
+        ensures goes_on { OnOk result (GoesOnServing limits A.reading
+            (world (A.state service.old) (N.stream sockets.old) (E.told report.old))
+            (world (A.state service.new) (N.stream sockets.new) (E.told report.new))
+            self.old.accepted self.new.accepted self.old.slots.items self.new.slots.items) }
     {
+        let time = self.time;
         'slots: for slot in self.slots.iter_mut() {
-            if let Some((number, how)) = serve_slot(slot, service, alloc, unsent) {
-                report.ended(number, how)?;
-            }
+            let ended = serve_slot(slot, sockets, service, alloc, limits.unsent, time);
+            tell(report, ended)?;
         }
         Ok(())
     }
 
-    /// Gives room to connections that wait for it, as far as there is some.
+    /// Takes room that is not used, and gives what there is to the connections that have waited longest for it.
     fn share_room(&mut self)
         ensures { (self.new.accepted ≡ self.old.accepted)
             × AllAreStill self.old.slots.items self.new.slots.items }
     {
-        let used = self.slots.iter().filter(|slot| uses_room(slot)).count();
-        let mut rooms_left = ROOMS.saturating_sub(used);
         'slots: for slot in self.slots.iter_mut() {
             if let Some(client) = slot {
-                client.share_room(&mut rooms_left);
+                client.give_back_room();
             }
+        }
+        let used = self.slots.iter().filter(|slot| uses_room(slot)).count();
+        'rooms: for _ in 0..ROOMS.saturating_sub(used) {
+            match waits_longest(&self.slots) {
+                Some(key) => give_room(&mut self.slots[key], self.time),
+                None => return,
+            }
+        }
+    }
+
+    /// Ends the connections of which nothing came for ten seconds, where others wait for their room.
+    fn give_up_stalled<N: Sockets, E: Report>(
+        &mut self,
+        sockets: &mut N,
+        limits: Limits,
+        report: &mut E,
+    ) -> io::Result<()>
+        ensures happened { (reading : Reading) (state : ServiceState)
+            → HasServed limits reading (world state (N.stream sockets.old) (E.told report.old))
+            (world state (N.stream sockets.new) (E.told report.new))
+            self.old.accepted self.old.slots.items }
+        ensures goes_on { OnOk result ((reading : Reading) (state : ServiceState)
+            → GoesOnServing limits reading (world state (N.stream sockets.old) (E.told report.old))
+            (world state (N.stream sockets.new) (E.told report.new))
+            self.old.accepted self.new.accepted self.old.slots.items self.new.slots.items) }
+    {
+        if !self.waits_for_room() {
+            return Ok(());
+        }
+        let time = self.time;
+        'slots: for slot in self.slots.iter_mut() {
+            let ended = give_up(slot, sockets, time);
+            tell(report, ended)?;
+        }
+        Ok(())
+    }
+}
+
+/// What is known of a queue before it is looked at again: where none could be accepted, it is tried again.
+fn retried(queue: Queue) -> Queue
+    ensures { result ≡ retried queue }
+{
+    match queue {
+        Queue::Failed => Queue::Waits,
+        Queue::Empty | Queue::Waits => queue,
+    }
+}
+
+/// Whether the next connection is accepted into this slot: it is free, one may wait, and fewer were accepted than are asked for.
+fn is_wanted(slot: &Option<Client>, queue: Queue, accepted: u32, limits: Limits) -> bool
+    ensures { result ≡ (is_none slot.now && is_wanted queue accepted limits) }
+{
+    slot.is_none() && queue == Queue::Waits && accepted < limits.connections
+}
+
+/// What is known of the queue after an attempt.
+fn queue_after(accepted: Accepted) -> Queue
+    ensures { result ≡ queue_after accepted }
+{
+    match accepted {
+        Accepted::Connection | Accepted::GivenUp => Queue::Waits,
+        Accepted::NoneWaits => Queue::Empty,
+        Accepted::Fails => Queue::Failed,
+    }
+}
+
+/// Gives the connection in this slot its next turn, where it waits for its stream.
+fn give_turn(slot: &mut Option<Client>)
+    ensures gives { slot.new ≡ given_turn slot.old }
+    ensures still { SlotIsStill slot.old slot.new }
+{
+    if let Some(client) = slot {
+        if client.waits_for == WaitsFor::Stream {
+            client.waits_for = WaitsFor::Turn;
         }
     }
 }
 
-/// Gives the connection in this slot its next turn.
-fn give_turn(slot: &mut Option<Client>)
-    ensures { SlotIsStill slot.old slot.new }
+/// Gives the connection in this slot room.
+fn give_room(slot: &mut Option<Client>, time: u64)
+    ensures gives { slot.new ≡ given_room time slot.old }
+    ensures still { SlotIsStill slot.old slot.new }
 {
     if let Some(client) = slot {
-        client.waits_for = WaitsFor::Turn;
+        client.take_room(time);
     }
 }
 
 /// Whether the connection in this slot uses the room that it was given.
-fn uses_room(slot: &Option<Client>) -> bool {
+fn uses_room(slot: &Option<Client>) -> bool
+    ensures { result ≡ slot_uses_room slot.now }
+{
     match slot {
         Some(client) => client.uses_room(),
         None => false,
     }
 }
 
-/// The stream of the next connection in the listener's queue, or what is known of the queue then.
-fn accept(listener: &UnixListener) -> Result<UnixStream, Queue> {
-    match listener.accept() {
-        Ok((stream, _)) => Ok(stream),
-        Err(error) => Err(match error.kind() {
-            ErrorKind::WouldBlock => Queue::Empty,
-            ErrorKind::ConnectionAborted | ErrorKind::Interrupted => Queue::Waits,
-            _ => Queue::Failed,
-        }),
+/// Since when the connection in this slot waits for room, if it does.
+fn waits_since(slot: &Option<Client>) -> Option<u64>
+    ensures { result ≡ waits_since slot.now }
+{
+    match slot {
+        Some(client) if client.waits_for == WaitsFor::Room => Some(client.since()),
+        _ => None,
     }
 }
 
-/// Accepts the next connection into this slot, if there is one that can be registered; says what is known of the queue then.
-fn accept_into(
+/// Which has waited longer for room: the slot and the time since which it waits, or the connection in this slot, if it waits.
+fn longer(longest: Option<(usize, u64)>, key: usize, since: Option<u64>) -> Option<(usize, u64)>
+    ensures { result ≡ longer longest key since }
+{
+    match (longest, since) {
+        (_, None) => longest,
+        (None, Some(since)) => Some((key, since)),
+        (Some((_, least)), Some(since)) => {
+            if since < least {
+                Some((key, since))
+            } else {
+                longest
+            }
+        }
+    }
+}
+
+/// The slot of the connection that has waited longest for room. O(slots).
+fn waits_longest(slots: &[Option<Client>]) -> Option<usize>
+    ensures { WaitsLongest slots.now result }
+{
+    let mut longest = None;
+    'slots: for (key, slot) in slots.iter().enumerate() {
+        longest = longer(longest, key, waits_since(slot));
+    }
+    match longest {
+        Some((key, _)) => Some(key),
+        None => None,
+    }
+}
+
+/// Accepts the next connection into this slot, if there is one; says what is known of the queue then.
+fn accept_into<N: Sockets>(
     slot: &mut Option<Client>,
     accepted: &mut u32,
     alloc: Global,
-    registry: &Registry,
-    listener: &UnixListener,
-    token: Token,
+    sockets: &mut N,
+    key: usize,
 ) -> Queue
     requires { accepted.old + 1 < 2 ^ 32 }
-    ensures { AcceptsSo accepted.old accepted.new slot.old slot.new }
+    ensures accepts { AcceptsSo accepted.old accepted.new slot.old slot.new }
+    ensures stay { KeepsBytes (accepted.old + 1) (N.stream sockets.old) (N.stream sockets.new) }
 {
-    match accept(listener) {
-        Ok(stream) => {
-            *slot = admitted(alloc, registry, stream, token, *accepted + 1);
-            if slot.is_some() {
-                *accepted += 1;
-            }
-            Queue::Waits
-        }
-        Err(queue) => queue,
+    let number = *accepted + 1;
+    let came = sockets.accept(u64::from(number), key);
+    if came == Accepted::Connection {
+        *slot = Some(Client::new(alloc, number));
+        *accepted = number;
     }
+    queue_after(came)
 }
 
-/// A client on this stream, unless it cannot be registered.
-fn admitted(
-    alloc: Global,
-    registry: &Registry,
-    mut stream: UnixStream,
-    token: Token,
-    number: u32,
-) -> Option<Client>
-    ensures { StandsAs number new_connection result }
-{
-    let interest = Interest::READABLE | Interest::WRITABLE;
-    match registry.register(&mut stream, token, interest) {
-        Ok(()) => Some(Client::new(alloc, number, stream)),
-        Err(_) => None,
-    }
-}
-
-/// The turns of the connection in this slot, if it is ready; the number of its connection and how it ended, where it did.
-fn serve_slot<S: Answer>(
+/// The turns of the connection in this slot, if its turn is next; the number of its connection and how it ended, where it did.
+fn serve_slot<N: Sockets, A: Answer>(
     slot: &mut Option<Client>,
-    service: &mut S,
+    sockets: &mut N,
+    service: &mut A,
     alloc: Global,
     unsent: usize,
-) -> Option<(u32, Result<Ended, ServeFault>)>
-    ensures { SlotTurnsSo unsent S.reading (S.state service.old)
-        (S.state service.new) slot.old slot.new }
+    time: u64,
+) -> Option<(u32, ConnectionEnd)>
+    ensures { SlotTurnsSo unsent A.reading (A.state service.old)
+        (A.state service.new) (N.stream sockets.old) (N.stream sockets.new) slot.old slot.new result }
 {
     let Some(client) = slot else {
         return None;
@@ -291,19 +427,40 @@ fn serve_slot<S: Answer>(
         return None;
     }
     let number = client.number();
-    match client.take_turns(service, alloc, unsent) {
-        Turn::GoesOn => None,
+    match client.take_turns(sockets, service, alloc, unsent, time) {
+        Turn::GoesOn | Turn::Loaded => None,
         Turn::Waits => {
             client.waits_for = WaitsFor::Stream;
             None
         }
         Turn::NeedsRoom => {
-            client.waits_for = WaitsFor::Room;
+            client.wait_for_room(time);
             None
         }
         Turn::Ends(how) => {
             *slot = None;
-            Some((number, how))
+            sockets.close(u64::from(number));
+            Some((number, ConnectionEnd::Served(how)))
         }
     }
+}
+
+/// Ends the connection in this slot, if nothing came for ten seconds of the load for which it uses its room; its number and how it ended then.
+fn give_up<N: Sockets>(
+    slot: &mut Option<Client>,
+    sockets: &mut N,
+    time: u64,
+) -> Option<(u32, ConnectionEnd)>
+    ensures { SlotGivesUp time (N.stream sockets.old) (N.stream sockets.new) slot.old slot.new result }
+{
+    let Some(client) = slot else {
+        return None;
+    };
+    if !client.is_stalled(time) {
+        return None;
+    }
+    let number = client.number();
+    *slot = None;
+    sockets.close(u64::from(number));
+    Some((number, ConnectionEnd::Stalled))
 }

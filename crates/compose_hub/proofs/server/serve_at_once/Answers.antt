@@ -1,45 +1,99 @@
-use Rattle.compose_hub.proofs.Serving.{nothing_happened, none_served, still_goes_on}
+use Rattle.std.proofs.Common.{◌∙◌, List, Option, refl, sym, ap, subst}
+use Rattle.compose_hub.specs.Serving.{world, AllAreStill}
+use Rattle.compose_hub.specs.declared.client.Client.{Client}
+use Rattle.compose_hub.proofs.Serving.{nothing_happened, none_served, serves_stay, still_so_far, stays, all_told}
 use Rattle.compose_hub.proofs.server.serve_at_once.Goals as goal
 
-pub returns-in_err-poll : goal.returns-in_err-poll
-returns-in_err-poll g c = nothing_happened c.args.limits.unsent g.S.Answer.reading (g.S.Answer.state c.args.service.now)
-
-pub returns-in_err-register : goal.returns-in_err-register
-returns-in_err-register g c = nothing_happened c.args.limits.unsent g.S.Answer.reading (g.S.Answer.state c.args.service.now)
-
-pub returns-in_err-events : goal.returns-in_err-events
-returns-in_err-events g c = nothing_happened c.args.limits.unsent g.S.Answer.reading (g.S.Answer.state c.args.service.now)
-
-pub returns-in_err-server : goal.returns-in_err-server
-returns-in_err-server g c = nothing_happened c.args.limits.unsent g.S.Answer.reading (g.S.Answer.state c.args.service.now)
+pub returns-in_err-server-clause-serves : goal.returns-in_err-server-clause-serves
+returns-in_err-server-clause-serves g c =
+    nothing_happened c.args.limits g.A.Answer.reading (g.A.Answer.state c.args.service.now) (g.N.Streams.stream c.args.sockets.now) (g.E.Report.told c.args.report.now)
 
 pub rounds-init : goal.rounds-init
-rounds-init g c = none_served c.args.limits.unsent g.S.Answer.reading (g.S.Answer.state c.args.service.now) c.in_ok-server.server.accepted c.in_ok-server.server.slots.items c.in_ok-server.ensures.1
+rounds-init g c =
+    none_served c.args.limits g.A.Answer.reading (g.A.Answer.state c.args.service.now) (g.N.Streams.stream c.args.sockets.now) (g.E.Report.told c.args.report.now) c.in_ok-server.server.accepted
+    c.in_ok-server.server.slots.items c.in_ok-server.ensures.1 c.in_ok-server.ensures.2
 
-pub returns-in_err-take_turns : goal.returns-in_err-take_turns
-returns-in_err-take_turns g c =
-    let unsent = c.args.limits.unsent in
-    let now = g.S.Answer.state c.rounds.service in
-    let first = g.S.Answer.state c.args.service.now in
-    let accepted = c.accept_all.ensures unsent g.S.Answer.reading now first c.rounds.invariant in
-    let ready =
-    still_goes_on unsent g.S.Answer.reading now c.accept_all.new.self.accepted c.mark_ready.new.self.accepted
-    c.accept_all.new.self.slots.items c.mark_ready.new.self.slots.items c.mark_ready.ensures.0 c.mark_ready.ensures.1 first accepted
+pub returns-then-is_done-clause-serves : goal.returns-then-is_done-clause-serves
+returns-then-is_done-clause-serves g c =
+    let first = world (g.A.Answer.state c.args.service.now) (g.N.Streams.stream c.args.sockets.now) (g.E.Report.told c.args.report.now) in
+    let state = g.A.Answer.state c.rounds.service in
+    let told = g.E.Report.told c.rounds.report in
+    let accepted = c.accept_all.ensures g.A.Answer.reading state told first c.rounds.invariant in
+    accepted.so_far
+
+pub returns-then-is_done-clause-all : goal.returns-then-is_done-clause-all
+returns-then-is_done-clause-all g c =
+    let first = world (g.A.Answer.state c.args.service.now) (g.N.Streams.stream c.args.sockets.now) (g.E.Report.told c.args.report.now) in
+    let state = g.A.Answer.state c.rounds.service in
+    let told = g.E.Report.told c.rounds.report in
+    let accepted = c.accept_all.ensures g.A.Answer.reading state told first c.rounds.invariant in (
+      accepted.so_far,
+      all_told c.args.limits g.A.Answer.reading first (world state (g.N.Streams.stream c.accept_all.new.sockets) told) c.accept_all.new.self.accepted c.accept_all.new.self.slots.items
+          (sym c.is_done.ensures ∙ c.if-is_done.true) accepted,
+    )
+
+pub returns-in_err-waited-clause-serves : goal.returns-in_err-waited-clause-serves
+returns-in_err-waited-clause-serves g c =
+    let first = world (g.A.Answer.state c.args.service.now) (g.N.Streams.stream c.args.sockets.now) (g.E.Report.told c.args.report.now) in
+    let state = g.A.Answer.state c.rounds.service in
+    let told = g.E.Report.told c.rounds.report in
+    let accepted = c.accept_all.ensures g.A.Answer.reading state told first c.rounds.invariant in
+    serves_stay c.args.limits g.A.Answer.reading first state (g.N.Streams.stream c.accept_all.new.sockets) (g.N.Streams.stream c.poll.new.self) told
+    (stays (g.N.Streams.stream c.accept_all.new.sockets) (g.N.Streams.stream c.poll.new.self) c.poll.ensures) accepted.so_far
+
+pub returns-in_err-take_turns-clause-serves : goal.returns-in_err-take_turns-clause-serves
+returns-in_err-take_turns-clause-serves g c =
+    let first = world (g.A.Answer.state c.args.service.now) (g.N.Streams.stream c.args.sockets.now) (g.E.Report.told c.args.report.now) in
+    let state = g.A.Answer.state c.rounds.service in
+    let told = g.E.Report.told c.rounds.report in
+    let accepted = c.accept_all.ensures g.A.Answer.reading state told first c.rounds.invariant in
+    let waited =
+    still_so_far c.args.limits g.A.Answer.reading first state (g.N.Streams.stream c.accept_all.new.sockets) (g.N.Streams.stream c.poll.new.self) told
+    (stays (g.N.Streams.stream c.accept_all.new.sockets) (g.N.Streams.stream c.poll.new.self) c.poll.ensures) c.accept_all.new.self.accepted c.mark_ready.new.self.accepted
+    c.accept_all.new.self.slots.items c.mark_ready.new.self.slots.items (c.mark_ready.ensures.0 ∙ c.count_time.ensures.0)
+    (subst (λ (v : List (Option Client)). AllAreStill v c.mark_ready.new.self.slots.items) (ap (λ v. v.items) c.count_time.ensures.1) c.mark_ready.ensures.1) accepted
     in
-    let turned = c.take_turns.ensures first ready in
-    (turned.all, turned.after, turned.served)
+    c.take_turns.ensures.happened first waited
+
+pub returns-in_err-give_up_stalled-clause-serves : goal.returns-in_err-give_up_stalled-clause-serves
+returns-in_err-give_up_stalled-clause-serves g c =
+    let first = world (g.A.Answer.state c.args.service.now) (g.N.Streams.stream c.args.sockets.now) (g.E.Report.told c.args.report.now) in
+    let state = g.A.Answer.state c.rounds.service in
+    let told = g.E.Report.told c.rounds.report in
+    let accepted = c.accept_all.ensures g.A.Answer.reading state told first c.rounds.invariant in
+    let waited =
+    still_so_far c.args.limits g.A.Answer.reading first state (g.N.Streams.stream c.accept_all.new.sockets) (g.N.Streams.stream c.poll.new.self) told
+    (stays (g.N.Streams.stream c.accept_all.new.sockets) (g.N.Streams.stream c.poll.new.self) c.poll.ensures) c.accept_all.new.self.accepted c.mark_ready.new.self.accepted
+    c.accept_all.new.self.slots.items c.mark_ready.new.self.slots.items (c.mark_ready.ensures.0 ∙ c.count_time.ensures.0)
+    (subst (λ (v : List (Option Client)). AllAreStill v c.mark_ready.new.self.slots.items) (ap (λ v. v.items) c.count_time.ensures.1) c.mark_ready.ensures.1) accepted
+    in
+    let turned = c.in_ok-take_turns.ensures.goes_on first waited in
+    let shared =
+    still_so_far c.args.limits g.A.Answer.reading first (g.A.Answer.state c.take_turns.new.service) (g.N.Streams.stream c.take_turns.new.sockets) (g.N.Streams.stream c.take_turns.new.sockets)
+    (g.E.Report.told c.take_turns.new.report) (λ n. (refl, refl)) c.take_turns.new.self.accepted c.share_room.new.self.accepted c.take_turns.new.self.slots.items c.share_room.new.self.slots.items
+    c.share_room.ensures.0 c.share_room.ensures.1 turned
+    in
+    c.give_up_stalled.ensures.happened g.A.Answer.reading (g.A.Answer.state c.take_turns.new.service) first shared
 
 pub rounds-preserved : goal.rounds-preserved
 rounds-preserved g c =
-    let unsent = c.args.limits.unsent in
-    let now = g.S.Answer.state c.rounds.service in
-    let first = g.S.Answer.state c.args.service.now in
-    let accepted = c.accept_all.ensures unsent g.S.Answer.reading now first c.rounds.invariant in
-    let ready =
-    still_goes_on unsent g.S.Answer.reading now c.accept_all.new.self.accepted c.mark_ready.new.self.accepted
-    c.accept_all.new.self.slots.items c.mark_ready.new.self.slots.items c.mark_ready.ensures.0 c.mark_ready.ensures.1 first accepted
+    let first = world (g.A.Answer.state c.args.service.now) (g.N.Streams.stream c.args.sockets.now) (g.E.Report.told c.args.report.now) in
+    let state = g.A.Answer.state c.rounds.service in
+    let told = g.E.Report.told c.rounds.report in
+    let accepted = c.accept_all.ensures g.A.Answer.reading state told first c.rounds.invariant in
+    let waited =
+    still_so_far c.args.limits g.A.Answer.reading first state (g.N.Streams.stream c.accept_all.new.sockets) (g.N.Streams.stream c.poll.new.self) told
+    (stays (g.N.Streams.stream c.accept_all.new.sockets) (g.N.Streams.stream c.poll.new.self) c.poll.ensures) c.accept_all.new.self.accepted c.mark_ready.new.self.accepted
+    c.accept_all.new.self.slots.items c.mark_ready.new.self.slots.items (c.mark_ready.ensures.0 ∙ c.count_time.ensures.0)
+    (subst (λ (v : List (Option Client)). AllAreStill v c.mark_ready.new.self.slots.items) (ap (λ v. v.items) c.count_time.ensures.1) c.mark_ready.ensures.1) accepted
     in
-    still_goes_on unsent g.S.Answer.reading
-    (g.S.Answer.state c.take_turns.new.service) c.take_turns.new.self.accepted c.share_room.new.self.accepted
-    c.take_turns.new.self.slots.items c.share_room.new.self.slots.items c.share_room.ensures.0 c.share_room.ensures.1 first
-    (c.take_turns.ensures first ready)
+    let turned = c.in_ok-take_turns.ensures.goes_on first waited in
+    let shared =
+    still_so_far c.args.limits g.A.Answer.reading first (g.A.Answer.state c.take_turns.new.service) (g.N.Streams.stream c.take_turns.new.sockets) (g.N.Streams.stream c.take_turns.new.sockets)
+    (g.E.Report.told c.take_turns.new.report) (λ n. (refl, refl)) c.take_turns.new.self.accepted c.share_room.new.self.accepted c.take_turns.new.self.slots.items c.share_room.new.self.slots.items
+    c.share_room.ensures.0 c.share_room.ensures.1 turned
+    in
+    c.in_ok-give_up_stalled.ensures.goes_on g.A.Answer.reading (g.A.Answer.state c.take_turns.new.service) first shared
+
+pub returns-clause-serves : goal.returns-clause-serves
+returns-clause-serves g c = c.rounds.invariant.so_far

@@ -1,18 +1,30 @@
-use Rattle.std.proofs.Common.{◌∙◌}
+use Rattle.std.proofs.Common.{◌∙◌, ◌<◌, ℕ, subst, arith}
+use Rattle.compose_many.specs.declared.turn.Turn.TheVariants.{GoesOn}
+use Rattle.compose_hub.specs.Turns.{max_turns, TurnsSo}
 use Rattle.compose_hub.proofs.Turns.{turns_then, went_on}
 use Rattle.compose_hub.proofs.client.Client.take_turns.Goals as goal
 
 pub returns-in_default : goal.returns-in_default
-returns-in_default g c = (
-  turns_then c.args.unsent g.S.Answer.reading (g.S.Answer.state c.args.service.now) (g.S.Answer.state c.turns.service)
-      (g.S.Answer.state c.turn.new.service) c.args.self.now.connection c.turns.self.connection c.turn.new.self.connection c.turns.invariant.0 c.turn.result c.turn.ensures.0,
-  c.turn.ensures.1 ∙ c.turns.invariant.1,
-)
+returns-in_default g c =
+    let lt : c.turns.counter < max_turns = omega arith in
+    let mid = g.A.Answer.state c.turns.service in
+    let new = g.A.Answer.state c.turn.new.service in
+    let streams = g.N.Streams.stream c.turns.streams in
+    let streams' = g.N.Streams.stream c.turn.new.streams in (
+      turns_then c.turns.counter c.args.unsent g.A.Answer.reading (g.A.Answer.state c.args.service.now) mid new c.args.self.now.number (g.N.Streams.stream c.args.streams.now) streams streams'
+          c.args.self.now.connection c.turns.self.connection c.turn.new.self.connection c.turns.invariant.0 max_turns c.turn.result lt
+          (subst (λ (n : ℕ). TurnsSo 1 c.args.unsent g.A.Answer.reading c.turn.result mid new n streams streams' c.turns.self.connection c.turn.new.self.connection) c.turns.invariant.1 c.turn.ensures.0),
+      c.turn.ensures.1 ∙ c.turns.invariant.1,
+    )
 
 pub turns-preserved : goal.turns-preserved
 turns-preserved g c =
-    let one = c.in-GoesOn.ensures.0 in (
-      went_on c.args.unsent g.S.Answer.reading (g.S.Answer.state c.args.service.now) (g.S.Answer.state c.turns.service)
-          (g.S.Answer.state c.turn.new.service) c.args.self.now.connection c.turns.self.connection c.turn.new.self.connection c.turns.invariant.0 one.0 one.1 one.2 one.3 one.4,
+    let mid = g.A.Answer.state c.turns.service in
+    let new = g.A.Answer.state c.turn.new.service in
+    let streams = g.N.Streams.stream c.turns.streams in
+    let streams' = g.N.Streams.stream c.turn.new.streams in (
+      went_on c.turns.counter c.args.unsent g.A.Answer.reading (g.A.Answer.state c.args.service.now) mid new c.args.self.now.number (g.N.Streams.stream c.args.streams.now) streams streams'
+          c.args.self.now.connection c.turns.self.connection c.turn.new.self.connection c.turns.invariant.0
+          (subst (λ (n : ℕ). TurnsSo 1 c.args.unsent g.A.Answer.reading GoesOn mid new n streams streams' c.turns.self.connection c.turn.new.self.connection) c.turns.invariant.1 c.in-GoesOn.ensures.0),
       c.in-GoesOn.ensures.1 ∙ c.turns.invariant.1,
     )

@@ -5,6 +5,6 @@ use Rattle.compose_hub.proofs.server.Server.new.Given as goal
 abbrev pub invariant-slots : goal.invariant-slots
 invariant-slots l = record {
   filled : vec_len l.slots ≡ l.counter;
-  all : l.end ≡ max l.limits.at_once 1;
+  all : l.end ≡ max l.at_once 1;
   none : HasNone l.slots.items;
 }

@@ -1,0 +1,34 @@
+use Rattle.std.proofs.Common.{◌≡◌, ◌<◌, List, Option, length, sym, subst, arith}
+use Rattle.std.proofs.lemmas.List.{take_at}
+use Rattle.compose_hub.specs.Serving.{world, ServedSoFar}
+use Rattle.compose_hub.specs.declared.client.Client.{Client}
+use Rattle.compose_hub.proofs.Serving.{slot_gives_up, slot_goes_on, slot_fails, tells, not_told_end}
+use Rattle.compose_hub.proofs.server.Server.give_up_stalled.Goals as goal
+
+pub returns-then-not-waits_for_room-clause-happened : goal.returns-then-not-waits_for_room-clause-happened
+returns-then-not-waits_for_room-clause-happened g c reading state first s = s.so_far
+
+pub returns-in_err-tell-clause-happened : goal.returns-in_err-tell-clause-happened
+returns-in_err-tell-clause-happened g c reading state first s =
+    let lt : c.slots.slot-index < length c.slots.slot-items = omega arith in
+    slot_fails c.args.limits reading first state state (g.N.Streams.stream c.slots.sockets)
+    (g.N.Streams.stream c.give_up-ended.new.sockets) (g.E.Report.told c.slots.report) (g.E.Report.told c.tell.new.report) c.args.self.now.accepted c.slots.slot-items (c.slots.invariant reading state first s)
+    c.slots.slot-index c.give_up-ended.new.slot lt c.slot-item.result c.give_up-ended.result
+    (slot_gives_up c.args.limits.unsent _ reading state _ _ _ _ _ c.give_up-ended.ensures) (not_told_end _ _ _ _ _ _ c.in_err-tell.ensures)
+
+pub slots-preserved : goal.slots-preserved
+slots-preserved g c reading state first s =
+    let lt : c.slots.slot-index < length c.slots.slot-items = omega arith in
+    slot_goes_on c.args.limits reading first state state (g.N.Streams.stream c.slots.sockets)
+    (g.N.Streams.stream c.give_up-ended.new.sockets) (g.E.Report.told c.slots.report) (g.E.Report.told c.tell.new.report) c.args.self.now.accepted c.slots.slot-items (c.slots.invariant reading state first s)
+    c.slots.slot-index c.give_up-ended.new.slot lt c.slot-item.result c.give_up-ended.result
+    (slot_gives_up c.args.limits.unsent _ reading state _ _ _ _ _ c.give_up-ended.ensures) (tells _ _ _ _ _ _ c.in_ok-tell.ensures)
+
+pub returns-clause-happened : goal.returns-clause-happened
+returns-clause-happened g c reading state first s = (c.slots.invariant reading state first s).so_far
+
+pub returns-clause-goes_on : goal.returns-clause-goes_on
+returns-clause-goes_on g c reading state first s =
+    let len : length c.slots.slot-items ≡ c.args.self.now.slots.len = omega arith in
+    subst (λ (now : List (Option Client)). ServedSoFar c.args.limits reading first (world state (g.N.Streams.stream c.slots.sockets) (g.E.Report.told c.slots.report)) c.args.self.now.accepted now)
+    (sym (take_at _ _ _ len)) (c.slots.invariant reading state first s)

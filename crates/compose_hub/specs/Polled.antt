@@ -1,0 +1,21 @@
+-- The streams of sockets that are polled.
+use Rattle.std.specs.Prelude.{ℕ, Option, None, Some, nat_eq}
+use Rattle.std.specs.HashMap.{get}
+use Rattle.indexmap.specs.IndexMap.{IndexMap}
+use Rattle.compose_many.specs.Numbered.{StreamState}
+use Rattle.compose_many.specs.declared.streams.TryError.{TryError}
+use Rattle.compose_many.specs.declared.streams.TryError.TheVariants.{Failed}
+use Rattle.compose_hub.specs.declared.polled.PolledStream.{PolledStream}
+
+-- why a stream gave or took no bytes; one that isn't open has failed
+abbrev pub read_mark_of : Option PolledStream → Option TryError
+read_mark_of None = Some Failed
+read_mark_of (Some s) = s.read_mark
+
+abbrev pub write_mark_of : Option PolledStream → Option TryError
+write_mark_of None = Some Failed
+write_mark_of (Some s) = s.write_mark
+
+-- of the stream with a number no bytes are known
+abbrev pub polled_at : {S : Type 0} → IndexMap ℕ PolledStream S → ℕ → StreamState
+polled_at streams c = record { left = None; written = None; read_mark = read_mark_of (get nat_eq streams c); write_mark = write_mark_of (get nat_eq streams c) }

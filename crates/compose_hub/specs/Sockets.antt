@@ -1,0 +1,17 @@
+-- What accepting, waiting and closing leave of the streams.
+use Rattle.std.specs.Prelude.{◌≡◌, ℕ}
+use Rattle.compose_many.specs.Numbered.{StreamState, OthersStay}
+
+-- every stream is as before
+abbrev pub AllStay : (ℕ → StreamState) → (ℕ → StreamState) → Type 0
+AllStay before now = (c : ℕ) → now c ≡ before c
+
+-- of each stream the bytes stay: those that it will give, and those that it took
+abbrev pub BytesStay : (ℕ → StreamState) → (ℕ → StreamState) → Type 0
+BytesStay before now = (c : ℕ) → ((now c).left ≡ (before c).left) × ((now c).written ≡ (before c).written)
+
+-- of the stream with this number the bytes stay, and every other stream is as before
+pub record KeepsBytes (number : ℕ) (before now : ℕ → StreamState) : Type 0 where
+  pub left : (now number).left ≡ (before number).left
+  pub written : (now number).written ≡ (before number).written
+  pub others : OthersStay number before now

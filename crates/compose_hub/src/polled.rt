@@ -1,0 +1,187 @@
+//! A Unix listener and its connections, as sockets that are polled.
+ghost use Rattle.std.specs.Prelude.{◌≡◌, None};
+ghost use Rattle.compose_many.specs.Streams.{TryPulls, TryPushes};
+ghost use Rattle.compose_hub.specs.Sockets.{KeepsBytes};
+ghost use Rattle.compose_hub.specs.Polled.{polled_at};
+
+use crate::sockets::{Accepted, Ready, Sockets};
+use compose_many::{Nonblocking, Streams, TryError, TryPull, TryPush};
+use indexmap::IndexMap;
+use mio::net::{UnixListener, UnixStream};
+use mio::{Events, Interest, Poll, Token};
+use std::alloc::Global;
+use std::io;
+use std::io::ErrorKind;
+use std::net::Net;
+use std::time::Duration;
+
+/// What the listener is reported as.
+const LISTENER: Token = Token(usize::MAX);
+
+/// So much is reported at once.
+const EVENTS: usize = 256;
+
+/// A stream, and why it gave or took no bytes.
+#[derive(Drop)]
+pub(crate) struct PolledStream {
+    stream: UnixStream,
+    read_mark: Option<TryError>,
+    write_mark: Option<TryError>,
+}
+
+impl PolledStream {
+    /// Reads as `TryPull::try_pull` does; of the bytes nothing is known.
+    fn try_pull(&mut self, piece: &mut [u8]) -> Result<usize, TryError>
+        ensures pulls { TryPulls None None self.old.read_mark self.new.read_mark result piece.new }
+        ensures writer { self.new.write_mark ≡ self.old.write_mark }
+    {
+        let mut reader = Nonblocking::new(&self.stream);
+        let came = reader.try_pull(piece);
+        if let Err(why) = came {
+            self.read_mark = Some(why);
+        }
+        came
+    }
+
+    /// Writes as `TryPush::try_push` does; of the bytes nothing is known.
+    fn try_push(&mut self, piece: &[u8]) -> Result<usize, TryError>
+        ensures pushes { TryPushes None None self.old.write_mark self.new.write_mark result piece.now }
+        ensures reader { self.new.read_mark ≡ self.old.read_mark }
+    {
+        let mut writer = Nonblocking::new(&self.stream);
+        let taken = writer.try_push(piece);
+        if let Err(why) = taken {
+            self.write_mark = Some(why);
+        }
+        taken
+    }
+}
+
+/// A Unix listener and the connections that were accepted, which are reported as they become ready.
+///
+/// Of the bytes on a stream nothing is known, since the system holds them, but why it gave or took none is.
+#[derive(Drop)]
+pub struct PolledSockets {
+    poll: Poll,
+    events: Events,
+    listener: UnixListener,
+    streams: IndexMap<u64, PolledStream>,
+}
+
+impl PolledSockets {
+    /// The sockets of a listener that does not wait.
+    ///
+    /// It takes memory for what is reported at once.
+    pub fn new(net: &impl Net, alloc: Global, listener: UnixListener) -> io::Result<PolledSockets> {
+        let mut listener = listener;
+        let poll = Poll::new(net)?;
+        poll.registry()
+            .register(&mut listener, LISTENER, Interest::READABLE)?;
+        let events = Events::with_capacity(alloc, EVENTS)?;
+        Ok(PolledSockets {
+            poll,
+            events,
+            listener,
+            streams: IndexMap::new(alloc),
+        })
+    }
+
+    /// Keeps a stream under this number, reported by this key, if it can be registered and there is memory for it.
+    fn admit(&mut self, number: u64, key: usize, stream: UnixStream) -> Accepted
+        ensures { KeepsBytes number (λ c. polled_at self.old.streams c) (λ c. polled_at self.new.streams c) }
+    {
+        let mut stream = stream;
+        let interest = Interest::READABLE | Interest::WRITABLE;
+        let registered = self
+            .poll
+            .registry()
+            .register(&mut stream, Token(key), interest);
+        if registered.is_err() {
+            return Accepted::GivenUp;
+        }
+        let polled = PolledStream {
+            stream,
+            read_mark: None,
+            write_mark: None,
+        };
+        match self.streams.insert(number, polled) {
+            Ok(_) => Accepted::Connection,
+            Err(_) => Accepted::GivenUp,
+        }
+    }
+}
+
+/// What an error of accepting means: only WouldBlock says that none waits.
+fn refused(kind: ErrorKind) -> Accepted
+    ensures waits { kind ≡ ErrorKind.WouldBlock → result ≡ Accepted.NoneWaits }
+    ensures aborted { kind ≡ ErrorKind.ConnectionAborted → result ≡ Accepted.GivenUp }
+    ensures interrupted { kind ≡ ErrorKind.Interrupted → result ≡ Accepted.GivenUp }
+{
+    match kind {
+        ErrorKind::WouldBlock => Accepted::NoneWaits,
+        ErrorKind::ConnectionAborted | ErrorKind::Interrupted => Accepted::GivenUp,
+        _ => Accepted::Fails,
+    }
+}
+
+impl Streams for PolledSockets {
+    ghost stream = { λ s c. polled_at s.streams c };
+
+    /// One read of the socket. O(1) beside that.
+    fn try_pull(&mut self, number: u64, piece: &mut [u8]) -> Result<usize, TryError> {
+        match self.streams.get_mut(&number) {
+            Some(stream) => stream.try_pull(piece),
+            None => Err(TryError::Failed),
+        }
+    }
+
+    /// One write to the socket. O(1) beside that.
+    fn try_push(&mut self, number: u64, piece: &[u8]) -> Result<usize, TryError> {
+        match self.streams.get_mut(&number) {
+            Some(stream) => stream.try_push(piece),
+            None => Err(TryError::Failed),
+        }
+    }
+}
+
+impl Sockets for PolledSockets {
+    /// One attempt to accept. A number that a connection has is given up, and so is one that can't be registered.
+    fn accept(&mut self, number: u64, key: usize) -> Accepted {
+        if self.streams.contains_key(&number) {
+            return Accepted::GivenUp;
+        }
+        match self.listener.accept() {
+            Ok((stream, _)) => self.admit(number, key, stream),
+            Err(error) => refused(error.kind()),
+        }
+    }
+
+    /// One wait. At most 256 are reported at once, the others at the next.
+    ///
+    /// It has no clock: a wait in which nothing became ready counts as long as it was to be, and any other as nothing.
+    fn poll(
+        &mut self,
+        longest_wait: Option<Duration>,
+        ready: &mut Vec<Ready>,
+    ) -> io::Result<Duration> {
+        ready.clear();
+        self.poll.poll(&mut self.events, longest_wait)?;
+        for event in &self.events {
+            let Token(key) = event.token();
+            ready.push(if key == usize::MAX {
+                Ready::Listener
+            } else {
+                Ready::Key(key)
+            })?;
+        }
+        if ready.is_empty() {
+            return Ok(longest_wait.unwrap_or(Duration::ZERO));
+        }
+        Ok(Duration::ZERO)
+    }
+
+    /// Closes the socket. O(1).
+    fn close(&mut self, number: u64) {
+        let _ = self.streams.swap_remove(&number);
+    }
+}
