@@ -286,7 +286,8 @@ def main():
     count, locales = 20_000, ["en_US.UTF-8"]
     if len(sys.argv) > 1:
         count, locales = int(sys.argv[1]), sorted(it for it in os.listdir(LOCALES) if it.endswith(".UTF-8"))
-    subprocess.run(["make", "-s", os.path.relpath(build_library.PROVED, TOP)], cwd=TOP, check=True, stdout=sys.stderr)
+    if not os.path.exists(build_library.PROVED):
+        subprocess.run(["make", "-s", os.path.relpath(build_library.PROVED, TOP)], cwd=TOP, check=True, stdout=sys.stderr)
     with tempfile.TemporaryDirectory(prefix="library-") as folder:
         subprocess.run([sys.executable, f"{TOP}/lib/install_library.py", folder, folder], check=True)
         os.environ["COMPOSECHECK_LIBRARY"] = f"{folder}/lib/libcomposecheck.so.1"
