@@ -31,7 +31,9 @@ pub fn answer<T: ComposeTable, F: Folder>(
     let names = arguments.names.as_slice();
     let verbose = arguments.verbose;
     match &arguments.request {
-        Request::Type { table, keys } => type_files::<T, F>(rt, files, verbose, names, *table, keys),
+        Request::Type { table, keys } => type_files::<T, F>(
+            rt, files, verbose, names, *table, keys,
+        ),
         Request::Check {
             tables,
             fresh,
@@ -157,10 +159,7 @@ fn report_check<T: ComposeTable>(
         headers: &tables.names.files,
         header: &tables.names.lines,
         arguments: allowed.unwrap_or(&[]),
-        tables: &[
-            GivenTable::of(&tables.old),
-            GivenTable::of(&tables.new),
-        ],
+        tables: &[GivenTable::of(&tables.old), GivenTable::of(&tables.new)],
         repertoire: paths.repertoire,
         certificate: paths.certificate,
         certificate_text: files.certificate,

@@ -67,8 +67,22 @@ impl<'n> DiffFiles<'n> {
     ) -> Result<DiffFiles<'n>, Fault> {
         let (old_root, new_root) = (arguments.old_root, arguments.new_root);
         let names = read_names(files, alloc, names)?;
-        let old = read_table(files, alloc, environment, arguments, old_root, arguments.old)?;
-        let new = read_table(files, alloc, environment, arguments, new_root, arguments.new)?;
+        let old = read_table(
+            files,
+            alloc,
+            environment,
+            arguments,
+            old_root,
+            arguments.old,
+        )?;
+        let new = read_table(
+            files,
+            alloc,
+            environment,
+            arguments,
+            new_root,
+            arguments.new,
+        )?;
         let accepted = read_accepted(files, alloc, arguments.accept)?;
         Ok(DiffFiles {
             names,

@@ -38,13 +38,12 @@ fn push_details(alloc: Global, text: &mut String, fault: &Fault) -> Result<(), A
         Fault::Manifest { path, bytes, fault } => {
             text.push_str(&manifest_details(alloc, path, bytes, fault)?)
         }
-        Fault::Source { path, fault, .. } => {
-            push_about(alloc, text, path, source_words(*fault))
-        }
+        Fault::Source { path, fault, .. } => { push_about(alloc, text, path, source_words(*fault)) }
         Fault::Find { fault, tried } => push_search(alloc, text, fault, tried),
         Fault::Word | Fault::NoMemory => Ok(()),
     }
 }
+
 /// The line for files that are not all found.
 fn find_refusal(alloc: Global, fault: &FindFault) -> Result<String, AllocError> {
     let said = format!(in alloc; "{fault}").map_err(|_| AllocError)?;
