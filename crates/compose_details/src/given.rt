@@ -47,7 +47,10 @@ impl<'a> GivenTable<'a> {
         GivenTable {
             manifest: &files.path,
             paths: &files.paths,
-            input: files.input(),
+            input: TableInput {
+                sources: &files.sources,
+                rule: files.rule,
+            },
         }
     }
 }

@@ -9,6 +9,7 @@ use crate::given::{Given, GivenTable};
 use crate::lines::{header_line, push_line, push_remark, whole_line};
 use compose_answer::Refusal;
 use compose_check::CheckFault;
+use compose_input::Header;
 use compose_messages::{
     FaultWords, Hint, Message, certificate_words, name_words, push_events, repertoire_words,
     table_hint,
