@@ -281,6 +281,12 @@ def check_socket_file(program, results):
         results.expect("a file is not replaced", (fourth.stderr, fourth.returncode, os.path.exists(service.path)), ("refused: socket: socket\n", 2, True))
 
 
+def check_modes(program, results):
+    for mode in ("600", "660", "666"):
+        with Serving(program, options=("--mode", mode)) as service:
+            results.expect(f"the mode of the socket with --mode {mode}", mode_of(service.path), int(mode, 8))
+
+
 def check_signal(program, results):
     with Serving(program) as service:
         service.process.send_signal(signal.SIGTERM)
@@ -392,9 +398,9 @@ def ran(program, service, *words):
     return it.stdout, it.stderr, it.returncode
 
 
-def put_table(service, name, table, certificate):
+def put_table(service, name, table, certificate, rule=""):
     """Puts a table, its manifest and a certificate into the folder of a service."""
-    for path, content in {f"{name}.compose": table, f"{name}.manifest": f"root\t{name}.compose\n".encode(), f"{name}.certificate": certificate}.items():
+    for path, content in {f"{name}.compose": table, f"{name}.manifest": f"{rule}root\t{name}.compose\n".encode(), f"{name}.certificate": certificate}.items():
         with open(os.path.join(service.folder, path), "wb") as file:
             file.write(content)
 
@@ -429,10 +435,60 @@ def check_client_commands(program, results):
         results.expect("a service that closes the connection", got, ("", "refused: connection: closed before the reply\n", 2))
 
 
+def check_sessions(program, results):
+    """What `session` asks for is asked for, in the order of FORMATS.md, and nothing after a refusal: a session that a further one would
+    have opened stays as it is."""
+    rows = [
+        (("--open", "--ask", "socket", "7", "dead_grave"), ('composing ""\nstate composing dead_grave\n', "", 0)),
+        (("--open", "socket", "7", "dead_acute"), ("refused: a session with this number is open\n", "", 1)),
+        (("--ask", "socket", "7"), ("state composing dead_grave\n", "", 0)),
+        (("--open", "--reset", "--close", "socket", "7", "e"), ("refused: a session with this number is open\n", "", 1)),
+        (("--ask", "socket", "7"), ("state composing dead_grave\n", "", 0)),
+        (("--reset", "--ask", "socket", "7"), ("state nothing\n", "", 0)),
+        (("--ask", "socket", "7", "dead_grave"), ('composing ""\nstate composing dead_grave\n', "", 0)),
+        (("--reset", "--ask", "socket", "7", "dead_acute"), ('composing ""\nstate composing dead_acute\n', "", 0)),
+        (("--close", "socket", "7"), ("", "", 0)),
+        (("--ask", "socket", "7"), ("refused: no session with this number is open\n", "", 1)),
+    ]
+    with Serving(program, connections=len(rows)) as service:
+        for number, (words, wanted) in enumerate(rows, 1):
+            results.expect(f"session, run {number}: {' '.join(words)}", ran(program, service, "session", *words), wanted)
+
+
+def check_names_and_rules(program, results):
+    """Names that aren't among the core ones and the rule of a manifest count, of `serve`, of `load` and of `session`."""
+    hook, longest = b'<dead_hook> <a> : "x"\n', b'<a> <b> : "x"\n<a> : "y"\n'
+    a_is_fresh = b"compose-certificate 2\nbound 1\npairs 1\n0 0\ntypings 0\nfresh 1\n61\n"
+    with Serving(program, table=hook, certificate=NEW_ITSELF, options=("--names", "builtin"), connections=4) as service:
+        is_listening = service.printed[0] == "listening\n"
+        results.expect("serve --names builtin knows dead_hook", is_listening, True)
+        if is_listening:
+            put_table(service, "again", hook, NEW_ITSELF)
+            with open(os.path.join(service.folder, "names"), "wb") as file:
+                file.write(b"#define XK_of_my_own 0xfe61\n")
+            results.expect("a key over that table", service.exchange(OPEN_7 + key(7, 0xFE61) + key(7, 0x61)), OPENED_7 + fed(7, 1) + fed(7, 2, b"x"))
+            results.expect("a load is read by the names of the service", ran(program, service, "load", "socket", "again.manifest", "again.certificate"), ("loaded 1\n", "", 0))
+            got = ran(program, service, "session", "--names", "builtin", "--ask", "socket", "7", "dead_hook")
+            results.expect("session --names builtin knows dead_hook", got, ('composing ""\nstate composing dead_hook\n', "", 0))
+            got = ran(program, service, "session", "--names", "names", "--ask", "socket", "7", "a", "of_my_own")
+            results.expect("session --names FILE knows its names", got, ('composed "x"\ncomposing ""\nstate composing of_my_own\n', "", 0))
+    with Serving(program, table=longest, certificate=NEW_ITSELF, rule="overlap longest\n") as service:
+        is_listening = service.printed[0] == "listening\n"
+        results.expect("serve takes the rule of its manifest", is_listening, True)
+        if is_listening:
+            results.expect("the longer sequence", service.exchange(OPEN_7 + key(7, 0x61) + key(7, 0x62)), OPENED_7 + fed(7, 1) + fed(7, 2, b"x"))
+    with Serving(program, table=b"", certificate=NOTHING_FOLLOWS, connections=3) as service:
+        put_table(service, "plain", longest, a_is_fresh)
+        put_table(service, "refuse", longest, a_is_fresh, rule="overlap refuse\n")
+        put_table(service, "longest", longest, a_is_fresh, rule="overlap longest\n")
+        for name, wanted in {"plain": ("refused: the table is refused\n", "", 1), "refuse": ("refused: the table is refused\n", "", 1), "longest": ("loaded 1\n", "", 0)}.items():
+            results.expect(f"load by the rule of a manifest: {name}", ran(program, service, "load", "socket", f"{name}.manifest", f"{name}.certificate"), wanted)
+
+
 def main():
     program, results = os.path.abspath(sys.argv[1]), Results()
-    for check in (check_worked, check_cuts, check_greatest_load, check_overlaps, check_start, check_clients, check_socket_file, check_signal, check_handed_over, check_late_replies,
-                  check_client_commands):
+    for check in (check_worked, check_cuts, check_greatest_load, check_overlaps, check_start, check_clients, check_socket_file, check_modes, check_signal, check_handed_over, check_late_replies,
+                  check_client_commands, check_sessions, check_names_and_rules):
         check(program, results)
     print(f"{results.passed} passed, {results.failed} failed")
     return 1 if results.failed else 0
