@@ -97,7 +97,7 @@ def case_over_fifos(program, name):
         fifos = Fifos({os.path.join(folder, path): text for path, text in case.files.items()})
         try:
             ran = subprocess.run([b"composecheck"] + case.args, executable=program, cwd=folder, env=os.environ | case.environment,
-                                 stdin=subprocess.DEVNULL, capture_output=True, timeout=60)
+                                 input=case.standard_input, capture_output=True, timeout=60)
         except subprocess.TimeoutExpired:
             return [f"{name}: a file is opened twice: the program waits"]
         finally:
