@@ -75,7 +75,7 @@ check_accepted() {
 # Prints a file, with `old` and `new` for the two trees.
 shorten() {
     place=$(printf '%s\n' "$room" | sed 's/[][\.*^$|]/\\&/g')
-    sed "s|$place/old/$system/|old/|g; s|$place/new/$system/|new/|g; s|$place/||g" "$1"
+    sed "s|$place/old/$system|old|g; s|$place/new/$system|new|g; s|$place/||g" "$1"
 }
 
 # Tells what is wrong with a locale, in the words of a file.

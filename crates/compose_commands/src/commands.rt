@@ -89,7 +89,16 @@ fn type_files<T: ComposeTable, F: Folder>(
     let table = TableFiles::listed(files, rt.alloc(), "table", table)?;
     let answered = type_keys::<T>(rt.alloc(), &header.lines, keys, &table.input());
     let tables = [GivenTable::of(&table)];
-    let given = Given::of(&header, keys, &tables);
+    let given = Given {
+        headers: &header.files,
+        header: &header.lines,
+        arguments: keys,
+        tables: &tables,
+        repertoire: "",
+        certificate: "",
+        certificate_text: &[],
+        all: false,
+    };
     Ok(report_given::<T>(rt, verbose, &given, &answered))
 }
 
