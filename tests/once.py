@@ -29,6 +29,8 @@ FILES = {
     "repertoire": REPERTOIRE,
     "accepted": 'changed: <Multi_key> <a> <b> "x" "z"\nremoved: <Multi_key> <c> "y"\n',
 }
+# Two paths of one file are two files to the program, and each is opened.
+TWO_PATHS = ["find-two-names-of-one-file"]
 # A command, and the words of it that are files; `CERTIFICATE` and `SOCKET` are made beforehand.
 COMMANDS = [
     ("diff table changed", ["table", "changed"]),
@@ -134,7 +136,7 @@ def through_standard_input(program, folder, words, name):
     """The answer where a file is given as standard input, by the file's name."""
     with open(os.path.join(folder, name), encoding="utf-8") as file:
         got = answer(program, folder, ["-" if it == name else it for it in words], input=file.read())
-    return got[0].replace("root\t-", f"root\t{name}"), got[1].replace(": -:", f": {name}:").replace("file: -", f"file: {name}"), got[2]
+    return got[0].replace(" -:", f" {name}:"), got[1].replace(": -:", f": {name}:").replace("file: -", f"file: {name}"), got[2]
 
 
 def differences(program):
@@ -158,7 +160,7 @@ def differences(program):
 
 
 def main():
-    names = [it for it in run.case_names() if "files.py" not in run.Case(it).files and not run.Case(it).is_unprivileged]
+    names = [it for it in run.case_names() if it not in TWO_PATHS and "files.py" not in run.Case(it).files and not run.Case(it).is_unprivileged]
     with run.copy_for_all(sys.argv[1]) as program:
         with concurrent.futures.ThreadPoolExecutor(os.cpu_count()) as pool:
             found = [it for some in pool.map(lambda name: case_over_fifos(program, name), names) for it in some]
