@@ -88,18 +88,21 @@ fn type_files<T: ComposeTable, F: Folder>(
     let header = NameFiles::read(files, rt.alloc(), names)?;
     let table = TableFiles::listed(files, rt.alloc(), "table", table)?;
     let answered = type_keys::<T>(rt.alloc(), &header.lines, keys, &table.input());
-    let tables = [GivenTable::of(&table)];
-    let given = Given {
-        headers: &header.files,
-        header: &header.lines,
-        arguments: keys,
-        tables: &tables,
-        repertoire: "",
-        certificate: "",
-        certificate_text: &[],
-        all: false,
-    };
-    Ok(report_given::<T>(rt, verbose, &given, &answered))
+    Ok(report_typed::<T>(rt, verbose, &header, keys, &table, &answered))
+}
+
+/// Prints what happens at keys that were typed with this table.
+fn report_typed<T: ComposeTable>(
+    rt: &(impl Print + Eprint + AllocGlobal),
+    verbose: bool,
+    header: &NameFiles<'_>,
+    keys: &[&str],
+    table: &TableFiles,
+    answered: &Result<Answer, Refusal>,
+) -> Ended {
+    let tables = [GivenTable::of(table)];
+    let given = Given::of(header, keys, &tables);
+    report_given::<T>(rt, verbose, &given, answered)
 }
 
 /// The paths of the files of a check.
