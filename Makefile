@@ -32,19 +32,19 @@ help:
 
 composecheck: $(SOURCES)
 	$(NEEDS_KIT)
-	python3 tests/build.py composecheck --version
+	python3 tools/build.py composecheck --version
 	cp crates/composecheck/out/composecheck composecheck
 
 compose_trials: $(SOURCES)
 	$(NEEDS_KIT)
-	python3 tests/build.py compose_trials bench names ../../share/composecheck/short-unicode-names.h
+	python3 tools/build.py compose_trials bench names ../../share/composecheck/short-unicode-names.h
 	cp crates/compose_trials/out/compose_trials compose_trials
 
 LIBRARY = crates/compose_c/out/libcompose_c.a
 
 $(LIBRARY): $(SOURCES)
 	$(NEEDS_KIT)
-	python3 tests/build.py compose_c
+	python3 tools/build.py compose_c
 
 lib: $(LIBRARY)
 	python3 lib/build_library.py build/lib
@@ -57,15 +57,15 @@ peers: $(LIBRARY)
 
 test:
 	$(NEEDS_KIT)
-	python3 tests/gate.py
+	python3 tools/gate.py
 
 test-anew:
 	$(NEEDS_KIT)
-	python3 tests/gate.py --anew
+	python3 tools/gate.py --anew
 
 test-whole:
 	$(NEEDS_KIT)
-	python3 tests/gate.py --whole
+	python3 tools/gate.py --whole
 
 # Where $(PYTHON) looks for modules below PREFIX, if it does.
 MODULES = $(shell $(PYTHON) -c 'import site, sys; print(next((it for it in site.getsitepackages() if it.startswith(sys.argv[1])), ""))' $(PREFIX)/lib/ 2> /dev/null)

@@ -25,7 +25,7 @@ FOREIGN = re.compile(r"\b(?:rt|systemctl|dpkg-deb|taskset|valgrind|perf|python3|
 FILE = re.compile(r"(?<![\w./$~%-])(?:[\w-]+/)*[\w-]+\.(?:py|sh|md|rt|antt|txt|service|socket|case|edit|c|h)\b(?!\()")
 # Files that are not of the repository, and names that stand for any.
 OTHER_FILES = {"SHORTER_PROOFS.md", "keysymdef.h", "XF86keysym.h", "report.md", "files.py", "first.c", "stdio.h", "string.h"}
-FOLDERS = ["", "docs/", "share/composecheck/", "tests/", "bench/", "packaging/", "lib/", "crates/*/"]
+FOLDERS = ["", "docs/", "share/composecheck/", "tests/", "tools/", "bench/", "packaging/", "lib/", "crates/*/"]
 # Paths in which a word in capitals stands for any, and the file that the worked change of CONTRIBUTING doesn't need.
 PLACEHOLDER = re.compile(r"(?:^|/)(?:NAME|FILE|WHAT_IS_WRONG)\b|is_unsafe")
 CITATION = re.compile(r"\bet al\b|\barXiv\b|\bdoi\b|\bthis paper\b|\bthe paper\b|\bpapers\b|\bissue \d|(?<![\w&])#\d+\b|\bTheorem \d|\bSection \d|\[\d+\](?!\()", re.I)
@@ -165,7 +165,7 @@ def names_below(folder):
 
 
 def check_files(results, texts):
-    known = OTHER_FILES | names_below("crates") | names_below("share") | names_below("tests")
+    known = OTHER_FILES | names_below("crates") | names_below("share") | names_below("tests") | names_below("tools")
     for document, text in texts.items():
         text = re.sub(r"\b\w+://\S+|\bcompose\.socket\b", "", without_roff(text))
         text = text.replace("/usr/local/share/composecheck/", "share/composecheck/")
@@ -179,7 +179,7 @@ def check_files(results, texts):
 def check_commands(results, texts, crates):
     targets = {it for line in re.findall(r"^([\w -]+):(?!=)", read("Makefile"), re.M) for it in line.split()}
     options = set(re.findall(r'name: "([\w-]+)"', crates.texts["compose_arguments"])) | {"help", "version"}
-    options |= set(re.findall(r"--([\w-]+)", read("tests/gate.py")))
+    options |= set(re.findall(r"--([\w-]+)", read("tools/gate.py")))
     for document, text in texts.items():
         text = without_roff(text)
         for word in re.findall(r"(?:^|`)make ([a-z][\w-]*)`?", text, re.M):

@@ -1,6 +1,6 @@
 #!/usr/bin/env python3
-"""The runner of must-fail edits (edits.py) against a small crate, whose edits are good, useless or bad, and against a prover that only says what it is told to;
-and the gate's own store of what passed (store.py), in a folder of its own.
+"""edits_test.py: the runner of must-fail edits (tools/edits.py) against a small crate, whose edits are good, useless or bad, and against a prover that only says what it is told to;
+and the gate's own store of what passed (tools/store.py), in a folder of its own.
 
 It prints a line for each test and last 'N passed, M failed'."""
 import os
@@ -12,6 +12,8 @@ import tempfile
 import types
 import unittest.mock
 
+TOP = os.path.dirname(os.path.dirname(os.path.abspath(__file__)))
+sys.path[:0] = [f"{TOP}/tools"]
 import edits
 import gate
 import store
@@ -98,7 +100,7 @@ def lines_of_the_runner():
             with open(os.path.join(crate, path), "w", encoding="utf-8") as file:
                 file.write(text)
         subprocess.run(["git", "init", "-q"], cwd=room, check=True)
-        command = [sys.executable, os.path.join(gate.TOP, "tests", "edits.py")]
+        command = [sys.executable, os.path.join(TOP, "tools", "edits.py")]
         ran = subprocess.run(command, cwd=room, stdout=subprocess.PIPE, stderr=subprocess.STDOUT, text=True)
     lines = dict(re.findall(r"^must-fail neighbours/(\w+)\.edit: (.*)", ran.stdout, re.M))
     return lines, ran.stdout.rstrip("\n").split("\n")[-1], ran.returncode

@@ -16,7 +16,7 @@ import tempfile
 import threading
 import time
 
-from service import Results
+from harness import Results
 from typing_service import TypingService
 
 TOP = os.path.dirname(os.path.dirname(os.path.abspath(__file__)))

@@ -12,6 +12,7 @@ import subprocess
 import sys
 import time
 
+sys.path[:0] = [os.path.join(os.path.dirname(os.path.dirname(os.path.abspath(__file__))), "tools")]
 import edits
 import measured
 

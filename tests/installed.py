@@ -13,7 +13,7 @@ import tempfile
 import xml.etree.ElementTree
 
 from packages import check_sums, files_below, packed, read, run
-from service import Results
+from harness import Results
 from typing_service import TypingService
 
 TOP = os.path.dirname(os.path.dirname(os.path.abspath(__file__)))

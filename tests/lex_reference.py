@@ -1,7 +1,5 @@
 #!/usr/bin/env python3
-"""A plain second reading of the lines of a Compose file, compared with the program.
-
-    python3 tests/lex_reference.py PROGRAM
+"""lex_reference.py PROGRAM: a plain second reading of the lines of a Compose file, compared with the program.
 
 Some thousand lines are built at random (from a fixed seed) out of tokens and near-tokens. Each is read here by the
 rules below, apart from the program, and the program has to agree: right lines stand together in one table, whose

@@ -8,7 +8,7 @@ import subprocess
 import sys
 import tempfile
 
-from service import Results
+from harness import Results
 
 TOP = os.path.dirname(os.path.dirname(os.path.abspath(__file__)))
 PROVING = ("all", "composecheck", "compose_trials", "test", "test-anew", "test-whole")
@@ -58,9 +58,9 @@ def check_without_kit(results):
 
 def check_build(results):
     with Tree(["rt"]) as tree:
-        building = "python3 tests/build.py composecheck --version\ncp crates/composecheck/out/composecheck composecheck\n"
+        building = "python3 tools/build.py composecheck --version\ncp crates/composecheck/out/composecheck composecheck\n"
         results.expect("make alone builds the program", tree.make("-n"), (building, "", 0))
-        results.expect("make test runs the gate", tree.make("-n", "test"), ("python3 tests/gate.py\n", "", 0))
+        results.expect("make test runs the gate", tree.make("-n", "test"), ("python3 tools/gate.py\n", "", 0))
 
 
 def check_help(results):

@@ -11,7 +11,7 @@ import sys
 import tempfile
 import threading
 
-import run
+import cases
 
 TABLE = '<Multi_key> <a> <b> : "x"\n<Multi_key> <c> : "y"\n'
 CHANGED = '<Multi_key> <a> <b> : "z"\n'
@@ -93,7 +93,7 @@ class Fifos:
 
 def case_over_fifos(program, name):
     """What differs from what the case expects, where each of its files is a FIFO."""
-    case = run.Case(name)
+    case = cases.Case(name)
     with tempfile.TemporaryDirectory() as folder:
         case.prepare(folder)
         fifos = Fifos({os.path.join(folder, path): text for path, text in case.files.items()})
@@ -105,7 +105,7 @@ def case_over_fifos(program, name):
         finally:
             fifos.release()
     got = {"stdout": ran.stdout, "stderr": ran.stderr, "status": ran.returncode}
-    return [f"{name} over FIFOs: {it}: got {got[it]!r:.300}, expected {case.expected[it]!r:.300}" for it in run.EXPECTED if got[it] != case.expected[it]]
+    return [f"{name} over FIFOs: {it}: got {got[it]!r:.300}, expected {case.expected[it]!r:.300}" for it in cases.EXPECTED if got[it] != case.expected[it]]
 
 
 def answer(program, folder, words, **how):
@@ -160,8 +160,8 @@ def differences(program):
 
 
 def main():
-    names = [it for it in run.case_names() if it not in TWO_PATHS and "files.py" not in run.Case(it).files and not run.Case(it).is_unprivileged]
-    with run.copy_for_all(sys.argv[1]) as program:
+    names = [it for it in cases.case_names() if it not in TWO_PATHS and "files.py" not in cases.Case(it).files and not cases.Case(it).is_unprivileged]
+    with cases.copy_for_all(sys.argv[1]) as program:
         with concurrent.futures.ThreadPoolExecutor(os.cpu_count()) as pool:
             found = [it for some in pool.map(lambda name: case_over_fifos(program, name), names) for it in some]
         more, count = differences(program)

@@ -10,7 +10,7 @@ import sys
 import tarfile
 import tempfile
 
-from service import Results
+from harness import Results
 
 TOP = os.path.dirname(os.path.dirname(os.path.abspath(__file__)))
 TABLE = '<Multi_key> <apostrophe> <e> : "é"\n'

@@ -11,7 +11,7 @@ import subprocess
 import sys
 import tempfile
 
-from run import Case
+from cases import Case
 
 CLANG = "/opt/rattle/toolchain/bin/clang"
 SOURCE = os.path.join(os.path.dirname(os.path.abspath(__file__)), "refuse.c")

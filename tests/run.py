@@ -1,110 +1,75 @@
 #!/usr/bin/env python3
-"""run.py PROGRAM [WORD]: runs the program, as `composecheck`, on the cases of tests/cases, or on those with the word in their name.
+"""run.py [--quick] [--program FILE] [--trials FILE] [NAME..]: runs scripts of tests/ by their names, side by side, or lists them all.
 
-A case is one text file, NAME.case, whose form tests/README.md says. The last line is `N passed, M failed`."""
+FILE is the built program, ./composecheck if none is given, and ./compose_trials. With --quick it runs, without names, each script that needs no
+proved program, C library or package: what `make quick` runs on programs that were built without proofs. What a script prints is printed in one piece,
+below its name. The last line is `N passed, M failed` over all."""
+import argparse
+import ast
 import concurrent.futures
-import contextlib
+import glob
 import os
 import re
-import shlex
-import shutil
-import subprocess
 import sys
-import tempfile
 
-CASES = os.path.join(os.path.dirname(os.path.abspath(__file__)), "cases")
-SECTION = re.compile(rb"^-- (.+?)( without a last newline)? --\n", re.MULTILINE)
-EXPECTED = ["stdout", "stderr", "status"]
-NOBODY = 65534
+from harness import TOP, follow
 
-
-class Case:
-    """The arguments, the environment beside that of the test, the files by their paths (`files.py` is a script that writes some), and
-    what is expected of a run."""
-
-    def __init__(self, name):
-        with open(os.path.join(CASES, name + ".case"), "rb") as file:
-            command, *parts = SECTION.split(file.read())
-        words = [os.fsencode(word) for word in shlex.split(os.fsdecode(command))]
-        assert words[0] == b"composecheck", name
-        self.args = words[1:]
-        sections = {}
-        for section, unended, text in zip(parts[0::3], parts[1::3], parts[2::3]):
-            sections[section.decode()] = text[:-1] if unended else text
-        self.expected = {
-            "stdout": sections.pop("stdout", b""),
-            "stderr": sections.pop("stderr", b""),
-            "status": int(sections.pop("status", b"0")),
-        }
-        lines = os.fsdecode(sections.pop("env", b"")).splitlines()
-        self.environment = dict(line.split("=", 1) for line in lines)
-        self.is_unprivileged = sections.pop("unprivileged", None) is not None
-        self.standard_input = sections.pop("stdin", b"")
-        self.files = sections
-
-    def prepare(self, folder):
-        """Puts the files of the case into the folder."""
-        for path, text in self.files.items():
-            os.makedirs(os.path.join(folder, os.path.dirname(path)), exist_ok=True)
-            with open(os.path.join(folder, path), "wb") as file:
-                file.write(text)
-        if "files.py" in self.files:
-            subprocess.run([sys.executable, "files.py"], cwd=folder, check=True)
-
-    def user(self, folder):
-        """The user that runs the program in the folder: for an unprivileged case not root, for whom each file is open."""
-        if not self.is_unprivileged or os.geteuid():
-            return {}
-        os.chmod(folder, 0o755)
-        return {"user": NOBODY, "group": NOBODY, "extra_groups": []}
+# The head of a script: its name, what it takes, and what it does.
+HEAD = re.compile(r"(\w+)\.py((?: (?:PROGRAM|TRIALS|\[[^\]]*\]))*): (.*?)(?:[.:;](?:\s|$)|$)", re.S)
+# What needs more than an unproved program, or takes long: packages and what is installed hold the proved C library; libxkbcommon's test comes
+# over the network; `make real` has the rest.
+NOT_QUICK = {"edits_test", "installed", "library", "packages", "peers", "real", "real_service"}
 
 
-def case_names(word=""):
-    """The names of the cases that have the word."""
-    names = [name.removesuffix(".case") for name in sorted(os.listdir(CASES))]
-    return [name for name in names if word in name]
+class Script:
+    """A script of tests/: its name, the programs that it takes, and what it does."""
+
+    def __init__(self, name, takes, does):
+        self.name, self.does = name, " ".join(does.split())
+        self.takes = [it for it in takes.split() if not it.startswith("[")]
+
+    def command(self, programs):
+        return [sys.executable, os.path.join("tests", f"{self.name}.py"), *(programs[it] for it in self.takes)]
 
 
-def run(program, name):
-    """What differs from what the case expects."""
-    case = Case(name)
-    with tempfile.TemporaryDirectory() as folder:
-        case.prepare(folder)
-        ran = subprocess.run(
-            [b"composecheck"] + case.args,
-            executable=program,
-            cwd=folder,
-            env=os.environ | case.environment,
-            input=case.standard_input,
-            capture_output=True,
-            timeout=300,
-            **case.user(folder),
-        )
-    got = {"stdout": ran.stdout, "stderr": ran.stderr, "status": ran.returncode}
-    wanted = case.expected
-    return [f"{part}: got {got[part]!r:.400}, expected {wanted[part]!r:.400}" for part in EXPECTED if got[part] != wanted[part]]
+def scripts():
+    """Returns the scripts by their names: each file of tests/ whose head says how it is run."""
+    found = {}
+    for path in sorted(glob.glob(os.path.join(TOP, "tests", "*.py"))):
+        with open(path, encoding="utf-8") as file:
+            head = HEAD.match(ast.get_docstring(ast.parse(file.read())) or "")
+        if head and f"{head[1]}.py" == os.path.basename(path) and path != os.path.abspath(__file__):
+            found[head[1]] = Script(*head.groups())
+    return found
 
 
-@contextlib.contextmanager
-def copy_for_all(program):
-    """Yields the path of a copy of the program that every user can run. It is whole before the first case runs: a process that starts while a
-    program is written has it open for writing too, and until that ends the program can't be run ("text file busy")."""
-    with tempfile.TemporaryDirectory() as folder:
-        os.chmod(folder, 0o755)
-        yield shutil.copy(program, folder)
+def run(chosen, programs):
+    """Runs scripts, a few side by side, prints what each prints, and returns their counts."""
+    passed = failed = 0
+    with concurrent.futures.ThreadPoolExecutor(os.cpu_count()) as pool:
+        runs = {pool.submit(follow, it.command(programs), is_quiet=True): it for it in chosen}
+        for ended in concurrent.futures.as_completed(runs):
+            lines, counts = ended.result()
+            print(f"== {runs[ended].name}\n{''.join(lines)}", end="", flush=True)
+            passed, failed = passed + counts[0], failed + counts[1]
+    return passed, failed
 
 
 def main():
-    names = case_names(sys.argv[2] if len(sys.argv) > 2 else "")
-    failed = 0
-    with copy_for_all(sys.argv[1]) as program, concurrent.futures.ThreadPoolExecutor(os.cpu_count()) as pool:
-        for name, differences in zip(names, pool.map(lambda name: run(program, name), names)):
-            if differences:
-                failed += 1
-                print(f"FAILED {os.path.basename(program)}: {name}")
-                for difference in differences:
-                    print("   ", difference)
-    print(f"{len(names) - failed} passed, {failed} failed")
+    words = argparse.ArgumentParser(usage=__doc__.partition(": ")[0], description=__doc__.partition(": ")[2])
+    words.add_argument("--quick", action="store_true", help="those that need no proof")
+    words.add_argument("--program", default="composecheck", help="the program (./composecheck)")
+    words.add_argument("--trials", default="compose_trials", help="the program of single calls (./compose_trials)")
+    words.add_argument("names", nargs="*", metavar="NAME")
+    given, known = words.parse_args(), scripts()
+    names = given.names or [it for it in known if given.quick and it not in NOT_QUICK]
+    if not names:
+        print("".join(f"{it.name:<15}{it.does}\n" for it in known.values()), end="")
+        return 0
+    if {*names} - {*known}:
+        sys.exit(f"run.py: no script is called {' or '.join(sorted({*names} - {*known}))}")
+    passed, failed = run([known[it] for it in names], {"PROGRAM": os.path.abspath(given.program), "TRIALS": os.path.abspath(given.trials)})
+    print(f"{passed} passed, {failed} failed")
     return 1 if failed else 0
 
 

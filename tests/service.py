@@ -17,6 +17,7 @@ TOP = os.path.dirname(os.path.dirname(os.path.abspath(__file__)))
 sys.path.insert(0, os.path.join(TOP, "share", "composecheck"))
 import composecheck_client
 from composecheck_client import Client
+from harness import Results
 
 PIECES = bytes.fromhex
 GRAVE, ACUTE, E, X = 0xFE50, 0xFE51, 0x65, 0x78
@@ -35,20 +36,6 @@ def frame(kind, session, payload=b""):
 
 def key(session, keysym):
     return frame(2, session, struct.pack(">I", keysym))
-
-
-class Results:
-    """Counts what passed, and prints what failed."""
-
-    def __init__(self):
-        self.passed = self.failed = 0
-
-    def expect(self, what, got, wanted):
-        if got == wanted:
-            self.passed += 1
-        else:
-            self.failed += 1
-            print(f"FAILED: {what}\n  got      {got!r:.400}\n  expected {wanted!r:.400}", flush=True)
 
 
 class Serving:

@@ -1,7 +1,7 @@
 #!/usr/bin/env python3
 """The gate:
 
-  - the runner of must-fail edits against a small crate of its own, and the gate's store (edits_test.py), and the worked examples (examples.py),
+  - the runner of must-fail edits against a small crate of its own, and the gate's store (tests/edits_test.py), and the worked examples (tests/examples.py),
   - `rt ci`, with the edits tried over the proofs of their crates, several in one check (proofs.py),
   - the command-line cases against both built programs, `composecheck` and the same on the plain form of a table, some of them again
     with each allocation refused in turn, the second reading of lines, inputs at their limits and files that are written by `composecheck`,
@@ -34,6 +34,9 @@ import edits
 import measured
 
 TOP = measured.TOP
+sys.path.append(os.path.join(TOP, "tests"))
+from harness import follow
+
 PROGRAM = os.path.join(TOP, "composecheck")
 # What a check and the rest of the machine need, in bytes.
 MEMORY_OF_A_PROCESSOR = 2_700_000_000
@@ -44,28 +47,12 @@ def built(crate):
     return os.path.join(TOP, "crates", crate, "out", crate)
 
 
-def follow(command, is_quiet=False):
-    """Runs the command and, unless quietly, prints what it prints; its lines, and its counts, or those of one test where it prints none."""
-    counts, lines = None, []
-    with subprocess.Popen(command, cwd=TOP, stdout=subprocess.PIPE, stderr=subprocess.STDOUT, text=True, errors="replace") as ran:
-        for line in ran.stdout:
-            if not is_quiet:
-                print(line, end="", flush=True)
-            lines.append(line)
-            found = re.fullmatch(r"(\d+) passed, (\d+) failed\n?", line)
-            if found:
-                counts = int(found[1]), int(found[2])
-    if counts is None:
-        counts = (1, 0) if ran.returncode == 0 else (0, 1)
-    return lines, counts if counts[1] > 0 or ran.returncode == 0 else (counts[0], 1)
-
-
 def script(name, *words):
     """Returns the command that runs one of the scripts of tests/."""
     return [sys.executable, os.path.join("tests", name), *words]
 
 
-def told(lines, counts):
+def print_whole(lines, counts):
     """Prints the lines of a command that ran quietly, and returns its counts."""
     print("".join(lines), end="", flush=True)
     return counts
@@ -90,7 +77,7 @@ def without_a_line(names_of, lines):
 
 def prove(flags, file, names_of):
     """Runs `rt ci` and prints what it says; its counts. What each check took is added to a file."""
-    lines, (passed, failed) = follow(["rt", "ci"] if "--whole" in flags else script("proofs.py", file, *flags))
+    lines, (passed, failed) = follow(["rt", "ci"] if "--whole" in flags else [sys.executable, os.path.join("tools", "proofs.py"), file, *flags])
     lost = without_a_line(names_of, lines)
     for it in lost:
         print(f"gate: must-fail {it}: NO LINE says whether the prover refuses it")
@@ -108,7 +95,7 @@ def commands():
     """Returns the commands that run the built programs, the slowest first, once `composecheck` itself is at PROGRAM."""
     shutil.copy(built("composecheck"), PROGRAM)
     plain, trials = built("composecheck_list"), built("compose_trials")
-    runs = [(it, program) for it in ("refusals.py", "diff.py", "run.py", "service.py") for program in (PROGRAM, plain)]
+    runs = [(it, program) for it in ("refusals.py", "diff.py", "cases.py", "service.py") for program in (PROGRAM, plain)]
     runs += [("devices.py", trials), ("calls.py", trials)]
     runs += [("limits.py", PROGRAM), ("limits.py", plain)]
     runs += [(it, PROGRAM) for it in ("once.py", "packages.py", "lex_reference.py", "at_once.py", "streams.py", "outputs.py", "ci.py", "readme.py", "engine.py", "installed.py")]
@@ -124,9 +111,9 @@ def main():
     with tempfile.TemporaryDirectory(prefix="gate-") as room, concurrent.futures.ThreadPoolExecutor(rt.processors()) as pool:
         file = os.path.join(room, "measured")
         beside = [pool.submit(follow, ["nice", *it], is_quiet=True) for it in (script("edits_test.py"), script("examples.py", file))]
-        every = [prove(sys.argv[1:], file, names_of), *(told(*it.result()) for it in beside)]
+        every = [prove(sys.argv[1:], file, names_of), *(print_whole(*it.result()) for it in beside)]
         if not any(failed for _, failed in every):
-            every += [told(*it) for it in pool.map(lambda it: follow(it, is_quiet=True), commands())]
+            every += [print_whole(*it) for it in pool.map(lambda it: follow(it, is_quiet=True), commands())]
         table = measured.table_of(measured.rows_of(file), {it: len(names) for it, names in names_of.items()})
     passed, failed = map(sum, zip(*every))
     used = resource.getrusage(resource.RUSAGE_CHILDREN)

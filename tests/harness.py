@@ -1,0 +1,52 @@
+"""What the scripts of tests/ share: how they count and print, write files and run one another."""
+import os
+import re
+import subprocess
+
+TOP = os.path.dirname(os.path.dirname(os.path.abspath(__file__)))
+COUNTS = re.compile(r"(\d+) passed, (\d+) failed\n?")
+
+
+class Results:
+    """Counts what passed, and prints what failed."""
+
+    def __init__(self):
+        self.passed = self.failed = 0
+
+    def expect(self, what, got, wanted):
+        if got == wanted:
+            self.passed += 1
+        else:
+            self.failed += 1
+            print(f"FAILED: {what}\n  got      {got!r:.400}\n  expected {wanted!r:.400}", flush=True)
+
+    def end(self):
+        """Prints the last line of a script, and returns its status."""
+        print(f"{self.passed} passed, {self.failed} failed")
+        return 1 if self.failed else 0
+
+
+def write(folder, files):
+    """Writes these files, by their names, into a folder."""
+    for name, text in files.items():
+        path = os.path.join(folder, name)
+        os.makedirs(os.path.dirname(path), exist_ok=True)
+        with open(path, "w", encoding="utf-8") as file:
+            file.write(text)
+
+
+def follow(command, is_quiet=False):
+    """Runs the command at the top of the repository and, unless quietly, prints what it prints. Returns its lines, and its counts, or those of one
+    test if it prints none."""
+    counts, lines = None, []
+    with subprocess.Popen(command, cwd=TOP, stdout=subprocess.PIPE, stderr=subprocess.STDOUT, text=True, errors="replace") as ran:
+        for line in ran.stdout:
+            if not is_quiet:
+                print(line, end="", flush=True)
+            lines.append(line)
+            found = COUNTS.fullmatch(line)
+            if found:
+                counts = int(found[1]), int(found[2])
+    if counts is None:
+        counts = (1, 0) if ran.returncode == 0 else (0, 1)
+    return lines, counts if counts[1] > 0 or ran.returncode == 0 else (counts[0], 1)
