@@ -78,6 +78,7 @@ install: composecheck install-lib install-ibus
 	install -D -m 644 -t $(DESTDIR)$(PREFIX)/share/composecheck $(wildcard share/composecheck/*.*)
 	chmod 755 $(DESTDIR)$(PREFIX)/share/composecheck/ci.sh
 	install -D -m 644 -t $(DESTDIR)$(PREFIX)/share/composecheck/repertoires $(wildcard share/composecheck/repertoires/*)
+	install -D -m 644 -t $(DESTDIR)$(PREFIX)/share/composecheck/ci $(wildcard share/composecheck/ci/*)
 	install -D -m 644 share/composecheck/composecheck.socket $(DESTDIR)$(PREFIX)/lib/systemd/user/composecheck.socket
 	install -D -m 644 share/composecheck/composecheck.service $(DESTDIR)$(PREFIX)/lib/systemd/user/composecheck.service
 	sed -i 's|/usr/local/|$(PREFIX)/|' $(DESTDIR)$(PREFIX)/lib/systemd/user/composecheck.service

@@ -92,7 +92,7 @@ def files_of(program, prefix):
     for section in "15":
         # (compressed, as Debian installs it)
         files[f"share/man/man{section}/composecheck.{section}.gz"] = gzip.compress(named(f"docs/composecheck.{section}"), mtime=0)
-    for folder in ("share/composecheck", "share/composecheck/repertoires"):
+    for folder in ("share/composecheck", "share/composecheck/ci", "share/composecheck/repertoires"):
         for name in sorted(os.listdir(f"{TOP}/{folder}")):
             if os.path.isfile(f"{TOP}/{folder}/{name}"):
                 files[f"{folder}/{name}"] = named(f"{folder}/{name}")

@@ -1,13 +1,15 @@
 #!/usr/bin/env python3
 """ci.py PROGRAM: runs share/composecheck/ci.sh with PROGRAM over small trees of tables, by their relative and by their absolute paths, and
-compares the report, what is said on standard error, the exit status and what is left. The last line is `N passed, M failed`."""
+compares the report, what is printed on standard error, the exit status and what is left. The last line is `N passed, M failed`."""
 import os
+import re
+import shutil
 import subprocess
 import sys
 import tempfile
 from typing import NamedTuple
 
-from service import Results
+from harness import Results
 
 TOP = os.path.dirname(os.path.dirname(os.path.abspath(__file__)))
 SCRIPT = os.path.join(TOP, "share", "composecheck", "ci.sh")
@@ -24,6 +26,7 @@ DROPPED = 'removed: <Multi_key> <b> "y"\n'
 
 HEADING = "# Changes of Compose tables\n"
 UNCHANGED = "\nNothing changes for people, and nothing is added.\n"
+INTENDED = "\nNothing changes but what is intended.\n"
 CHANGED = """
 ## en_US.UTF-8, fi_FI.UTF-8
 
@@ -33,14 +36,53 @@ ACCEPTED = """
 ## fi_FI.UTF-8
 
     removed: <Multi_key> <b> "y" old/en_US.UTF-8/Compose:2
+
+## Intended
+
+### en_US.UTF-8
+
+    removed: <Multi_key> <b> "y"
+"""
+BOTH_ACCEPTED = INTENDED + """
+## Intended
+
+### en_US.UTF-8, fi_FI.UTF-8
+
+    removed: <Multi_key> <b> "y"
 """
 NEW_ONE = "\nsv_SE.UTF-8 is new.\n"
 READS_OUTSIDE = "\n**fi_FI.UTF-8 reads files outside of its tree:**\n\n    note: ROOM/elsewhere/Compose lies outside of new\n"
 ONE, TWO, THREE, NONE = "\n1 locale was compared.\n", "\n2 locales were compared.\n", "\n3 locales were compared.\n", "\n0 locales were compared.\n"
+# The locales that include the English table, and one that doesn't.
+MANY = {"en_US.UTF-8": ENGLISH, **{f"{it}.UTF-8": INCLUDING for it in ("fi_FI", "pt_PT", "ru_RU", "th_TH")}, "el_GR.UTF-8": '<Multi_key> <c> : "c"\n'}
+# The tables of locales, in both forms that libX11 writes, and the names that others have.
+TABLES_OF = """# tables
+en_US.UTF-8/Compose: C.UTF-8
+en_US.UTF-8/Compose\t\tde_DE.UTF-8
+en_US.UTF-8/Compose en_US.UTF-8
+fi_FI.UTF-8/Compose: fi_FI.UTF-8
+cs_CZ.UTF-8/Compose: cs_CZ.UTF-8
+C/Compose: de_DE.ISO8859-1
+"""
+ALIASES = "# names\nde: de_DE.UTF-8\nde_DE.utf8 de_DE.UTF-8\nfi: fi_FI.UTF-8\nc.utf8: C.UTF-8\n"
+
+
+def another_table(*lines):
+    return "\n## Locales with another table\n\n" + "".join(f"    {it}\n" for it in lines)
 
 
 def missing(*locales):
-    return "".join(f"\n**{it} is missing in the new tree.**\n" for it in locales)
+    return another_table(*(f"{it}: {it}/Compose, now none" for it in locales))
+
+
+def parted(report):
+    """Returns a report without its counts, and these by locale and word, but for those that are 0."""
+    found = re.search(r"\n## Counts\n\n((?:\|.*\n)+)", report)
+    if not found:
+        return report, {}
+    head, _, *rows = [[cell.strip() for cell in it.strip("|").split("|")] for it in found[1].splitlines()]
+    counts = {locale: {word: int(count) for word, count in zip(head[1:], row) if count != "0"} for locale, *row in rows}
+    return report.replace(found[0], ""), counts
 
 
 class Report(NamedTuple):
@@ -56,13 +98,15 @@ class Report(NamedTuple):
 REPORTS = [
     Report("nothing changes", OLD, {}, HEADING + UNCHANGED + THREE, 0),
     Report("a change of an included table is shown once", NEW, {}, HEADING + CHANGED + THREE, 1),
-    Report("one table is missing and one is new", {**RENAMED, "sv_SE.UTF-8": ENGLISH}, {}, HEADING + missing("fi_FI.UTF-8") + NEW_ONE + UNCHANGED + TWO, 2),
+    Report("one table is missing and one is new", {**RENAMED, "sv_SE.UTF-8": ENGLISH}, {}, HEADING + NEW_ONE + missing("fi_FI.UTF-8") + TWO, 2),
     Report("a change is intended in one of two locales", NEW, {"en_US.UTF-8": DROPPED}, HEADING + ACCEPTED + THREE, 1),
-    Report("a change is intended in all locales", NEW, {"en_US.UTF-8": DROPPED, "fi_FI.UTF-8": DROPPED}, HEADING + UNCHANGED + THREE, 0),
+    Report("a change is intended in each of two locales", NEW, {"en_US.UTF-8": DROPPED, "fi_FI.UTF-8": DROPPED}, HEADING + BOTH_ACCEPTED + THREE, 0),
+    Report("a change is intended in all locales", NEW, {"all": f"# dropped\n\n{DROPPED}"}, HEADING + BOTH_ACCEPTED + THREE, 0),
+    Report("one list is empty", NEW, {"all": DROPPED, "en_US.UTF-8": "# none\n"}, HEADING + BOTH_ACCEPTED + THREE, 0),
     Report("a table reads a file outside of its tree", OUTSIDE, {}, HEADING + READS_OUTSIDE + UNCHANGED + THREE, 2),
     Report("one table is missing, and the next one changes", {it: text for it, text in NEW.items() if it != "cs_CZ.UTF-8"}, {}, HEADING + missing("cs_CZ.UTF-8") + CHANGED + TWO, 2),
-    Report("a single locale is compared", {"en_US.UTF-8": ENGLISH}, {}, HEADING + missing("cs_CZ.UTF-8", "fi_FI.UTF-8") + UNCHANGED + ONE, 2),
-    Report("no locale is in both trees", {"sv_SE.UTF-8": ENGLISH}, {}, HEADING + missing("cs_CZ.UTF-8", "en_US.UTF-8", "fi_FI.UTF-8") + NEW_ONE + NONE, 2),
+    Report("a single locale is compared", {"en_US.UTF-8": ENGLISH}, {}, HEADING + missing("cs_CZ.UTF-8", "fi_FI.UTF-8") + ONE, 2),
+    Report("no locale is in both trees", {"sv_SE.UTF-8": ENGLISH}, {}, HEADING + NEW_ONE + missing("cs_CZ.UTF-8", "en_US.UTF-8", "fi_FI.UTF-8") + NONE, 2),
 ]
 
 
@@ -94,12 +138,18 @@ class Trees:
         with open(whole_path, "w", encoding="utf-8") as file:
             file.write(text)
 
-    def compare(self, program, *options, prefix="", old="old tree", accepted="intended changes"):
+    def compare(self, program, *options, prefix="", old="old tree", accepted="intended changes", preprocessor=""):
         """Runs the script on the two trees, by paths with this prefix; returns what it prints, what it says, and its exit status."""
-        settings = {**os.environ, "COMPOSECHECK": program, "ACCEPTED": prefix + accepted, "TMPDIR": os.path.join(self.room, "temporary [files]"), "XLOCALEDIR": "/nowhere"}
+        settings = {"COMPOSECHECK": program, "ACCEPTED": prefix + accepted, "RAWCPP": preprocessor, "XLOCALEDIR": "/nowhere"}
+        settings = {**os.environ, **settings, "TMPDIR": os.path.join(self.room, "temporary [files]")}
         words = ["sh", SCRIPT, prefix + old, f"{prefix}new tree", *options]
         ran = subprocess.run(words, cwd=self.room, env=settings, capture_output=True, text=True, timeout=60)
         return ran.stdout.replace(self.room, "ROOM"), ran.stderr, ran.returncode
+
+    def answer(self, program, **where):
+        """Returns what the script answers, without the counts of its report."""
+        printed, said, status = self.compare(program, **where)
+        return parted(printed)[0], said, status
 
     def left(self):
         """Returns what the script left among the temporary files."""
@@ -109,21 +159,21 @@ class Trees:
 def check_reports(program, results):
     for it in REPORTS:
         with Trees(OLD, it.new, it.accepted) as trees:
-            results.expect(f"{it.name}, by relative paths", trees.compare(program), (it.wanted, "", it.status))
-            results.expect(f"{it.name}, by absolute paths", trees.compare(program, prefix=f"{trees.room}/"), (it.wanted, "", it.status))
+            results.expect(f"{it.name}, by relative paths", trees.answer(program), (it.wanted, "", it.status))
+            results.expect(f"{it.name}, by absolute paths", trees.answer(program, prefix=f"{trees.room}/"), (it.wanted, "", it.status))
             results.expect(f"{it.name}: temporary files that are left", trees.left(), [])
 
 
 def check_refused_tables(program, results):
-    """A table that is refused is told with the reason, which is the program's to say; the other locales are compared."""
+    """A table that is refused is shown with the reason, which is the program's to say; the other locales are compared."""
     begin, end = f"{HEADING}\n**fi_FI.UTF-8 is refused:**\n\n    refused: ", UNCHANGED + TWO
     with Trees(OLD, {**OLD, "fi_FI.UTF-8": "<a>\n"}, {}) as trees:
-        printed, said, status = trees.compare(program)
+        printed, said, status = trees.answer(program)
         results.expect("a table is refused", (printed.startswith(f"{begin}new: 1 Read: "), printed.endswith(end), said, status), (True, True, "", 2))
     with Trees(RENAMED, OLD, {}) as trees:
         os.mkdir(os.path.join(trees.room, "old tree", "fi_FI.UTF-8"))
         os.symlink("nothing", os.path.join(trees.room, "old tree", "fi_FI.UTF-8", "Compose"))
-        printed, said, status = trees.compare(program)
+        printed, said, status = trees.answer(program)
         results.expect("a table is a link to nothing", (printed.startswith(begin), printed.endswith(end), said, status), (True, True, "", 2))
 
 
@@ -138,15 +188,15 @@ def check_folders(program, results):
         with Trees(tables, OLD, {}) as trees:
             results.expect(what, trees.compare(program), ("", wanted, 2))
     with Trees({}, OLD, {}) as trees:
-        trees.write("old tree/nls/en_US.UTF-8/Compose.pre", ENGLISH)
-        results.expect("a source tree", trees.compare(program), ("", "ci.sh: no LOCALE.UTF-8/Compose in old tree\n", 2))
+        trees.write("old tree/libX11/nls/en_US.UTF-8/Compose.pre", ENGLISH)
+        results.expect("a folder above a source tree", trees.compare(program), ("", "ci.sh: no LOCALE.UTF-8/Compose in old tree; try old tree/libX11/nls\n", 2))
         results.expect("no folder", trees.compare(program, old="other tree"), ("", "ci.sh: no folder other tree\n", 2))
     with Trees(OLD, {"locale/en_US.UTF-8": ENGLISH}, {}) as trees:
         results.expect("the wrong level of the new tree", trees.compare(program), ("", "ci.sh: no LOCALE.UTF-8/Compose in new tree; try new tree/locale\n", 2))
 
 
 def check_program(program, results):
-    """What is wrong with the program or an option is told once, without a report."""
+    """What is wrong with the program or an option is printed once, without a report."""
     with Trees(OLD, OLD, {}) as trees:
         results.expect("no program", trees.compare("./no program"), ("", "ci.sh: can't run ./no program\n", 2))
         printed, said, status = trees.compare(program, "--nonsense")
@@ -170,18 +220,130 @@ def check_output(program, results):
 
 
 def check_lists(program, results):
-    """A list of intended changes that nothing is compared with is refused."""
+    """A list of intended changes that nothing is compared with is refused, and so is a line that matches nothing or is of several sequences."""
     for name in ("en_US.UTF8", "fi_FI.UTF-8", "sv_SE.UTF-8", "C"):
         with Trees(OLD, {**RENAMED, "sv_SE.UTF-8": ENGLISH}, {"en_US.UTF-8": "", name: DROPPED}) as trees:
             wanted = "", f"ci.sh: intended changes/{name} is of no locale that is compared\n", 2
             results.expect(f"a list of the changes of {name}", trees.compare(program), wanted)
     with Trees(OLD, OLD, {}) as trees:
         results.expect("no folder of lists", trees.compare(program, accepted="lists"), ("", "ci.sh: no folder lists\n", 2))
+    for line in ('removed: <Multi_key> <a> .. 4 sequences "a" "b" "c" .. old/en_US.UTF-8/Compose:1', "removed: all 3 sequences of old/en_US.UTF-8/Compose, from which the new table has none"):
+        for name in ("all", "en_US.UTF-8"):
+            with Trees(OLD, NEW, {name: f"# many\n    {line}\r\n"}) as trees:
+                wanted = "", f"ci.sh: intended changes/{name}:2: a line of several sequences; with --no-fold after the two folders each has its own\n", 2
+                results.expect(f"a line of several sequences in {name}", trees.compare(program), wanted)
+    with Trees(OLD, NEW, {"all": f"{DROPPED}removed: <Multi_key> <c> \"y\"\n"}) as trees:
+        stale = '\n**intended changes/all is refused:**\n\n    line 2 matches no change: removed: <Multi_key> <c> "y"\n'
+        results.expect("a line of `all` that matches nothing", trees.answer(program), (HEADING + stale + BOTH_ACCEPTED + THREE, "", 2))
+    with Trees(OLD, NEW, {"all": DROPPED, "fi_FI.UTF-8": f"# one\n{DROPPED}removed: <Multi_key> <c> \"y\"\n"}) as trees:
+        printed, said, status = trees.answer(program)
+        begin = f"{HEADING}\n**fi_FI.UTF-8 is refused:**\n\n    refused: accept: 1 Stale line=3\n    composecheck: intended changes/fi_FI.UTF-8:3:1: "
+        results.expect("a line of a locale that matches nothing", (printed.startswith(begin), said, status), (True, "", 2))
+
+
+def check_copied(program, results):
+    """Lines that are copied from the report are taken as they are: each makes the next report the shorter by itself."""
+    with Trees(OLD, NEW, {}) as trees:
+        printed, _, _ = trees.compare(program)
+        lines = "".join(f"{it}\r\n" for it in printed.splitlines() if it.startswith("    "))
+        trees.write("intended changes/all", lines)
+        results.expect("copied lines", trees.answer(program), (HEADING + BOTH_ACCEPTED + THREE, "", 0))
+
+
+def check_counts(program, results):
+    """Each locale has its counts, and all together."""
+    with Trees(OLD, NEW, {"fi_FI.UTF-8": DROPPED}) as trees:
+        dropped = {"kept": 1, "removed": 1}
+        wanted = {"cs_CZ.UTF-8": {"kept": 2}, "en_US.UTF-8": dropped, "fi_FI.UTF-8": {"kept": 1, "accepted": 1}, "all": {"kept": 4, "removed": 1, "accepted": 1}}
+        results.expect("counts", parted(trees.compare(program)[0])[1], wanted)
+    with Trees(OLD, {"en_US.UTF-8": ENGLISH}, {}) as trees:
+        results.expect("counts of one locale", parted(trees.compare(program)[0])[1], {"en_US.UTF-8": {"kept": 2}})
+
+
+def check_headings(program, results):
+    """Many locales that include a table, and have its change, are counted in a heading and named below it."""
+    line = '    removed: <Multi_key> <b> "y" old/en_US.UTF-8/Compose:2\n'
+    new = {**MANY, "en_US.UTF-8": NEW["en_US.UTF-8"]}
+    with Trees(MANY, new, {}) as trees:
+        heading = "\n## en_US.UTF-8 and 4 that include it\n\nfi_FI.UTF-8, pt_PT.UTF-8, ru_RU.UTF-8, th_TH.UTF-8\n\n"
+        results.expect("all that include a table", trees.answer(program), (f"{HEADING}{heading}{line}\n6 locales were compared.\n", "", 1))
+    with Trees(MANY, {**new, "pt_PT.UTF-8": CZECH.replace('"z"', '"y"')}, {}) as trees:
+        heading = "\n## en_US.UTF-8 and 3 of the 4 that include it\n\nfi_FI.UTF-8, ru_RU.UTF-8, th_TH.UTF-8\n\n"
+        results.expect("some that include a table", trees.answer(program), (f"{HEADING}{heading}{line}\n6 locales were compared.\n", "", 1))
+    others = {it: ENGLISH for it in MANY}
+    with Trees(others, {it: NEW["en_US.UTF-8"] for it in MANY}, {}) as trees:
+        printed = trees.answer(program)[0]
+        results.expect("the same table six times, without an include", "that include it" in printed, False)
+
+
+def check_tables_of_locales(program, results):
+    """A locale that gets another table by compose.dir and locale.alias has a line, which may be intended."""
+    lines = ["C.UTF-8: en_US.UTF-8/Compose, now none", "de_DE.UTF-8: en_US.UTF-8/Compose, now C/Compose", "fi: fi_FI.UTF-8/Compose, now en_US.UTF-8/Compose"]
+    changed = TABLES_OF.replace("en_US.UTF-8/Compose: C.UTF-8\n", "").replace("en_US.UTF-8/Compose\t", "C/Compose\t")
+    names = ALIASES.replace("fi: fi_FI.UTF-8", "fi: en_US.UTF-8")
+
+    def trees_of(tables, aliases, accepted):
+        trees = Trees(OLD, OLD, accepted)
+        for tree, files in {"old tree": (TABLES_OF, ALIASES), "new tree": (tables, aliases)}.items():
+            trees.write(f"{tree}/compose.dir", files[0])
+            trees.write(f"{tree}/locale.alias", files[1])
+        return trees
+
+    with trees_of(TABLES_OF, ALIASES, {}) as trees:
+        results.expect("each locale has its table", trees.answer(program), (HEADING + UNCHANGED + THREE, "", 0))
+    with trees_of(changed, names, {}) as trees:
+        results.expect("locales with another table", trees.answer(program), (HEADING + another_table(*lines) + THREE, "", 1))
+    with trees_of(changed, names, {"all": f"{lines[0]}\n"}) as trees:
+        intended = f"\n## Intended\n\n    {lines[0]}\n"
+        results.expect("one of them is intended", trees.answer(program), (HEADING + another_table(*lines[1:]) + intended + THREE, "", 1))
+    with trees_of(changed, names, {"all": "".join(f"  {it}\r\n" for it in lines)}) as trees:
+        intended = "\n## Intended\n\n" + "".join(f"    {it}\n" for it in lines)
+        results.expect("all of them are intended", trees.answer(program), (HEADING + INTENDED + intended + THREE, "", 0))
+    with Trees(OLD, RENAMED, {"all": "fi_FI.UTF-8: fi_FI.UTF-8/Compose, now none\n"}) as trees:
+        intended = "\n## Intended\n\n    fi_FI.UTF-8: fi_FI.UTF-8/Compose, now none\n"
+        results.expect("a table is dropped, as intended", trees.answer(program), (HEADING + INTENDED + intended + TWO, "", 0))
+    with Trees(OLD, OLD, {}) as trees:
+        trees.write("old tree/compose.dir", TABLES_OF)
+        results.expect("one tree has no compose.dir", trees.answer(program), (HEADING + UNCHANGED + THREE, "", 0))
+
+
+# A table of a source tree: a comment of C, empty lines that the preprocessor would leave out, and marks of comments.
+SOURCE = """/* a comment
+   of two lines */
+XCOMM a comment
+{blanks}include "X11_LOCALEDATADIR/en_US.UTF-8/Compose"
+ XCOMM another
+<Multi_key> <c> : "{text}"
+"""
+
+
+def check_sources(program, results):
+    """Source trees are made into tables first, and the places are those of Compose.pre."""
+    old = {"en_US.UTF-8": 'XCOMM English\n<Multi_key> <a> : "x"\n', "fi_FI.UTF-8": SOURCE.format(blanks="\n" * 20, text="c")}
+    new = {**old, "fi_FI.UTF-8": SOURCE.format(blanks="\n" * 22, text="C")}
+    line = '    changed: <Multi_key> <c> "c" "C" old/fi_FI.UTF-8/Compose.pre:26 new/fi_FI.UTF-8/Compose.pre:28\n'
+    wanted = f"{HEADING}\n## fi_FI.UTF-8\n\n{line}{TWO}"
+    for folder in ("", "nls/"):
+        with Trees({}, {}, {}) as trees:
+            for tree, tables in {"old tree": old, "new tree": new}.items():
+                for locale, text in tables.items():
+                    trees.write(f"{tree}/{folder}{locale}/Compose.pre", text)
+                trees.write(f"{tree}/{folder}compose.dir.pre", "XCOMM tables\nen_US.UTF-8/Compose: en_US.UTF-8\n")
+            results.expect(f"source trees, in {folder or 'the folder itself'}", trees.answer(program), (wanted, "", 1))
+            results.expect("what is left in a source tree", os.path.exists(os.path.join(trees.room, "old tree", folder, "fi_FI.UTF-8", "Compose")), False)
+            printed, said, status = trees.compare(program, preprocessor="no preprocessor")
+            refusal = f"ci.sh: no C preprocessor no preprocessor, which makes the tables of {trees.room}/old tree{'/' + folder[:-1] if folder else ''}; set RAWCPP\n"
+            results.expect("no preprocessor", (printed, said, status), ("", refusal, 2))
+            printed, said, status = trees.compare(program, preprocessor="false")
+            results.expect("a preprocessor that ends with a fault", (printed, said.startswith("ci.sh: false refuses "), status), ("", True, 2))
 
 
 def main():
     program, results = os.path.abspath(sys.argv[1]), Results()
-    for check in (check_reports, check_refused_tables, check_folders, check_program, check_output, check_lists):
+    checks = [check_reports, check_refused_tables, check_folders, check_program, check_output, check_lists, check_copied, check_counts, check_headings, check_tables_of_locales]
+    if shutil.which("cpp"):
+        checks.append(check_sources)
+    for check in checks:
         check(program, results)
     print(f"{results.passed} passed, {results.failed} failed")
     return 1 if results.failed else 0

@@ -3,26 +3,37 @@
 #
 #   ci.sh OLDDIR NEWDIR [OPTION..]
 #
-# OLDDIR and NEWDIR are folders such as /usr/share/X11/locale. Each LOCALE.UTF-8/Compose of OLDDIR is compared with that of NEWDIR by
-# `composecheck diff --overlap longest`, which gets the options too. Includes by %S, or by a path below /usr/share/X11/locale, lead into
-# the tree of the file that includes. What several locales have from a table that they include is shown once, below their names:
+# OLDDIR and NEWDIR are folders such as /usr/share/X11/locale, or source trees of libX11, whose tables the C preprocessor makes of
+# nls/*/Compose.pre. Each LOCALE.UTF-8/Compose of OLDDIR is compared with that of NEWDIR by `composecheck diff --overlap longest`, which gets
+# the options too. Includes by %S, or by a path below /usr/share/X11/locale, lead into the tree of the file that includes. What several
+# locales have from a table that they include is shown once, below their names:
 #
 #     # Changes of Compose tables
 #
-#     ## en_US.UTF-8, fi_FI.UTF-8
+#     ## Locales with another table
+#
+#         de_DE.UTF-8: en_US.UTF-8/Compose, now iso8859-1/Compose
+#
+#     ## en_US.UTF-8 and 12 that include it
 #
 #         changed: <dead_acute> <e> "é" "è" old/en_US.UTF-8/Compose:12 new/en_US.UTF-8/Compose:12
 #
-#     2 locales were compared.
+#     ## Counts
 #
-# COMPOSECHECK is the program; by default it is looked for on the path. ACCEPTED is a folder of intended changes: where it has a file
-# LOCALE.UTF-8, that locale's `diff` gets it by `--accept`.
+#     | Locale | kept | changed | ..
 #
-# The exit status is 0 if nothing changes for people, 1 if something does, and 2 if a table is refused, is missing in NEWDIR or reads a file
-# outside of its tree. It is 2 too, and there is no report, if a folder has no table, if ACCEPTED has a file of a locale that isn't compared,
-# or if the program isn't there or doesn't know an option.
+#     16 locales were compared.
+#
+# COMPOSECHECK is the program, and RAWCPP the C preprocessor; by default they are looked for on the path, as composecheck and cpp. ACCEPTED is a
+# folder of intended changes: lines of the report, in a file LOCALE.UTF-8 those of that locale, and in the file `all` those of any locales and
+# the lines of locales with another table. They are then shown below 'Intended'.
+#
+# The exit status is 0 if nothing changes for people, 1 if something does, and 2 if a table is refused or reads a file outside of its tree, if a
+# locale's table is missing in NEWDIR, or if a line of `all` matches nothing. It is 2 too, and there is no report, if a folder has no table, if ACCEPTED
+# has a file of a locale that isn't compared or a line of several sequences, or if a program isn't there or doesn't know an option.
 set -eu
 system=usr/share/X11/locale
+tab=$(printf '\t') return=$(printf '\r')
 
 # Ends with a word of why.
 refuse() {
@@ -43,9 +54,52 @@ is_compared() {
     esac
 }
 
+# Says whether a folder has tables in UTF-8, as files of this name.
+has_tables() {
+    for table in "$1"/*.UTF-8/"$2"; do
+        if is_there "$table"; then return; fi
+    done
+    return 1
+}
+
 # Prints the first folder below this one that has tables, if there is one.
 folder_with_tables() {
-    find -H "$1" -xdev -path '*.UTF-8/Compose' 2> /dev/null | sort | sed -n '1s|/[^/]*/Compose$||p'
+    find -H "$1" -xdev '(' -path '*.UTF-8/Compose' -o -path '*.UTF-8/Compose.pre' ')' 2> /dev/null | sort | sed -n '1s|/[^/]*/Compose[^/]*$||p'
+}
+
+# Makes a file of a source tree as libX11's cpprules.in does, but for empty lines: these stay, and those that the preprocessor counts and leaves out
+# come back, so that each line keeps its number.
+preprocess() {
+    "$preprocessor" -undef -traditional -DWCHAR32=1 < "$1" > "$room/preprocessed" 2> "$room/said" || {
+        cat "$room/said" >&2
+        refuse "$preprocessor refuses $1"
+    }
+    awk '
+        BEGIN { is_of_source = 1 }
+        /^# *[0-9]+ / || /^#line +[0-9]+ / {
+            is_of_source = /"<stdin>"/
+            while (is_of_source && lines + 1 < $2) { print ""; lines++ }
+            next
+        }
+        is_of_source { print; lines++ }
+    ' "$room/preprocessed" |
+        sed -e "/^[$tab ]*XCOMM\$/s/XCOMM/#/" -e "/^[$tab ]*XCOMM[^a-zA-Z0-9_]/s/XCOMM/#/" -e "/^[$tab ]*XHASH/s/XHASH/#/" \
+            -e "s,X11_LOCALEDATADIR,/$system,g" -e 's/@@$/\\/' > "$2"
+}
+
+# Makes all files of a source tree in the room.
+preprocess_tree() {
+    preprocessor=${RAWCPP:-cpp}
+    command -v "$preprocessor" > /dev/null || refuse "no C preprocessor $preprocessor, which makes the tables of $2; set RAWCPP"
+    mkdir "$room/$1/$system"
+    for source in "$2"/*/Compose.pre "$2"/compose.dir.pre "$2"/locale.alias.pre; do
+        if [ -e "$source" ]; then
+            made=${source#"$2/"}
+            mkdir -p "$room/$1/$system/${made%/*}"
+            preprocess "$source" "$room/$1/$system/${made%.pre}"
+        fi
+    done
+    : > "$room/$1.is_source"
 }
 
 # Lays a tree into the room, so that its tables are below the path by which they name each other.
@@ -53,48 +107,110 @@ lay() {
     [ -d "$2" ] || refuse "no folder $2"
     whole_path=$(CDPATH='' cd -- "$2" && pwd) || refuse "can't open $2"
     mkdir -p "$room/$1/${system%/*}"
-    ln -s "$whole_path" "$room/$1/$system"
-    for table in "$room/$1/$system"/*.UTF-8/Compose; do
-        if is_there "$table"; then return; fi
+    for folder in "$whole_path" "$whole_path/nls"; do
+        if has_tables "$folder" Compose.pre; then
+            preprocess_tree "$1" "$folder"
+            return
+        fi
     done
-    below=$(folder_with_tables "$2")
-    refuse "no LOCALE.UTF-8/Compose in $2${below:+; try $below}"
+    if ! has_tables "$whole_path" Compose; then
+        below=$(folder_with_tables "$2")
+        refuse "no LOCALE.UTF-8/Compose in $2${below:+; try $below}"
+    fi
+    ln -s "$whole_path" "$room/$1/$system"
 }
 
-# Refuses a list of intended changes that would not be used.
-check_accepted() {
+# Copies the lists of intended changes into the room, without the blanks and carriage returns that a copied line may have. A list that would not
+# be used is refused, and so is a line of several sequences.
+take_accepted() {
     [ -d "$accepted" ] || refuse "no folder $accepted"
     for list in "$accepted"/*; do
         name=${list##*/}
-        if is_there "$list" && ! is_compared "$name"; then
-            refuse "$list is of no locale that is compared"
-        fi
+        if ! is_there "$list"; then continue; fi
+        if [ "$name" != all ] && ! is_compared "$name"; then refuse "$list is of no locale that is compared"; fi
+        sed -e "s/^[$tab ]*//" -e "s/$return\$//" "$list" > "$room/accepted/$name" || exit
+        folded=$(awk '/^[a-z ]*: <.*> \.\. [0-9]+ sequences / || /^[a-z ]*: all [0-9]+ sequences of / { print NR; exit }' "$room/accepted/$name")
+        if [ -n "$folded" ]; then refuse "$list:$folded: a line of several sequences; with --no-fold after the two folders each has its own"; fi
     done
 }
 
-# Prints a file, with `old` and `new` for the two trees.
-shorten() {
-    place=$(printf '%s\n' "$room" | sed 's/[][\.*^$|]/\\&/g')
-    sed "s|$place/old/$system|old|g; s|$place/new/$system|new|g; s|$place/||g" "$1"
+# Prints words as the pattern, or with `&` added to the marks as the text, of an `s` in sed that `|` delimits.
+quoted() {
+    printf '%s\n' "$1" | sed "s/[][\\.*^\$|$2]/\\\\&/g"
 }
 
-# Tells what is wrong with a locale, in the words of a file.
-tell() {
+# Prints a file, with `old` and `new` for the two trees, and the names that the files have in their folders.
+shorten() {
+    place=$(quoted "$room" '') lists=$(quoted "$accepted" '&')
+    set -- "$1" -e "s|$place/accepted|$lists|g"
+    for tree in old new; do
+        if [ -e "$room/$tree.is_source" ]; then set -- "$@" -e "s|$place/$tree/$system/\([^/]*\)/Compose|$tree/\1/Compose.pre|g"; fi
+        set -- "$@" -e "s|$place/$tree/$system|$tree|g"
+    done
+    file=$1
+    shift
+    sed "$@" -e "s|$place/||g" "$file"
+}
+
+# Prints what is wrong with a locale, in the words of a file.
+report_fault() {
     printf '\n**%s:**\n\n' "$1"
     sed 's|^|    |' "$2"
     worst=2
 }
 
-# Compares the tables of a locale, leaves the lines in told/LOCALE, and tells what is wrong.
-compare() {
+# Runs `diff` on the tables of a locale.
+diff_locale() {
     locale=$1
     shift
-    if [ -n "$accepted" ] && is_there "$accepted/$locale"; then
-        set -- --accept "$accepted/$locale" "$@"
+    "$composecheck" diff --overlap longest --root "$room/old" --root "$room/new" "$old/$locale/Compose" "$new/$locale/Compose" "$@"
+}
+
+# Prints the lines of the second file that the first one hasn't.
+without() {
+    awk 'FILENAME == ARGV[1] { others[$0]; next } !($0 in others)' "$1" "$2"
+}
+
+# Prints the lines of a file that a line of `all` matches: that line is the same, but may have places after it. Which lines of `all` matched is noted.
+accepted_by_all() {
+    awk -v noted="$room/noted" '
+        FILENAME == ARGV[1] { if (!/^(#|$)/) lines[FNR] = $0; next }
+        { for (n in lines) if (index(lines[n] " ", $0 " ") == 1) { found = 1; print n >> noted } if (found) print; found = 0 }
+    ' "$room/accepted/all" "$1"
+}
+
+# Makes the list of what is intended for a locale: its own, then what `all` has of it.
+make_list() {
+    list=$room/lists/$1
+    if [ -e "$room/accepted/$1" ]; then cat "$room/accepted/$1" > "$list"; fi
+    if [ -e "$room/accepted/all" ]; then
+        diff_locale "$@" --write-accept > "$room/whole" 2> /dev/null || :
+        accepted_by_all "$room/whole" >> "$list"
     fi
-    code=0
-    "$composecheck" diff --overlap longest --root "$room/old" --root "$room/new" "$old/$locale/Compose" "$new/$locale/Compose" "$@" \
-        > "$room/told/$locale" 2> "$room/said" || code=$?
+}
+
+# Leaves in intended/LOCALE what the list of a locale accepts, where `diff` took that list.
+note_intended() {
+    locale=$1 list=$2
+    shift 2
+    diff_locale "$locale" "$@" --write-accept > "$room/whole" 2> /dev/null || :
+    diff_locale "$locale" "$@" --write-accept --accept "$list" > "$room/rest" 2> /dev/null || :
+    without "$room/rest" "$room/whole" > "$room/intended/$locale"
+}
+
+# Compares the tables of a locale, leaves the lines in changes/LOCALE, and prints what is wrong.
+compare() {
+    locale=$1 code=0
+    make_list "$@"
+    shift
+    # (a name in the room that is shortened to that of the list, and that `diff` names in a fault of the list)
+    list=$room/accepted/$locale
+    if [ -s "$room/lists/$locale" ]; then
+        mv "$room/lists/$locale" "$list"
+        diff_locale "$locale" "$@" --accept "$list" > "$room/changes/$locale" 2> "$room/said" || code=$?
+    else
+        diff_locale "$locale" "$@" > "$room/changes/$locale" 2> "$room/said" || code=$?
+    fi
     case $code in
     0) ;;
     1) [ $worst = 2 ] || worst=1 ;;
@@ -102,26 +218,22 @@ compare() {
     *)
         if grep -q '^error: ' "$room/said"; then refuse "$(shorten "$room/said")"; fi
         [ -s "$room/said" ] || echo "composecheck ended with status $code" > "$room/said"
-        tell "$locale is refused" "$room/said"
-        rm "$room/told/$locale"
+        report_fault "$locale is refused" "$room/said"
+        rm "$room/changes/$locale"
         return
         ;;
     esac
-    if grep '^note: ' "$room/said" > "$room/notes"; then
-        tell "$locale reads files outside of its tree" "$room/notes"
+    if [ -e "$list" ]; then note_intended "$locale" "$list" "$@"; fi
+    if grep '^note: .* lies outside of ' "$room/said" > "$room/notes"; then
+        report_fault "$locale reads files outside of its tree" "$room/notes"
     fi
 }
 
-# Compares all locales.
+# Compares all locales that have a table in both trees.
 compare_trees() {
     for table in "$old"/*.UTF-8/Compose; do
         folder=${table%/Compose}
-        if is_compared "${folder##*/}"; then
-            compare "${folder##*/}" "$@"
-        elif is_there "$table"; then
-            printf '\n**%s is missing in the new tree.**\n' "${folder##*/}"
-            worst=2
-        fi
+        if is_compared "${folder##*/}"; then compare "${folder##*/}" "$@"; fi
     done
     for table in "$new"/*.UTF-8/Compose; do
         folder=${table%/Compose}
@@ -129,37 +241,198 @@ compare_trees() {
     done
 }
 
-# Prints each line once, below the locales that have it. The last line of each locale, which counts, is left out.
-print_changes() {
+# Prints for each locale of a tree its name, the name that locale.alias has for it, and its table, or `none`: the one of compose.dir, or else that of
+# the folder of its name.
+tables_of() (
+    cd "$1"
+    for table in */Compose; do
+        if is_there "$table"; then printf '%s\n' "$table"; fi
+    done > "$room/tables"
+    set -- "$room/tables"
+    if [ -e "$old/compose.dir" ] && [ -e "$new/compose.dir" ]; then
+        set -- "$@" compose.dir
+        if [ -e locale.alias ]; then set -- "$@" locale.alias; fi
+    fi
+    awk -v prefix="/$system/" '
+        FILENAME == ARGV[1] { is_there[$0]; if (sub(/\/Compose$/, "") && /\.UTF-8$/) names[$0]; next }
+        /^#/ || NF < 2 { next }
+        { sub(/:$/, "", $1) }
+        FILENAME == "locale.alias" { if (!($1 in alias)) alias[$1] = $2; names[$1]; next }
+        { if (index($1, prefix) == 1) $1 = substr($1, length(prefix) + 1) }
+        !($2 in table) { table[$2] = $1; names[$2] }
+        END {
+            for (name in names) {
+                meant = name in alias ? alias[name] : name
+                found = meant in table ? table[meant] : meant "/Compose"
+                print name, meant, (found in is_there) ? found : "none"
+            }
+        }' "$@" | LC_ALL=C sed 's/[^ -~]/?/g' | LC_ALL=C sort
+)
+
+# Prints a line for each locale that has a table in the old tree, and another or none in the new one. A name that leads to such a locale in both
+# trees, by locale.alias, has no line of its own.
+other_tables() {
+    tables_of "$old" > "$room/old.tables"
+    tables_of "$new" > "$room/new.tables"
     awk '
-        /^diff: / { next }
-        !($0 in locales) { lines[++count] = $0; locales[$0] = FILENAME; next }
-        { locales[$0] = locales[$0] ", " FILENAME }
+        FILENAME == ARGV[1] { meant[$1] = $2; found[$1] = $3; next }
+        { was[$1] = $3; names[++count] = $1; led[$1] = $2 }
         END {
             for (n = 1; n <= count; n++) {
-                heading = locales[lines[n]]
-                if (!(heading in below)) headings[++groups] = heading
-                below[heading] = below[heading] "    " lines[n] "\n"
+                name = names[n]; other = led[name]
+                now = name in found ? found[name] : "none"
+                if (was[name] == "none" || was[name] == now) continue
+                if (other == name || meant[name] != other || !(other in was)) print name ": " was[name] ", now " now
             }
-            for (n = 1; n <= groups; n++) printf "\n## %s\n\n%s", headings[n], below[headings[n]]
-            if (count == 0) print "\nNothing changes for people, and nothing is added."
-        }' "$@"
+        }' "$room/new.tables" "$room/old.tables"
 }
 
-# Prints the changes of all locales that were compared, and their number.
-print_compared() (
-    cd "$room/told"
-    set -- *
+# Prints the locales that have another table, and leaves those that are intended in intended_tables.
+print_other_tables() {
+    other_tables > "$room/whole"
+    : > "$room/intended_tables"
+    if [ -e "$room/accepted/all" ]; then accepted_by_all "$room/whole" > "$room/intended_tables"; fi
+    without "$room/intended_tables" "$room/whole" > "$room/other_tables"
+    if [ -s "$room/other_tables" ]; then
+        printf '\n## Locales with another table\n\n'
+        sed 's|^|    |' "$room/other_tables"
+        [ $worst = 2 ] || worst=1
+    fi
+    while read -r _ table _; do
+        if ! is_there "$new/${table%,}"; then worst=2; fi
+    done < "$room/other_tables"
+}
+
+# Prints what lines of `all` match nothing.
+check_all() {
+    awk 'FILENAME == ARGV[1] { noted[$0]; next } !/^(#|$)/ && !(FNR in noted) { print "line " FNR " matches no change: " $0 }' \
+        "$room/noted" "$room/accepted/all" > "$room/stale"
+    if [ -s "$room/stale" ]; then report_fault "$accepted/all is refused" "$room/stale"; fi
+}
+
+# Prints which locale includes the table of which other one: `LOCALE OTHER`.
+print_includes() {
+    for table in "$room/changes"/*; do
+        locale=${table##*/}
+        for tree in old new; do
+            "$composecheck" manifest --root "$room/$tree" "$room/$tree/$system/$locale/Compose" 2> /dev/null || :
+        done | sed -n "s|.*$tab.*/\([^/]*\)/Compose\$|\1|p" | sort -u | while read -r other; do
+            if [ "$other" != "$locale" ]; then printf '%s %s\n' "$locale" "$other"; fi
+        done
+    done
+}
+
+# Prints each line of the files ./LOCALE once, below the locales that have it, as headings of a level, and says whether there is one. The line that
+# counts is left out.
+print_lines() {
+    level=$1
+    shift
+    awk -v level="$level" '
+        FILENAME == ARGV[1] { includes[$1, $2]; including[$2]++; next }
+        /^diff: / { next }
+        { locale = substr(FILENAME, 3) }
+        !($0 in locales) { lines[++count] = $0; locales[$0] = locale; next }
+        { locales[$0] = locales[$0] ", " locale }
+        # Whether each other one of the locales includes the table of this one.
+        function is_included(locale, names, count,    n) {
+            for (n = 1; n <= count; n++) if (names[n] != locale && !((names[n], locale) in includes)) return 0
+            return 1
+        }
+        function heading(group,    names, count, n, m, locale, rest) {
+            count = split(group, names, ", ")
+            for (n = 1; n <= count && count > 3; n++) {
+                locale = names[n]
+                if (!is_included(locale, names, count)) continue
+                for (m = 1; m <= count; m++) if (m != n) rest = rest (rest ? ", " : "") names[m]
+                return locale " and " count - 1 (count - 1 < including[locale] ? " of the " including[locale] : "") " that include it\n\n" rest
+            }
+            return group
+        }
+        END {
+            for (n = 1; n <= count; n++) {
+                group = locales[lines[n]]
+                if (!(group in below)) groups[++number] = group
+                below[group] = below[group] "    " lines[n] "\n"
+            }
+            for (n = 1; n <= number; n++) printf "\n%s %s\n\n%s", level, heading(groups[n]), below[groups[n]]
+            exit number == 0
+        }' "$room/includes" "$@"
+}
+
+# Says whether anything is intended that was found.
+is_something_intended() {
+    cat "$room/intended_tables" "$room/intended"/* 2> /dev/null | grep -q .
+}
+
+# Prints the changes of all locales that were compared.
+print_changes() (
+    cd "$room/changes"
+    if print_lines '##' ./* || [ -s "$room/other_tables" ]; then return; fi
+    if is_something_intended; then
+        printf '\nNothing changes but what is intended.\n'
+    else
+        printf '\nNothing changes for people, and nothing is added.\n'
+    fi
+)
+
+# Prints what is intended, and was found.
+print_intended() (
+    cd "$room/intended"
+    if ! is_something_intended; then return; fi
+    printf '\n## Intended\n'
+    if [ -s "$room/intended_tables" ]; then
+        echo
+        sed 's|^|    |' "$room/intended_tables"
+    fi
+    set -- ./*
+    if [ -e "$1" ]; then print_lines '###' "$@" || :; fi
+)
+
+# Prints how many sequences of each locale have which word, as a table.
+print_counts() (
+    cd "$room/changes"
+    printf '\n## Counts\n\n'
+    awk '
+        /^diff: / {
+            locales[++number] = substr(FILENAME, 3)
+            count = split(substr($0, 7), parts, /[,;] /)
+            for (n = 1; n <= count; n++) {
+                match(parts[n], /^[0-9]+ /)
+                word = substr(parts[n], RLENGTH + 1)
+                if (word == "new start") word = "new starts"
+                if (!(word in sums)) words[++columns] = word
+                counts[number, word] = parts[n] + 0
+                sums[word] += parts[n]
+            }
+        }
+        END {
+            for (n = 1; n <= columns; n++) { head = head " | " words[n]; rule = rule "---:|"; all = all " | " sums[words[n]] }
+            print "| Locale" head " |\n|---|" rule
+            for (m = 1; m <= number; m++) {
+                row = "| " locales[m]
+                for (n = 1; n <= columns; n++) row = row " | " counts[m, words[n]] + 0
+                print row " |"
+            }
+            if (number > 1) print "| all" all " |"
+        }' ./*
+)
+
+# Prints all that was found of the locales that were compared, and their number.
+print_compared() {
+    set -- "$room/changes"/*
     if [ -e "$1" ]; then
-        print_changes "$@"
+        print_includes > "$room/includes"
+        print_changes
     else
         shift
     fi
+    print_intended
+    if [ $# != 0 ]; then print_counts; fi
     case $# in
     1) printf '\n1 locale was compared.\n' ;;
     *) printf '\n%s locales were compared.\n' $# ;;
     esac
-)
+}
 
 if [ $# -lt 2 ]; then
     echo "usage: ci.sh OLDDIR NEWDIR [OPTION..]" >&2
@@ -177,13 +450,17 @@ old=$room/old/$system new=$room/new/$system
 lay old "$1"
 lay new "$2"
 shift 2
-if [ -n "$accepted" ]; then check_accepted; fi
-mkdir "$room/told"
+mkdir "$room/changes" "$room/accepted" "$room/lists" "$room/intended"
+: > "$room/noted"
+: > "$room/includes"
+if [ -n "$accepted" ]; then take_accepted; fi
 # (%S is the folder that each tree has below the room)
 unset XLOCALEDIR
 {
     echo "# Changes of Compose tables"
     compare_trees "$@"
+    print_other_tables
+    if [ -e "$room/accepted/all" ]; then check_all; fi
     print_compared
 } > "$room/report"
 shorten "$room/report"
