@@ -1,5 +1,6 @@
 # make                proves and builds ./composecheck
 # make help           prints these lines
+# make quick          all tests that need no proof, on programs that are built without one: some minutes
 # make test           the gate: proves what has changed since earlier runs on this machine, and runs all tests but `make real`
 # make test-anew      the gate from nothing
 # make test-whole     the gate with each must-fail edit in a check of its own, as the kit's `rt ci` tries them: for a release
@@ -54,6 +55,10 @@ install-lib: $(LIBRARY)
 
 peers: $(LIBRARY)
 	python3 tests/peers.py
+
+quick:
+	$(NEEDS_KIT)
+	python3 tests/run.py --quick
 
 test:
 	$(NEEDS_KIT)
@@ -147,4 +152,4 @@ bench: composecheck compose_trials
 clean:
 	rm -rf composecheck compose_trials packages build crates/*/out
 
-.PHONY: all help lib install-lib install-ibus install-fcitx5 peers test test-anew test-whole install uninstall dist deb test-packages desk names real bench clean
+.PHONY: all help lib install-lib install-ibus install-fcitx5 peers quick test test-anew test-whole install uninstall dist deb test-packages desk names real bench clean

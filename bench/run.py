@@ -15,6 +15,7 @@ import time
 TOP = os.path.dirname(os.path.dirname(os.path.abspath(__file__)))
 sys.path.insert(0, os.path.join(TOP, "tests"))
 import key_streams
+import reference
 
 SHORT_NAMES = os.path.join(TOP, "share", "composecheck", "short-unicode-names.h")
 ENGLISH = "/usr/share/X11/locale/en_US.UTF-8/Compose"
@@ -79,7 +80,7 @@ def read(path):
 
 def prepare(folder):
     """The names, the manifests and the other program."""
-    write(folder, "names", read(key_streams.HEADER) + read(SHORT_NAMES))
+    write(folder, "names", read(reference.HEADER) + read(SHORT_NAMES))
     write(folder, "english", f"root\t{ENGLISH}\n")
     write(folder, "nothing", "root\tempty\n")
     write(folder, "empty", "")
@@ -102,7 +103,7 @@ def compare_compiling(trials, folder):
 
 def compare_typing(trials, folder):
     """Ten million keys."""
-    keys = key_streams.stream(key_streams.sequences(ENGLISH, key_streams.header_values()), KEYS, 1)
+    keys = key_streams.stream(reference.sequences(ENGLISH, reference.header_values()), KEYS, 1)
     key_streams.write(keys, os.path.join(folder, "keys"))
     times = least_figures({"ours": [trials, "bench", "type", "names", ENGLISH, "keys"], "theirs": ["./xkb", "type", ENGLISH, "keys"]}, folder, 5)
     ours, theirs = times["ours"], times["theirs"]
@@ -177,7 +178,7 @@ def measure_service(program, trials, folder):
     write(folder, "nobody", "")
     made = subprocess.run([program, "make", "--names", "names", "english", "english", "nobody"], cwd=folder, capture_output=True, text=True, check=True)
     write(folder, "itself", made.stdout)
-    keys = key_streams.stream(key_streams.sequences(ENGLISH, key_streams.header_values()), KEYS_IN_SESSIONS, 2)
+    keys = key_streams.stream(reference.sequences(ENGLISH, reference.header_values()), KEYS_IN_SESSIONS, 2)
     key_streams.write(keys, os.path.join(folder, "pressed"))
     service = ["names", ENGLISH, "itself"]
     compare_keys(trials, service, folder)

@@ -12,7 +12,7 @@ import tempfile
 import time
 
 import run
-import key_streams
+import reference
 
 sys.path.insert(0, os.path.join(run.TOP, "share", "composecheck"))
 from composecheck_client import Client
@@ -23,7 +23,7 @@ CHECK = ["check", "--names", "names", "table", "table", "repertoire", "certifica
 
 def prepare(program, folder):
     """The table of en_US.UTF-8 with its certificate, and both programs in C."""
-    run.write(folder, "names", run.read(key_streams.HEADER) + run.read(run.SHORT_NAMES))
+    run.write(folder, "names", run.read(reference.HEADER) + run.read(run.SHORT_NAMES))
     run.write(folder, "table", f"root\t{run.ENGLISH}\n")
     run.write(folder, "repertoire", "")
     made = subprocess.run([program, "make", "--names", "names", "table", "table", "repertoire"], cwd=folder, capture_output=True, text=True, check=True)

@@ -1,53 +1,13 @@
-"""Streams of keys on a real table, for `tests/real.py` and `bench/run.py`.
-
-The table's events are found by a regular expression, which is no reading of the table: it only picks keys to press."""
+"""Streams of keys on a real table, for `tests/real.py` and `bench/run.py`."""
 import array
 import itertools
-import os
 import random
-import re
 import sys
 
-HEADER = "/usr/include/X11/keysymdef.h"
 SHIFT = 0xFFE1
 DELETE = 0xFFFF
 # those that both programs ignore
 MODIFIERS = [*range(0xFFE1, 0xFFEF), *range(0xFE01, 0xFE10), 0xFF7E, 0xFF7F]
-DEFINITION = re.compile(r"#define XK_(\w+)\s+0x([0-9a-fA-F]+)")
-EVENTS = re.compile(r"\s*((?:<\w+>\s*)+):")
-INCLUDE = re.compile(r'\s*include\s+"([^"]*)"')
-
-
-def header_values(path=HEADER):
-    """The value of each name of the header."""
-    with open(path, encoding="utf-8") as file:
-        return {name: int(value, 16) for name, value in DEFINITION.findall(file.read())}
-
-
-def keysym(name, values):
-    """The keysym of a name or of a form `U00E9`, if it is one."""
-    if name in values:
-        return values[name]
-    if re.fullmatch(r"U[0-9A-Fa-f]{4,6}", name):
-        code = int(name[1:], 16)
-        return code if code in range(0x20, 0x7F) or code in range(0xA0, 0x100) else 0x1000000 + code
-    return None
-
-
-def sequences(path, values):
-    """The lists of keysyms that the lines of a table have, with those that it includes."""
-    found = []
-    with open(path, encoding="utf-8") as file:
-        for line in file:
-            included = INCLUDE.match(line)
-            if included and os.path.exists(included[1]):
-                found += sequences(included[1], values)
-            events = EVENTS.match(line)
-            if events:
-                keys = [keysym(name, values) for name in re.findall(r"<(\w+)>", events[1])]
-                if None not in keys:
-                    found.append(keys)
-    return found
 
 
 def first_keys(parts, count):

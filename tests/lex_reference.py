@@ -2,15 +2,9 @@
 """lex_reference.py PROGRAM: a plain second reading of the lines of a Compose file, compared with the program.
 
 Some thousand lines are built at random (from a fixed seed) out of tokens and near-tokens. Each is read here by the
-rules below, apart from the program, and the program has to agree: right lines stand together in one table, whose
+rules of reference.py, apart from the program, and the program has to agree: right lines are together in one table, whose
 sequences are typed and have to give the texts read here; each faulty line is the last of a table of its own, and has
 to be refused with the fault read here. Prints `lexer: N lines agree`, or each difference, with status 1.
-
-A line is blank, a comment, an include or a production, and blanks (space, tab, carriage return) may stand anywhere
-between its tokens. A comment runs from `#`, outside a string, to the end. An event is `<`, a name and `>`; a string
-stands between double quotes, and a backslash in it takes the next character along. A production is 1 to 32 events, a
-colon, and a string, a name, or both in this order; an include is the word and a string. The first place from the left
-where the expected token is missing is the fault.
 """
 
 import os
@@ -20,18 +14,14 @@ import subprocess
 import sys
 import tempfile
 
+from reference import Fault, quote, read_line, read_text
+
 SEED = 20231
 LINES = 6000
 FAULTY_RUNS = 500
 OWN_KEYS = [b"U%04X" % (0x4E00 + number) for number in range(LINES)]  # the first key of each right line
 FIRST_KEYS = frozenset(OWN_KEYS)
 INCLUDED_KEY = 0x3400  # that of each source that may be included, from here on
-
-BLANKS = re.compile(rb"[ \t\r]*")
-NAME = re.compile(rb"[A-Za-z0-9_]+")
-STRING = re.compile(rb'"((?:[^"\\]|\\.)*)"', re.DOTALL)
-MODIFIER = re.compile(rb"[!~A-Za-z]")
-ESCAPE = re.compile(rb'\\(?:([\\"nrt])|([0-7]{1,3})|[xX]([0-9A-Fa-f]{1,2}))')
 
 # names of the program that need no header, and the text of each
 NAMES = {
@@ -46,148 +36,6 @@ NAMES = {
     b"dead_acute": "",
 }
 INCLUDED = [b"one", b"%L", b"a b", b'a\\"b', "é/ñ".encode(), b"\\n", b"x\\\\"]
-
-
-class Fault(Exception):
-    """What is wrong with a line or a text, as it is printed."""
-
-
-# ---- a line
-
-
-class Line:
-    """The tokens of a line, taken from the left."""
-
-    def __init__(self, line):
-        self.line = line
-        self.at = 0
-
-    def skip_blanks(self):
-        self.at = BLANKS.match(self.line, self.at).end()
-
-    def here(self, *starts):
-        return any(self.line.startswith(start, self.at) for start in starts)
-
-    def is_over(self):
-        return self.at == len(self.line) or self.here(b"#")
-
-    def bad_token(self):
-        return Fault("1 BadToken at=%d" % self.at)
-
-    def no_event(self):
-        if MODIFIER.match(self.line, self.at):
-            return Fault("2 ModifierList at=%d" % self.at)
-        return self.bad_token()
-
-    def take(self, token):
-        self.skip_blanks()
-        if not self.here(token):
-            raise self.bad_token()
-        self.at += len(token)
-
-    def name(self):
-        self.skip_blanks()
-        found = NAME.match(self.line, self.at)
-        if not found:
-            raise self.bad_token()
-        self.at = found.end()
-        return found.group()
-
-    def string(self):
-        self.skip_blanks()
-        if not self.here(b'"'):
-            raise self.bad_token()
-        found = STRING.match(self.line, self.at)
-        if not found:
-            raise Fault("3 UnclosedString at=%d" % self.at)
-        self.at = found.end()
-        return found.group(1)
-
-    def end(self):
-        self.skip_blanks()
-        if not self.is_over():
-            raise self.bad_token()
-
-
-def read_line(text):
-    """None, the name of an include, or the events, the raw text and the name of the result."""
-    line = Line(text)
-    line.skip_blanks()
-    if line.is_over():
-        return None
-    word = NAME.match(text, line.at)
-    if word and word.group() == b"include":
-        line.at = word.end()
-        name = line.string()
-        line.end()
-        return name
-    events = []
-    while line.skip_blanks() or not (events and line.here(b":")):
-        if not line.here(b"<"):
-            raise line.bad_token() if line.is_over() else line.no_event()
-        if len(events) == 32:
-            raise Fault("7 TooManyKeysyms")
-        line.take(b"<")
-        events.append(line.name())
-        line.take(b">")
-    line.take(b":")
-    line.skip_blanks()
-    if line.is_over():
-        raise Fault("6 NoResult")
-    raw = line.string() if line.here(b'"') else None
-    line.skip_blanks()
-    name = line.name() if raw is None or NAME.match(text, line.at) else None
-    line.end()
-    return events, raw, name
-
-
-# ---- a text
-
-
-def read_text(raw):
-    """The text that the raw text of a string stands for."""
-    text = bytearray()
-    at = 0
-    while at < len(raw):
-        if raw[at] != ord("\\"):
-            text.append(raw[at])
-            at += 1
-            continue
-        found = ESCAPE.match(raw, at)
-        if not found:
-            kind = "5 BadCode" if raw[at + 1 : at + 2] in (b"x", b"X") else "4 UnknownEscape"
-            raise Fault("%s at=%d" % (kind, at))
-        letter, octal, hexadecimal = found.groups()
-        if letter:
-            code = ord({b"n": b"\n", b"r": b"\r", b"t": b"\t"}.get(letter, letter))
-        else:
-            code = int(octal, 8) if octal else int(hexadecimal, 16)
-            if not 0 < code < 256:
-                raise Fault("5 BadCode at=%d" % at)
-        text.append(code)
-        at = found.end()
-    if not text:
-        raise Fault("8 EmptyText")
-    if len(text) > 255:
-        raise Fault("9 TextTooLong")
-    try:
-        text.decode()
-    except UnicodeDecodeError:
-        raise Fault("10 TextNotUtf8") from None
-    return bytes(text)
-
-
-def quote(text):
-    """The text as the program prints it."""
-    quoted = bytearray(b'"')
-    for byte in text:
-        if byte in b'"\\':
-            quoted += b"\\" + bytes([byte])
-        elif byte < 0x20 or byte == 0x7F:
-            quoted += b"\\%03o" % byte
-        else:
-            quoted.append(byte)
-    return bytes(quoted + b'"')
 
 
 # ---- names

@@ -19,6 +19,7 @@ TOP = os.path.dirname(os.path.dirname(os.path.abspath(__file__)))
 sys.path[:0] = [f"{TOP}/tests", f"{TOP}/lib", f"{TOP}/share/composecheck"]
 import build_library
 import key_streams
+import reference
 
 SEED = 22
 LOCALES = "/usr/share/X11/locale"
@@ -220,7 +221,7 @@ def differences(mine, theirs, keys):
 def beside(results, folder, count, locales):
     """Types on the tables of these locales by the shim, beside libxkbcommon."""
     theirs, mine = compose_calls("libxkbcommon.so.0"), compose_calls(f"{folder}/lib/libcomposecheck-xkb.so")
-    values = key_streams.header_values(f"{TOP}/crates/builtin_names/src/lines.rt")
+    values = reference.header_values(f"{TOP}/crates/builtin_names/src/lines.rt")
     os.environ.update(HOME="/nonexistent", XDG_CONFIG_HOME="/nonexistent")
     for locale in locales:
         path = f"{LOCALES}/{locale}/Compose"
@@ -232,7 +233,7 @@ def beside(results, folder, count, locales):
         if not all(it.state for it in both):
             results.expect(not both[0].state and not both[1].state, f"{locale}: a table by one of the two alone")
         else:
-            keys = key_streams.sequences(path, values) or [[0x61]]
+            keys = reference.sequences(path, values) or [[0x61]]
             wrong = differences(*both, [*key_streams.stream(keys, count // 2, SEED), *key_streams.random_keys(keys, count // 2, SEED)])
             results.expect(wrong == 0, f"{locale}: {wrong} of {count} keys are answered in another way than by libxkbcommon")
         for it in both:

@@ -11,7 +11,7 @@ import tempfile
 from harness import Results
 
 TOP = os.path.dirname(os.path.dirname(os.path.abspath(__file__)))
-PROVING = ("all", "composecheck", "compose_trials", "test", "test-anew", "test-whole")
+PROVING = ("all", "composecheck", "compose_trials", "quick", "test", "test-anew", "test-whole")
 NO_KIT = re.compile(r'Makefile:\d+: \*\*\* this needs the Rattle kit: `rt` is not on the path; see "Install" in README\.md\.  Stop\.\n')
 
 

@@ -14,7 +14,8 @@ import tempfile
 import time
 
 import key_streams
-from key_streams import HEADER
+import reference
+from reference import HEADER, own_text
 
 TOP = os.path.dirname(os.path.dirname(os.path.abspath(__file__)))
 SHORT_NAMES = os.path.join(TOP, "share", "composecheck", "short-unicode-names.h")
@@ -100,17 +101,6 @@ def header_characters():
     return given
 
 
-def own_text(keysym, given):
-    """What a key types outside of all sequences."""
-    if keysym in range(0x20, 0x7F) or keysym in range(0xA0, 0x100):
-        return chr(keysym)
-    if keysym in range(0x1000100, 0x1110000):
-        return chr(keysym - 0x1000000)
-    if keysym in range(0xFFB0, 0xFFBA):
-        return chr(keysym - 0xFFB0 + 0x30)
-    return given.get(keysym, "")
-
-
 def is_modifier(keysym):
     """Whether a compose state passes over the key."""
     return keysym in range(0xFFE1, 0xFFEF) or keysym in range(0xFE01, 0xFE14) or keysym in (0xFF7E, 0xFF7F)
@@ -118,7 +108,7 @@ def is_modifier(keysym):
 
 def check_header(program, folder, results):
     """The header is accepted as it stands: all its names and one core name are keysyms, and each types its character."""
-    values = {"NoSymbol": 0, **key_streams.header_values()}
+    values = {"NoSymbol": 0, **reference.header_values()}
     given = header_characters()
     results.expect("names of keysymdef.h and the core", len(values) == 2105, len(values))
     results.expect("characters of keysymdef.h", len(given) == 1667, len(given))
@@ -171,13 +161,13 @@ def check_migrations(program, folder, results):
 
 def keysyms_of(names, values):
     """The keysyms of the names of keys, in any form."""
-    return tuple(int(name, 16) if name.startswith("0x") else key_streams.keysym(name, values) for name in names)
+    return tuple(int(name, 16) if name.startswith("0x") else reference.keysym(name, values) for name in names)
 
 
 def check_differences(program, folder, results):
     """What `diff` and `explain --all` tell of each pair agrees: each list of keys of the one begins a sequence that the other tells as lost,
     and each such sequence begins with such a list."""
-    values = key_streams.header_values() | key_streams.header_values(SHORT_NAMES)
+    values = reference.header_values() | reference.header_values(SHORT_NAMES)
     for old, new in itertools.permutations(locales(), 2):
         ran = run(program, folder, "diff", "--overlap", "longest", "--format", "json", tables(folder)[old], tables(folder)[new])
         told = [json.loads(line) for line in ran.stdout.splitlines()]
@@ -226,11 +216,11 @@ def check_typing(program, folder, results):
     """At each of many random keys libxkbcommon has our status, and our text where a sequence ends."""
     compiler = ["cc", "-O2", "-o", "xkb", os.path.join(TOP, "bench", "xkb.c"), "-lxkbcommon"]
     subprocess.run(compiler, cwd=folder, check=True)
-    values = key_streams.header_values()
+    values = reference.header_values()
     for name, path in tables(folder).items():
-        sequences = key_streams.sequences(path, values)
+        sequences = reference.sequences(path, values)
         if name == USER:
-            sequences += key_streams.sequences(ENGLISH, values)
+            sequences += reference.sequences(ENGLISH, values)
         keys = key_streams.random_keys(sequences, KEYS, name)
         agreed = 0
         for start in range(0, KEYS, KEYS_A_PROCESS):

@@ -14,6 +14,7 @@ import tempfile
 import time
 
 import key_streams
+import reference
 import real
 from service import Serving, composecheck_client
 
@@ -72,7 +73,7 @@ class Tables:
 
     def __init__(self, program):
         self.program, self.room = program, tempfile.TemporaryDirectory()
-        self.write("names", read(key_streams.HEADER) + read(real.SHORT_NAMES))
+        self.write("names", read(reference.HEADER) + read(real.SHORT_NAMES))
         self.write("repertoire", b"")
 
     def write(self, name, content):
@@ -187,7 +188,7 @@ def check_crowd(tables, library, chance, results):
     third = with_key(second, "F2")
     fourth = with_new_key(third)
     itself = tables.certificate(first, first)
-    parts = key_streams.random_parts(key_streams.sequences(real.ENGLISH, key_streams.header_values()), chance)
+    parts = key_streams.random_parts(reference.sequences(real.ENGLISH, reference.header_values()), chance)
     with tables.serve(first) as service, service.client() as client:
         crowd = Crowd(client, library, parts, results)
         crowd.type("before any load", chance)
@@ -213,7 +214,7 @@ def check_sequences(tables, library, chance, results):
     """As many sessions as there can be, each in the middle of another sequence of the table, when twenty more sequences are loaded."""
     first = read(real.ENGLISH)
     more = with_key(first, "F1")
-    every = [it for it in key_streams.sequences(real.ENGLISH, key_streams.header_values()) if len(it) > 1]
+    every = [it for it in reference.sequences(real.ENGLISH, reference.header_values()) if len(it) > 1]
     chosen = chance.sample(every, min(MOST_SESSIONS, len(every)))
     cuts = [chance.randrange(1, len(keysyms)) for keysyms in chosen]
     with tables.serve(first) as service, service.client() as client:
@@ -237,7 +238,7 @@ def check_sequences(tables, library, chance, results):
 
 
 def main():
-    for path, package in {key_streams.HEADER: "x11proto-dev", real.ENGLISH: "libx11-data"}.items():
+    for path, package in {reference.HEADER: "x11proto-dev", real.ENGLISH: "libx11-data"}.items():
         if not os.path.exists(path):
             print(f"{path} is missing: install it with `apt-get install {package}`")
             return 2

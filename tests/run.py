@@ -1,8 +1,8 @@
 #!/usr/bin/env python3
-"""run.py [--quick] [--program FILE] [--trials FILE] [NAME..]: runs scripts of tests/ by their names, side by side, or lists them all.
+"""run.py [--quick] [--program FILE] [--trials FILE] [NAME..]: runs scripts of tests/ by their names, a few side by side, or lists them all.
 
-FILE is the built program, ./composecheck if none is given, and ./compose_trials. With --quick it runs, without names, each script that needs no
-proved program, C library or package: what `make quick` runs on programs that were built without proofs. What a script prints is printed in one piece,
+They run FILE, a built program: ./composecheck, or for single calls ./compose_trials, unless others are given. With --quick (`make quick`) both are
+first built without a proof, in build/unproved, and each script runs that needs no more than that. What a script prints is printed in one piece,
 below its name. The last line is `N passed, M failed` over all."""
 import argparse
 import ast
@@ -16,9 +16,11 @@ from harness import TOP, follow
 
 # The head of a script: its name, what it takes, and what it does.
 HEAD = re.compile(r"(\w+)\.py((?: (?:PROGRAM|TRIALS|\[[^\]]*\]))*): (.*?)(?:[.:;](?:\s|$)|$)", re.S)
-# What needs more than an unproved program, or takes long: packages and what is installed hold the proved C library; libxkbcommon's test comes
-# over the network; `make real` has the rest.
-NOT_QUICK = {"edits_test", "installed", "library", "packages", "peers", "real", "real_service"}
+# What an unproved program won't do for: it has an allocator of its own, so that a library which refuses memory can't be preloaded; the C library is
+# built of a proved one; `make real` and `make peers` are no part of it; and the runner of edits needs the prover.
+NOT_QUICK = {"calls", "edits_test", "library", "peers", "real", "real_service", "refusals"}
+# The programs by what the heads of scripts call them.
+PROGRAMS = {"PROGRAM": "composecheck", "TRIALS": "compose_trials"}
 
 
 class Script:
@@ -43,23 +45,29 @@ def scripts():
     return found
 
 
-def run(chosen, programs):
-    """Runs scripts, a few side by side, prints what each prints, and returns their counts."""
-    passed = failed = 0
-    with concurrent.futures.ThreadPoolExecutor(os.cpu_count()) as pool:
-        runs = {pool.submit(follow, it.command(programs), is_quiet=True): it for it in chosen}
-        for ended in concurrent.futures.as_completed(runs):
-            lines, counts = ended.result()
-            print(f"== {runs[ended].name}\n{''.join(lines)}", end="", flush=True)
-            passed, failed = passed + counts[0], failed + counts[1]
-    return passed, failed
+def built(name):
+    """Builds a program without a proof, and returns its path, or None where that fails."""
+    path = os.path.join(TOP, "build", "unproved", name)
+    lines, (_, failed) = follow([sys.executable, os.path.join("tools", "unproved.py"), path, name], is_quiet=True)
+    print(f"== {name} is {'not ' * failed}built\n{''.join(lines)}", end="", flush=True)
+    return None if failed else path
+
+
+def run(script, programs):
+    """Runs a script once its programs are there, prints what it prints, and returns its counts."""
+    paths = {it: programs[it].result() for it in script.takes}
+    if None in paths.values():
+        return 0, 1
+    lines, counts = follow(script.command(paths), is_quiet=True)
+    print(f"== {script.name}\n{''.join(lines)}", end="", flush=True)
+    return counts
 
 
 def main():
     words = argparse.ArgumentParser(usage=__doc__.partition(": ")[0], description=__doc__.partition(": ")[2])
-    words.add_argument("--quick", action="store_true", help="those that need no proof")
-    words.add_argument("--program", default="composecheck", help="the program (./composecheck)")
-    words.add_argument("--trials", default="compose_trials", help="the program of single calls (./compose_trials)")
+    words.add_argument("--quick", action="store_true", help="those that need no proof, on programs that are built first")
+    words.add_argument("--program", default="composecheck", metavar="FILE", help="the program (./composecheck)")
+    words.add_argument("--trials", default="compose_trials", metavar="FILE", help="the program of single calls (./compose_trials)")
     words.add_argument("names", nargs="*", metavar="NAME")
     given, known = words.parse_args(), scripts()
     names = given.names or [it for it in known if given.quick and it not in NOT_QUICK]
@@ -68,7 +76,14 @@ def main():
         return 0
     if {*names} - {*known}:
         sys.exit(f"run.py: no script is called {' or '.join(sorted({*names} - {*known}))}")
-    passed, failed = run([known[it] for it in names], {"PROGRAM": os.path.abspath(given.program), "TRIALS": os.path.abspath(given.trials)})
+    # (those that wait for no program come first)
+    chosen = sorted((known[it] for it in names), key=lambda it: len(it.takes))
+    paths = {"PROGRAM": os.path.abspath(given.program), "TRIALS": os.path.abspath(given.trials)}
+    with concurrent.futures.ThreadPoolExecutor(max(os.cpu_count(), 3)) as pool:
+        wanted = {it for script in chosen for it in script.takes}
+        programs = {it: pool.submit(built, PROGRAMS[it]) if given.quick else pool.submit(lambda it=it: paths[it]) for it in wanted}
+        counts = [*pool.map(lambda it: run(it, programs), chosen)]
+    passed, failed = map(sum, zip(*counts))
     print(f"{passed} passed, {failed} failed")
     return 1 if failed else 0
 

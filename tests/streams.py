@@ -14,6 +14,8 @@ import tempfile
 import threading
 import time
 
+from reference import own_text
+
 SEED = 20
 MOST_CONNECTIONS = 65_535
 MOST_PAYLOAD = 8_388_608
@@ -31,16 +33,6 @@ def frame(kind, session, payload=b""):
 
 def refused(session, code):
     return frame(0xFF, session, struct.pack(">H", code))
-
-
-def own_text(keysym):
-    """What a key types by itself, where no header gives it a name: a character of Latin-1, a digit of the keypad, any character by its number."""
-    if 0x20 <= keysym <= 0x7E or 0xA0 <= keysym <= 0xFF:
-        return chr(keysym)
-    if 0xFFB0 <= keysym <= 0xFFB9:
-        return chr(keysym - 0xFFB0 + ord("0"))
-    code = keysym - 0x1000000
-    return chr(code) if 0x100 <= code <= 0x10FFFF and not 0xD800 <= code <= 0xDFFF else ""
 
 
 class Service:
