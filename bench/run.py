@@ -161,15 +161,15 @@ def compare_keys(trials, service, folder):
     """Keys through a service beside the same keys by a bare `feed`, with the first byte of each text read: the medians of some turns."""
     turns = {sessions: [] for sessions in (1, 100, MOST_SESSIONS)}
     for _ in range(KEY_TURNS):
-        for sessions, told in turns.items():
+        for sessions, rounds in turns.items():
             times = figures([trials, "bench", "keys", *service, "pressed", str(sessions)], folder)
-            told.append([times[name] / times["keys"] for name in ("feed", "key", "whole reply")])
-    for sessions, told in turns.items():
-        bare = statistics.median(feed for feed, _, _ in told)
+            rounds.append([times[name] / times["keys"] for name in ("feed", "key", "whole reply")])
+    for sessions, rounds in turns.items():
+        bare = statistics.median(feed for feed, _, _ in rounds)
         print(f"keys in {sessions} sessions: {bare:.1f} ns a key by a bare feed")
         for column, name in ((1, "its status and text read"), (2, "its reply handed out whole")):
-            ratios = sorted(row[column] / row[0] for row in told)
-            served = statistics.median(row[column] for row in told)
+            ratios = sorted(row[column] / row[0] for row in rounds)
+            served = statistics.median(row[column] for row in rounds)
             print(f"  through a service, {name}: {served:.1f} ns; ratio {statistics.median(ratios):.2f} ({ratios[0]:.2f} to {ratios[-1]:.2f})")
 
 

@@ -47,7 +47,7 @@ PROGRAMS = ("bin/composecheck", "/ci.sh", "/ibus-engine-composecheck", "/ibus-se
 
 
 class Package(NamedTuple):
-    """What a Debian package is called, and what is told of it."""
+    """What a Debian package is called, and its description."""
 
     name: str
     section: str

@@ -4,10 +4,10 @@
 The program does a call between two marks. A library that is preloaded (tests/refuse.c) refuses the first growth between them, in the
 next run the second one, and so on until a run meets no refusal. With no refusal the answer is the call's own. With one it is the call's
 own, or the outermost NoMemory and what has to follow it: after a request that was refused, out of memory, each Ask is answered as
-before, the request that is made again is answered, and so are the requests behind it; `add`, `feed` and `next_request` are tried again
+before, the request that is made again is answered, and so are the requests after it; `add`, `feed` and `next_request` are tried again
 and go on. Each answer that is listed has to come. In every run all memory is given back, and no other descriptor is open at the end.
 
-At the end come calls that are wrong on purpose, each of which has to be told. The last line is `N passed, M failed`.
+At the end come calls that are wrong on purpose, each of which has to be printed. The last line is `N passed, M failed`.
 
 Where each public call that takes memory is called with ample memory, and its answer compared:
 
@@ -51,7 +51,7 @@ import service
 from service import ACUTE, DROPPED, E, GRAVE, ITSELF, NEW, NOTHING_FOLLOWS, OLD, frame, key, load, loaded
 
 MOST_REFUSALS = 10_000
-# Standard input, output and error, and the file to which the library tells what it counted.
+# Standard input, output and error, and the file to which the library writes what it counted.
 DESCRIPTORS = 4
 
 
@@ -59,7 +59,7 @@ DESCRIPTORS = 4
 class Call:
     """A call by the words of the program, the files that it reads, its own answer, and the answers that a refusal may lead to.
 
-    In `complaint` is how a call that is wrong on purpose is told."""
+    In `complaint` is what is printed of a call that is wrong on purpose."""
     name: str
     words: str
     files: dict
@@ -134,24 +134,24 @@ def requested(name, before, tried, after, own, refused, words="answer one"):
     return Call(name, words, files, said(*own), [said(*it) for it in refused])
 
 
-# Behind so many other sessions and session 7 an Open takes memory.
+# After this many other sessions and session 7 an Open takes memory.
 GROWS_BEHIND = (8, 17, 35)
 OTHERS = [range(100, 100 + count) for count in GROWS_BEHIND]
 
 
 def opened(others):
-    """An Open behind other sessions, made again, and then a key."""
+    """An Open after other sessions, made again, and then a key."""
     before = [frame(1, it) for it in others] + [OPEN_7, key(7, GRAVE)]
     after = [ASK_7, ASK_9, OPEN_9, ASK_9, key(9, 0x61), key(7, ACUTE)]
     first = [frame(0x81, it) for it in others] + [OPENED_7, service.fed(7, 1)]
     rest = [REST(9, 0), service.fed(9, 0, b"a"), service.fed(7, 1)]
     own = [*first, OPENED_9, REST(7, 1, GRAVE), REST(9, 0), REFUSED(9, 1), *rest]
     refused = [*first, REFUSED(9, 9), REST(7, 1, GRAVE), REFUSED(9, 2), OPENED_9, *rest]
-    return requested(f"Open, behind {len(others) + 1} sessions", before, OPEN_9, after, own, [refused])
+    return requested(f"Open, after {len(others) + 1} sessions", before, OPEN_9, after, own, [refused])
 
 
 def loading(name, sent, answer, again, state_7, behind):
-    """A Load in the middle of a sequence, made again, and the keys behind it. `again` is the answer where the first one was accepted."""
+    """A Load in the middle of a sequence, made again, and the keys after it. `again` is the answer where the first one was accepted."""
     before, first = [OPEN_7, key(7, GRAVE), OPEN_9], [OPENED_7, service.fed(7, 1), OPENED_9]
     after = [ASK_7, ASK_9, sent, ASK_7, ASK_9, key(7, ACUTE), key(7, E)]
     rest = [state_7, REST(9, 0), *behind]
@@ -214,7 +214,7 @@ ALL_PRINTED = printed(7, "Open") + printed(7, f"Key({GRAVE})") + "3\n"
 STREAMS = [
     Call("Feeder::next_request", "stream next", STREAM, f"{LOAD_PRINTED}{printed(7, 'Open')}0\n",
          [f"4 NoMemory\n{len(STREAM['before'])}\n{LOAD_PRINTED}{printed(7, 'Open')}0\n"]),
-    Call("Feeder::feed, behind a part of a frame", "stream feed", TAKEN_IN, ALL_PRINTED, [f"4 NoMemory\n5\n{ALL_PRINTED}"]),
+    Call("Feeder::feed, after a part of a frame", "stream feed", TAKEN_IN, ALL_PRINTED, [f"4 NoMemory\n5\n{ALL_PRINTED}"]),
     Call("Feeder::feed, the first piece", "stream feed", {"before": b"", "tried": OPEN_7 + key(7, GRAVE) + ASK_7[:3]}, ALL_PRINTED,
          [f"4 NoMemory\n0\n{ALL_PRINTED}"]),
 ]
@@ -294,8 +294,8 @@ def main():
         for call, found in zip(calls, pool.map(lambda call: refuse_each(program, library, call), calls)):
             if not is_as_expected(call, found):
                 failed += 1
-                told = f"not told by {call.complaint!r}: " if call.complaint else ""
-                print(f"FAILED {call.name}: {told}" + "\n    ".join(found[:5]))
+                found_as = f"not printed as {call.complaint!r}: " if call.complaint else ""
+                print(f"FAILED {call.name}: {found_as}" + "\n    ".join(found[:5]))
     print(f"{len(calls) - failed} passed, {failed} failed")
     return 1 if failed else 0
 

@@ -29,7 +29,7 @@ WHOLE = 4_096
 SECONDS_OF_ENDLESS = 60
 SERVED = {"header": b"", "repertoire": b"", "old": service.OLD, "certificate": service.ITSELF}
 EMPTY = SERVED | {"old": b"", "certificate": streams.CERTIFICATE}
-# So many replies have room in a socket.
+# How many replies have room in a socket.
 MOST_SENT = 100
 
 

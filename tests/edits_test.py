@@ -1,5 +1,5 @@
 #!/usr/bin/env python3
-"""edits_test.py: the runner of must-fail edits (tools/edits.py) against a small crate, whose edits are good, useless or bad, and against a prover that only says what it is told to;
+"""edits_test.py: the runner of must-fail edits (tools/edits.py) against a small crate, whose edits are good, useless or bad, and against a prover that only prints what it is given;
 and the gate's own store of what passed (tools/store.py), in a folder of its own.
 
 It prints a line for each test and last 'N passed, M failed'."""

@@ -45,7 +45,7 @@ def check_exchange(service, results):
         results.expect("no request", client.exchange([]), [])
         got = client.exchange([Request.key(7, E)] * 20_000, within=60)
         results.expect("more requests than are sent before replies are read", (len(got), {*got}), (20_000, {Fed("nothing", True, "e")}))
-        results.expect("a call behind them", client.ask(7), State("nothing", ()))
+        results.expect("a call after them", client.ask(7), State("nothing", ()))
 
 
 def answers_slowly(listener, reply, pause):
@@ -300,7 +300,7 @@ def check_keys(service, results):
         keys.press(ACUTE)
         service.end()
         results.expect("a sequence whose service has gone", (keys.press(E), keys.shown), (Answer(True, "´e"), ""))
-        results.expect("a key behind it", keys.press(E), Answer(False))
+        results.expect("a key after it", keys.press(E), Answer(False))
         results.expect("a dead key without a service is the toolkit's", keys.press(ACUTE), Answer(False))
     results.expect("each dead key has an accent", sorted(ACCENTS), [*range(0xFE50, 0xFE70), *range(0xFE80, 0xFE8E), *range(0xFE90, 0xFE94)])
 

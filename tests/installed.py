@@ -120,8 +120,8 @@ def check_packages(program, folder, results):
         return
     place = check_package(path, version, folder, results)
     with open(os.path.join(place, "share", "fcitx5", "addon", "composecheck.conf"), encoding="utf-8") as file:
-        told = file.read()
-    results.expect("fcitx5 loads the addon without being asked", (f"Version={version}\n" in told, "OnDemand=False\n" in told), (True, True))
+        text = file.read()
+    results.expect("fcitx5 loads the addon without being asked", (f"Version={version}\n" in text, "OnDemand=False\n" in text), (True, True))
     results.expect("the addon's library", [it for it in files_below(place) if it.endswith("/fcitx5/composecheck.so")] != [], True)
 
 

@@ -11,7 +11,7 @@ MODIFIERS = [*range(0xFFE1, 0xFFEF), *range(0xFE01, 0xFE10), 0xFF7E, 0xFF7F]
 
 
 def first_keys(parts, count):
-    """So many keys from the beginning of endless parts."""
+    """The first keys of endless parts, this many."""
     return array.array("I", itertools.islice(itertools.chain.from_iterable(parts), count))
 
 

@@ -193,7 +193,7 @@ def check_right(tables, right):
 
 
 def check_faulty(tables, rng, line, fault):
-    """The difference of one faulty line, behind a few comments."""
+    """The difference of one faulty line, after a few comments."""
     before = [b"# %d" % number for number in range(rng.randrange(3))]
     wanted = b"refused: table: 1 Read: " + (fault % (len(before) + 1)).encode() + b"\n"
     status, out, err = tables.type(before + [line], ["b"])
@@ -203,7 +203,7 @@ def check_faulty(tables, rng, line, fault):
 
 
 def spread(faulty, count):
-    """So many of the faulty lines, each kind of fault as evenly as may be."""
+    """This many of the faulty lines, each kind of fault as evenly as may be."""
     kinds = {}
     for line, fault in faulty:
         kinds.setdefault(re.sub(r"(at|index)=\d+", "", fault), []).append((line, fault))

@@ -1,5 +1,5 @@
 #!/usr/bin/env python3
-"""limits.py PROGRAM: tables, repertoires and certificates at their greatest counts, and with one more. Such an input is told by its fault, and
+"""limits.py PROGRAM: tables, repertoires and certificates at their greatest counts, and with one more. Such an input is refused with its fault, and
 never as being out of memory. The last line is `N passed, M failed`.
 
 Repertoires and certificates are checked with an empty table, so that a repertoire of keys alone is checked to `yes` by the certificate of that
@@ -16,27 +16,27 @@ EMPTY = f"{HEAD}typings 0\n"
 
 
 def typing(keys):
-    """A certificate with one typing of so many keysyms."""
+    """A certificate with one typing of this many keysyms."""
     return f"{HEAD}typings 1\nU+0061{' 61' * keys}\n"
 
 
 def keys(count):
-    """So many key lines, of one keysym each."""
+    """This many key lines, of one keysym each."""
     return "".join(f"keys 0x{it:x} 0x{it:x}\n" for it in range(0x1000, 0x1000 + count))
 
 
 def characters(count):
-    """So many character lines, the surrogates left out."""
+    """This many character lines, the surrogates left out."""
     return "".join(f"U+{it:04X}\n" for it in [*range(0xD800), *range(0xE000, 0x12000)][:count])
 
 
 def including(depth):
-    """A chain of so many includes, of a source each."""
+    """A chain of this many includes, of a source each."""
     return {f"s{it}": f'include "s{it + 1}"\n' for it in range(depth)} | {f"s{depth}": ""}
 
 
 def sequences(count):
-    """So many sequences of 32 keysyms that share none of their nodes but the root: each has 31 nodes of its own, and a leaf."""
+    """This many sequences of 32 keysyms that share none of their nodes but the root: each has 31 nodes of its own, and a leaf."""
     return {"s0": "".join(f"<0x{it:x}>{'<a>' * 31}:\"x\"\n" for it in range(0x100_0100, 0x100_0100 + count))}
 
 

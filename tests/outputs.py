@@ -38,7 +38,7 @@ def run(program, folder, *words):
 def run_without_room(program, folder, *words):
     """The same where no file may grow: a write to one fails, as on a disk without room, and one that is opened anew is empty."""
     limit = lambda: resource.setrlimit(resource.RLIMIT_FSIZE, (0, resource.getrlimit(resource.RLIMIT_FSIZE)[1]))
-    # (the signal that tells of the limit is ignored here, and stays so)
+    # (the signal of the limit is ignored here, and stays so)
     ran = subprocess.run([program, *words], cwd=folder, stdout=subprocess.PIPE, stderr=subprocess.STDOUT, text=True, timeout=60, preexec_fn=limit, restore_signals=False)
     return ran.stdout, ran.returncode
 
@@ -107,7 +107,7 @@ def trials(program, folder):
     yield "a pipe that nobody reads ends it quietly", (ran.stderr, ran.returncode), ("", 2)
     with open("/dev/full", "w", encoding="utf-8") as full:
         ran = subprocess.run([program, "type", "table.manifest", "a", "b"], cwd=folder, stdout=full, stderr=subprocess.PIPE, text=True, timeout=60)
-    yield "a disk without room is told", (ran.stderr, ran.returncode), ("refused: output\n", 2)
+    yield "a disk without room is reported", (ran.stderr, ran.returncode), ("refused: output\n", 2)
 
 
 def main():

@@ -165,24 +165,24 @@ def keysyms_of(names, values):
 
 
 def check_differences(program, folder, results):
-    """What `diff` and `explain --all` tell of each pair agrees: each list of keys of the one begins a sequence that the other tells as lost,
+    """What `diff` and `explain --all` print of each pair agrees: each list of keys of the one begins a sequence that the other lists as lost,
     and each such sequence begins with such a list."""
     values = reference.header_values() | reference.header_values(SHORT_NAMES)
     for old, new in itertools.permutations(locales(), 2):
         ran = run(program, folder, "diff", "--overlap", "longest", "--format", "json", tables(folder)[old], tables(folder)[new])
-        told = [json.loads(line) for line in ran.stdout.splitlines()]
-        lost = {keysyms_of(row["keys"], values) for row in told if row["change"] not in ("kept", "added")}
+        rows = [json.loads(line) for line in ran.stdout.splitlines()]
+        lost = {keysyms_of(row["keys"], values) for row in rows if row["change"] not in ("kept", "added")}
         every = run(program, folder, "explain", "--all", "--names", "names", f"{old}.longest", f"{new}.longest").stdout
         lists = {keysyms_of(names.split(), values) for names in re.findall(r"^keys (.*)$", every, re.M)}
         begins = {keys[:count] for keys in lost for count in range(1, len(keys) + 1)}
         explained = all(any(keys[:count] in lists for count in range(1, len(keys) + 1)) for keys in lost)
-        results.expect(f"diff of {old} to {new} ends by what it tells", ran.returncode == (1 if lost else 0) and told, ran.stderr)
+        results.expect(f"diff of {old} to {new} ends by what it prints", ran.returncode == (1 if lost else 0) and rows, ran.stderr)
         results.expect(f"diff and explain of {old} to {new}", lists <= begins and explained, (len(lists - begins), len(lost)))
     check_known_differences(program, folder, results)
 
 
 def check_known_differences(program, folder, results):
-    """Four sequences of the English table are changed or removed in the Finnish one, each told with both places; and all those that begin
+    """Four sequences of the English table are changed or removed in the Finnish one, each printed with both places; and all those that begin
     with Multi_key and parenleft are counted where they are taken away."""
     ran = run(program, folder, "diff", "--no-fold", ENGLISH, os.path.join(LOCALES, "fi_FI.UTF-8", "Compose"))
     lines = [line for line in ran.stdout.splitlines() if line.startswith(("changed: ", "removed: "))]

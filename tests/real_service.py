@@ -165,10 +165,10 @@ def check_refusal(crowd, certificate):
     """The Greek table types other texts: no load of it is accepted, and every session stays where it is."""
     before = crowd.asked()
     try:
-        told = crowd.client.load([("root", read(GREEK))], certificate)
+        answer = crowd.client.load([("root", read(GREEK))], certificate)
     except composecheck_client.VerdictNo:
-        told = "refused"
-    crowd.results.expect("the Greek table is refused", told == "refused", told)
+        answer = "refused"
+    crowd.results.expect("the Greek table is refused", answer == "refused", answer)
     after = crowd.asked()
     crowd.results.expect("each session stays as it was", after == before, [pair for pair in zip(before, after) if pair[0] != pair[1]][:3])
 

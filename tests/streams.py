@@ -184,7 +184,7 @@ def check_all(path, chance, count):
 
 
 def serve(program, chance, count):
-    """Starts the program for so many connections, and how many of them go wrong."""
+    """Starts the program for this many connections, and how many of them go wrong."""
     with tempfile.TemporaryDirectory() as folder:
         files = {"table": b"r\tempty\n", "empty": b"", "repertoire": b"", "certificate": CERTIFICATE}
         for name, content in files.items():

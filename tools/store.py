@@ -77,10 +77,10 @@ class Store:
         self.kit = self.sum_of_kit()
 
     def sum_of_kit(self):
-        """Returns the sum of the kit: its name, each of its files by size and time, and what the environment tells its prover."""
+        """Returns the sum of the kit: its name, each of its files by size and time, and what the environment has for its prover."""
         files = [(it, *self.size_and_time(f"{self.rt.KIT}/{it}")) for it in files_below(self.rt.KIT)]
-        told = sorted(it for it in os.environ.items() if it[0].startswith("RATTLE_"))
-        return sum_of(FORM, read(f"{self.rt.KIT}/KIT-ID"), files, told)
+        settings = sorted(it for it in os.environ.items() if it[0].startswith("RATTLE_"))
+        return sum_of(FORM, read(f"{self.rt.KIT}/KIT-ID"), files, settings)
 
     @staticmethod
     def size_and_time(path):
