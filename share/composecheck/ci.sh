@@ -70,8 +70,8 @@ folder_with_tables() {
 # Makes a file of a source tree as libX11's cpprules.in does, but for empty lines: these stay, and those that the preprocessor counts and leaves out
 # come back, so that each line keeps its number.
 preprocess() {
-    "$preprocessor" -undef -traditional -DWCHAR32=1 < "$1" > "$room/preprocessed" 2> "$room/said" || {
-        cat "$room/said" >&2
+    "$preprocessor" -undef -traditional -DWCHAR32=1 < "$1" > "$room/preprocessed" 2> "$room/errors" || {
+        cat "$room/errors" >&2
         refuse "$preprocessor refuses $1"
     }
     awk '
@@ -139,7 +139,7 @@ quoted() {
     printf '%s\n' "$1" | sed "s/[][\\.*^\$|$2]/\\\\&/g"
 }
 
-# Prints a file, with `old` and `new` for the two trees, and the names that the files have in their folders.
+# Prints a file, with `old` and `new` for the two trees, and each list of intended changes by its path.
 shorten() {
     place=$(quoted "$room" '') lists=$(quoted "$accepted" '&')
     set -- "$1" -e "s|$place/accepted|$lists|g"
@@ -207,24 +207,24 @@ compare() {
     list=$room/accepted/$locale
     if [ -s "$room/lists/$locale" ]; then
         mv "$room/lists/$locale" "$list"
-        diff_locale "$locale" "$@" --accept "$list" > "$room/changes/$locale" 2> "$room/said" || code=$?
+        diff_locale "$locale" "$@" --accept "$list" > "$room/changes/$locale" 2> "$room/errors" || code=$?
     else
-        diff_locale "$locale" "$@" > "$room/changes/$locale" 2> "$room/said" || code=$?
+        diff_locale "$locale" "$@" > "$room/changes/$locale" 2> "$room/errors" || code=$?
     fi
     case $code in
     0) ;;
     1) [ $worst = 2 ] || worst=1 ;;
     126 | 127) refuse "can't run $composecheck" ;;
     *)
-        if grep -q '^error: ' "$room/said"; then refuse "$(shorten "$room/said")"; fi
-        [ -s "$room/said" ] || echo "composecheck ended with status $code" > "$room/said"
-        report_fault "$locale is refused" "$room/said"
+        if grep -q '^error: ' "$room/errors"; then refuse "$(shorten "$room/errors")"; fi
+        [ -s "$room/errors" ] || echo "composecheck ended with status $code" > "$room/errors"
+        report_fault "$locale is refused" "$room/errors"
         rm "$room/changes/$locale"
         return
         ;;
     esac
     if [ -e "$list" ]; then note_intended "$locale" "$list" "$@"; fi
-    if grep '^note: .* lies outside of ' "$room/said" > "$room/notes"; then
+    if grep '^note: .* lies outside of ' "$room/errors" > "$room/notes"; then
         report_fault "$locale reads files outside of its tree" "$room/notes"
     fi
 }
