@@ -345,8 +345,7 @@ def main():
         checks.append(check_sources)
     for check in checks:
         check(program, results)
-    print(f"{results.passed} passed, {results.failed} failed")
-    return 1 if results.failed else 0
+    return results.end()
 
 
 if __name__ == "__main__":

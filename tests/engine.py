@@ -364,8 +364,7 @@ def main():
         for check in (check_exchange, check_document, check_deadline, check_session, check_loads, check_lost_connections, check_silence, check_full, check_others, check_log,
                       check_journal, check_keys, check_patience, check_fcitx5):
             check(service, results)
-    print(f"{results.passed} passed, {results.failed} failed")
-    return 1 if results.failed else 0
+    return results.end()
 
 
 if __name__ == "__main__":

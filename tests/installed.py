@@ -182,8 +182,7 @@ def main():
             continue
         with tempfile.TemporaryDirectory(prefix="installed-") as folder:
             check(program, folder, results)
-    print(f"{results.passed} passed, {results.failed} failed")
-    return 1 if results.failed else 0
+    return results.end()
 
 
 if __name__ == "__main__":

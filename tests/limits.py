@@ -9,6 +9,8 @@ import subprocess
 import sys
 import tempfile
 
+from harness import write
+
 MOST_LINES = 65_536
 MOST_COUNT = 1_048_576
 HEAD = "compose-certificate 1\nbound 0\npairs 1\n0 0\n"
@@ -67,13 +69,6 @@ CHECKS = [
 ]
 
 
-def put(folder, files):
-    """Writes these files into a folder."""
-    for name, text in files.items():
-        with open(os.path.join(folder, name), "w", encoding="utf-8") as file:
-            file.write(text)
-
-
 def trials():
     """Gives each trial: its name, its files, the command, what it is to print, and its status."""
     for what, sources, key, wanted, status in TABLES:
@@ -90,7 +85,7 @@ def main():
     program, passed, failed = os.path.abspath(sys.argv[1]), 0, 0
     with tempfile.TemporaryDirectory(prefix="limits-") as folder:
         for what, files, words, wanted, status in trials():
-            put(folder, files)
+            write(folder, files)
             ran = subprocess.run([program, *words], cwd=folder, stdout=subprocess.PIPE, stderr=subprocess.STDOUT, text=True, timeout=60)
             if (ran.stdout, ran.returncode) == (wanted, status):
                 passed += 1

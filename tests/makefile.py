@@ -80,8 +80,7 @@ def main():
     results = Results()
     for check in (check_without_kit, check_build, check_help):
         check(results)
-    print(f"{results.passed} passed, {results.failed} failed")
-    return 1 if results.failed else 0
+    return results.end()
 
 
 if __name__ == "__main__":

@@ -12,6 +12,7 @@ import tempfile
 import threading
 
 import cases
+from harness import write
 
 TABLE = '<Multi_key> <a> <b> : "x"\n<Multi_key> <c> : "y"\n'
 CHANGED = '<Multi_key> <a> <b> : "z"\n'
@@ -53,11 +54,6 @@ COMMANDS = [
     ("load no.socket table.manifest certificate", ["table.manifest", "certificate"]),
     ("session --names names no.socket 1 nothing_of_the_kind", ["names"]),
 ]
-
-
-def write(folder, name, text):
-    with open(os.path.join(folder, name), "w", encoding="utf-8") as file:
-        file.write(text)
 
 
 class Fifos:
@@ -144,9 +140,9 @@ def differences(program):
     found, count = [], 0
     with tempfile.TemporaryDirectory() as folder:
         for name, text in FILES.items():
-            write(folder, name, text)
+            write(folder, {name: text})
         made = answer(program, folder, "make table.manifest table.manifest repertoire".split(), stdin=subprocess.DEVNULL)
-        write(folder, "certificate", made[0])
+        write(folder, {"certificate": made[0]})
         for command, names in COMMANDS:
             words = command.split()
             wanted = answer(program, folder, words, stdin=subprocess.DEVNULL)

@@ -8,17 +8,14 @@ import sys
 import tempfile
 import tty
 
+from harness import write
+
 TABLE = '<a> <b> : "x"\n'
 MORE = TABLE + '<a> <c> : "y"\n'
 OTHER = '<a> <b> : "z"\n'
 CHANGED = OTHER + '<a> <c> : "y"\n'
 REPERTOIRE = "keys 0x61 0x62\nU+0078\n"
 CERTIFICATE = "compose-certificate 1\nbound 1\npairs 2\n0 0\n1 1\ntypings 1\nU+0078 61 62\n"
-
-
-def write(folder, name, text):
-    with open(os.path.join(folder, name), "w", encoding="utf-8") as file:
-        file.write(text)
 
 
 def read(folder, name):
@@ -84,7 +81,7 @@ def trials(program, folder):
     make = ("make", "-o", "certificate", "table.manifest")
     yield "a certificate is written", (*run(program, folder, *make, "more.manifest", "repertoire"), read(folder, "certificate")), ("", 0, CERTIFICATE)
     yield "nothing else is left", sorted(it for it in os.listdir(folder) if it.startswith("certificate")), ["certificate"]
-    write(folder, "certificate", "kept\n")
+    write(folder, {"certificate": "kept\n"})
     said, status = run(program, folder, *make, "other.manifest", "repertoire")
     yield "where there is none, the difference is printed and the file stays", (said.splitlines()[:1], status, read(folder, "certificate")), (["keys a b"], 1, "kept\n")
     yield "where input is refused, the file stays", (*run(program, folder, *make, "none", "repertoire"), read(folder, "certificate")), ("refused: file: none\n", 2, "kept\n")
@@ -92,7 +89,7 @@ def trials(program, folder):
         "refused: file: certificate\n", 2, "kept\n")
     yield "and nothing else is left", sorted(it for it in os.listdir(folder) if it.startswith("certificate")), ["certificate"]
     os.link(os.path.join(folder, "certificate"), os.path.join(folder, "old"))
-    write(folder, "certificate.part", "of a run that was ended\n" * 99)
+    write(folder, {"certificate.part": "of a run that was ended\n" * 99})
     yield "a file is replaced", (*run(program, folder, *make, "more.manifest", "repertoire"), read(folder, "certificate")), ("", 0, CERTIFICATE)
     yield "and not written over", (read(folder, "old"), read(folder, "certificate.part")), ("kept\n", None)
     there = ("make", "-o", "no/certificate", "table.manifest", "more.manifest", "repertoire")
@@ -114,9 +111,9 @@ def main():
     program, passed, failed = os.path.abspath(sys.argv[1]), 0, 0
     with tempfile.TemporaryDirectory(prefix="outputs-") as folder:
         for name, text in (("table", TABLE), ("more", MORE), ("other", OTHER), ("changed", CHANGED)):
-            write(folder, f"{name}.compose", text)
-            write(folder, f"{name}.manifest", f"root\t{name}.compose\n")
-        write(folder, "repertoire", REPERTOIRE)
+            write(folder, {f"{name}.compose": text})
+            write(folder, {f"{name}.manifest": f"root\t{name}.compose\n"})
+        write(folder, {"repertoire": REPERTOIRE})
         for name, came, wanted in (*trials(program, folder), *colours(program, folder)):
             if came == wanted:
                 passed += 1

@@ -123,8 +123,7 @@ def main():
             check_deb(program, version, listed, folder, results)
         else:
             print("no dpkg-deb here: the Debian package is not made")
-    print(f"{results.passed} passed, {results.failed} failed")
-    return 1 if results.failed else 0
+    return results.end()
 
 
 if __name__ == "__main__":
