@@ -19,7 +19,7 @@ TOP = os.path.abspath(sys.argv[1]) if len(sys.argv) > 1 else os.path.dirname(os.
 MOST_README = 9216
 MANUALS = ["docs/composecheck.1", "docs/composecheck.5"]
 # Documents whose numbers with a thousands' comma are limits of the program.
-WITH_LIMITS = ["docs/FORMATS.md", "docs/PROTOCOL.md", *MANUALS]
+WITH_LIMITS = ["README.md", "docs/FORMATS.md", "docs/GUIDE.md", "docs/PROTOCOL.md", "docs/SERVICE.md", *MANUALS]
 # Options of other programs stand in commands that begin so.
 FOREIGN = re.compile(r"\b(?:rt|systemctl|dpkg-deb|taskset|valgrind|perf|python3|git|sed|cc) [^`\n]*")
 FILE = re.compile(r"(?<![\w./$~%-])(?:[\w-]+/)*[\w-]+\.(?:py|sh|md|rt|antt|txt|service|socket|case|edit|c|h)\b(?!\()")
@@ -197,7 +197,7 @@ def check_faults(results, texts, crates):
     kinds |= {f"{number} {name}" for name, number in re.findall(r"::(\w+) => (\d+),", crates.texts["compose_service"])}
     # (the client's errors, and the settings of the units)
     shared = "".join(read(f"share/composecheck/{it}") for it in ("composecheck_client.py", "composecheck.service"))
-    for document in ("README.md", "docs/GUIDE.md", "docs/SERVICE.md", *WITH_LIMITS):
+    for document in WITH_LIMITS:
         text = re.sub(r"^```.*?^```$", "", texts[document], flags=re.M | re.S)
         for words in quoted(text):
             for number, name in FAULT.findall(words):

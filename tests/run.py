@@ -19,6 +19,8 @@ HEAD = re.compile(r"(\w+)\.py((?: (?:PROGRAM|TRIALS|\[[^\]]*\]))*): (.*?)(?:[.:;
 # What an unproved program won't do for: it has an allocator of its own, so that a library which refuses memory can't be preloaded; the C library is
 # built of a proved one; `make real` and `make peers` are no part of it; and the runner of edits needs the prover.
 NOT_QUICK = {"calls", "edits_test", "library", "peers", "real", "real_service", "refusals"}
+# How many random ones a script tries with --quick, where that takes the longest.
+FEWER = {"diff": ["100"]}
 # The programs by what the heads of scripts call them.
 PROGRAMS = {"PROGRAM": "composecheck", "TRIALS": "compose_trials"}
 
@@ -30,8 +32,8 @@ class Script:
         self.name, self.does = name, " ".join(does.split())
         self.takes = [it for it in takes.split() if not it.startswith("[")]
 
-    def command(self, programs):
-        return [sys.executable, os.path.join("tests", f"{self.name}.py"), *(programs[it] for it in self.takes)]
+    def command(self, programs, words):
+        return [sys.executable, os.path.join("tests", f"{self.name}.py"), *(programs[it] for it in self.takes), *words]
 
 
 def scripts():
@@ -53,12 +55,12 @@ def built(name):
     return None if failed else path
 
 
-def run(script, programs):
-    """Runs a script once its programs are there, prints what it prints, and returns its counts."""
+def run(script, programs, words):
+    """Runs a script with words once its programs are there, prints what it prints, and returns its counts."""
     paths = {it: programs[it].result() for it in script.takes}
     if None in paths.values():
         return 0, 1
-    lines, counts = follow(script.command(paths), is_quiet=True)
+    lines, counts = follow(script.command(paths, words), is_quiet=True)
     print(f"== {script.name}\n{''.join(lines)}", end="", flush=True)
     return counts
 
@@ -82,7 +84,7 @@ def main():
     with concurrent.futures.ThreadPoolExecutor(max(os.cpu_count(), 3)) as pool:
         wanted = {it for script in chosen for it in script.takes}
         programs = {it: pool.submit(built, PROGRAMS[it]) if given.quick else pool.submit(lambda it=it: paths[it]) for it in wanted}
-        counts = [*pool.map(lambda it: run(it, programs), chosen)]
+        counts = [*pool.map(lambda it: run(it, programs, FEWER.get(it.name, []) if given.quick else []), chosen)]
     passed, failed = map(sum, zip(*counts))
     print(f"{passed} passed, {failed} failed")
     return 1 if failed else 0
