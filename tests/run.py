@@ -16,9 +16,9 @@ from harness import TOP, follow
 
 # The head of a script: its name, what it takes, and what it does.
 HEAD = re.compile(r"(\w+)\.py((?: (?:PROGRAM|TRIALS|\[[^\]]*\]))*): (.*?)(?:[.:;](?:\s|$)|$)", re.S)
-# What an unproved program won't do for: it has an allocator of its own, so that a library which refuses memory can't be preloaded; the C library is
-# built of a proved one; `make real` and `make peers` are no part of it; and the runner of edits needs the prover.
-NOT_QUICK = {"calls", "edits_test", "library", "peers", "real", "real_service", "refusals"}
+# What an unproved program won't do for: it has an allocator of its own, so that a library which refuses memory can't be preloaded, and is slow on
+# inputs at their limits; the C library is built of a proved one; the runner of edits needs the prover. The others are no part of the gate.
+NOT_QUICK = {"calls", "edits_test", "library", "limits", "peers", "real", "real_service", "refusals"}
 # How many random ones a script tries with --quick, where that takes the longest.
 FEWER = {"diff": ["100"]}
 # The programs by what the heads of scripts call them.
