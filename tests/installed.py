@@ -58,6 +58,8 @@ def check_install(program, folder, results):
     results.expect("the client is imported from the prefix", (got.stdout.startswith(f"{place}/lib/"), got.stderr), (True, ""))
     shared = os.path.join(place, "share", "composecheck")
     results.expect("the client is imported from its documented place", python(IMPORTED, shared).stdout, f"{shared}/composecheck_client.py\n")
+    snippets = [sorted(os.listdir(os.path.join(it, "ci"))) for it in (shared, os.path.join(TOP, "share", "composecheck"))]
+    results.expect("the snippets are installed", *snippets)
     check_component(place, place, version_of(program), results)
     check_units(place, results)
     made = tree.make("uninstall", f"PREFIX={place}", f"PYTHON={interpreter}")
