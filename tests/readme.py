@@ -36,7 +36,7 @@ def run(document, program):
     script = f"echo '{MARK}'\n".join(pasted for pasted, _ in blocks)
     with tempfile.TemporaryDirectory(prefix="readme-") as folder:
         prepare(folder, program)
-        ran = subprocess.run(["bash", "-e"], cwd=folder, input=script, stdout=subprocess.PIPE, stderr=subprocess.STDOUT, text=True, timeout=120)
+        ran = subprocess.run(["bash", "-e"], cwd=folder, input=script, stdout=subprocess.PIPE, stderr=subprocess.STDOUT, text=True, timeout=400)
     printed = ran.stdout.split(f"{MARK}\n")
     failed = 0
     for index, (pasted, wanted) in enumerate(blocks):

@@ -264,7 +264,7 @@ tables_of() (
             for (name in names) {
                 meant = name in alias ? alias[name] : name
                 found = meant in table ? table[meant] : meant "/Compose"
-                print name, meant, (found in is_there) ? found : "none"
+                print name, meant, (found in is_there ? found : "none")
             }
         }' "$@" | LC_ALL=C sed 's/[^ -~]/?/g' | LC_ALL=C sort
 )
