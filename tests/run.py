@@ -65,6 +65,13 @@ def run(script, programs, words):
     return counts
 
 
+def run_all(chosen, paths, is_quick):
+    """Runs scripts, on the programs at these paths, or quickly on programs that it builds, and returns their counts."""
+    with concurrent.futures.ThreadPoolExecutor(max(os.cpu_count(), 3)) as pool:
+        programs = {it: pool.submit(built, PROGRAMS[it]) if is_quick else pool.submit(lambda path=path: path) for it, path in paths.items()}
+        return [*pool.map(lambda it: run(it, programs, FEWER.get(it.name, []) if is_quick else []), chosen)]
+
+
 def main():
     words = argparse.ArgumentParser(usage=__doc__.partition(": ")[0], description=__doc__.partition(": ")[2])
     words.add_argument("--quick", action="store_true", help="those that need no proof, on programs that are built first")
@@ -80,11 +87,11 @@ def main():
         sys.exit(f"run.py: no script is called {' or '.join(sorted({*names} - {*known}))}")
     # (those that wait for no program come first)
     chosen = sorted((known[it] for it in names), key=lambda it: len(it.takes))
-    paths = {"PROGRAM": os.path.abspath(given.program), "TRIALS": os.path.abspath(given.trials)}
-    with concurrent.futures.ThreadPoolExecutor(max(os.cpu_count(), 3)) as pool:
-        wanted = {it for script in chosen for it in script.takes}
-        programs = {it: pool.submit(built, PROGRAMS[it]) if given.quick else pool.submit(lambda it=it: paths[it]) for it in wanted}
-        counts = [*pool.map(lambda it: run(it, programs, FEWER.get(it.name, []) if given.quick else []), chosen)]
+    paths = {it: os.path.abspath(path) for it, path in (("PROGRAM", given.program), ("TRIALS", given.trials)) if any(it in script.takes for script in chosen)}
+    for path in paths.values():
+        if not given.quick and not os.path.isfile(path):
+            sys.exit(f"run.py: there is no {path}: `make` builds the programs, tools/unproved.py unproved ones, and --program and --trials name others")
+    counts = run_all(chosen, paths, given.quick)
     passed, failed = map(sum, zip(*counts))
     print(f"{passed} passed, {failed} failed")
     return 1 if failed else 0
