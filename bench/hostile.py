@@ -4,12 +4,19 @@
 Each table, with its certificate where it has one, fits the greatest payload of a load, 8,388,608 bytes, so a client can send it to a
 service, which answers nobody else until it is done. A case that takes more than SECONDS (60 if none are given) is stopped.
 
+At the end it types on a service while clients send dear loads without a pause: how long a key waits, beside none, one and eight of them.
+
 With `write FOLDER` in place of PROGRAM the files of all cases are written there, each with its command in `command`."""
+import multiprocessing
 import os
 import resource
+import signal
+import socket
+import struct
 import subprocess
 import sys
 import tempfile
+import time
 
 MOST_BYTES = 8_388_608
 MOST_LINES = 1_000_000
@@ -140,6 +147,104 @@ CASES = [
 ]
 
 
+# ---- a burst of dear loads
+
+# So many clients load at the same time, and so many keys are timed.
+LOADERS, TIMED_KEYS = (0, 1, 8), 300
+
+
+def dear_sources():
+    """98,304 definitions of one sequence: seven levels of four includes each over six lines of 32 keysyms."""
+    names = [f"{level}" for level in range(7)]
+    sources = {name: f'include "{below}"\n' * 4 for name, below in zip(names, names[1:] + ["x"])}
+    return sources | {"x": ("<a>" * 32 + ':"x"\n') * 6}
+
+
+def frame(kind, session, payload=b""):
+    return struct.pack(">BII", kind, session, len(payload)) + payload
+
+
+def bundle(sources, certificate):
+    parts = [struct.pack(">H", len(sources))]
+    for name, text in sources.items():
+        parts.append(struct.pack(">H", len(name)) + name.encode() + struct.pack(">I", len(text)) + text.encode())
+    return b"".join(parts) + struct.pack(">I", len(certificate)) + certificate
+
+
+def read_reply(connection):
+    """The next reply, whole."""
+    got = b""
+    while len(got) < 9 or len(got) < 9 + struct.unpack(">I", got[5:9])[0]:
+        piece = connection.recv(4096)
+        if not piece:
+            raise EOFError
+        got += piece
+    return got
+
+
+def connected(path):
+    connection = socket.socket(socket.AF_UNIX, socket.SOCK_STREAM)
+    connection.connect(path)
+    return connection
+
+
+def load_on(path, load):
+    """Sends the load again and again."""
+    with connected(path) as connection:
+        while True:
+            connection.sendall(load)
+            read_reply(connection)
+
+
+def times_of_keys(path):
+    """How long each key takes to be answered, in order of length."""
+    times = []
+    with connected(path) as connection:
+        connection.sendall(frame(1, 7))
+        read_reply(connection)
+        for _ in range(TIMED_KEYS):
+            start = time.perf_counter()
+            connection.sendall(frame(2, 7, struct.pack(">I", 0x62)))
+            read_reply(connection)
+            times.append(time.perf_counter() - start)
+            time.sleep(0.005)
+    return sorted(times)
+
+
+def keys_beside(path, load, loaders):
+    """How long keys take while so many clients send the load."""
+    context = multiprocessing.get_context("fork")
+    processes = [context.Process(target=load_on, args=(path, load), daemon=True) for _ in range(loaders)]
+    for process in processes:
+        process.start()
+    time.sleep(0.5)
+    try:
+        return times_of_keys(path)
+    finally:
+        for process in processes:
+            os.kill(process.pid, signal.SIGKILL)
+            process.join()
+
+
+def type_beside_loads(program):
+    """Prints how long a key waits beside clients that send dear loads without a pause."""
+    with tempfile.TemporaryDirectory() as folder:
+        write(folder, table(**dear_sources()) | {"repertoire": b""})
+        made = subprocess.run([program, "make", "-o", "certificate", "table", "table", "repertoire"], cwd=folder, capture_output=True)
+        assert made.returncode == 0, made.stderr
+        with open(os.path.join(folder, "certificate"), "rb") as file:
+            load = frame(5, 0, bundle(dear_sources(), file.read()))
+        count = sum(LOADERS) + len(LOADERS)
+        words = [program, "serve", "--at-once", str(max(LOADERS) + 1), "table", "repertoire", "certificate", "socket", str(count)]
+        with subprocess.Popen(words, cwd=folder, stdout=subprocess.PIPE) as service:
+            assert service.stdout.readline() == b"listening\n"
+            for loaders in LOADERS:
+                times = keys_beside(os.path.join(folder, "socket"), load, loaders)
+                figures = [1000 * times[TIMED_KEYS // 2], 1000 * times[TIMED_KEYS * 99 // 100], 1000 * times[-1]]
+                print("a key beside {} clients that load {:,} bytes: {:.3f} ms at the median, {:.3f} at the 99th of 100, {:.3f} at most".format(loaders, len(load), *figures), flush=True)
+            service.kill()
+
+
 def write(folder, files):
     os.makedirs(folder, exist_ok=True)
     for name, content in files.items():
@@ -175,6 +280,7 @@ def main():
             seconds, printed = timed(program, folder, words, most)
         took = f"{seconds:8.2f} s" if seconds is not None else f" more than {most:.0f} s"
         print(f"{case.__name__:32} {size:9,} bytes {took}  {printed.decode(errors='replace').strip()}", flush=True)
+    type_beside_loads(program)
 
 
 if __name__ == "__main__":

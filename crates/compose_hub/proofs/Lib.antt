@@ -2,3 +2,5 @@ pub mod Turns
 pub mod Slots
 pub mod Serving
 pub mod Longest
+pub mod Rooms
+pub mod Rounding

@@ -4,7 +4,8 @@ use Rattle.std.proofs.lemmas.Bool.{ltb-true, ltb-false}
 use Rattle.std.specs.Prelude.{◌==◌, ◌⊎◌, Option, Some, None, nat_lt}
 use Rattle.compose_hub.specs.declared.client.Client.{Client}
 use Rattle.compose_hub.proofs.Slots.{same_or}
-use Rattle.compose_hub.specs.Rounds.{waits_since, longer, LongestTo}
+use Rattle.compose_hub.specs.Slots.{waits_since}
+use Rattle.compose_hub.specs.Rounds.{longer, LongestTo}
 
 last_or : (j i : ℕ) → j < i + 1 → (j < i) ⊎ (j ≡ i)
 last_or j i h = elim (same_or j i (j == i) refl) [ inl e ↦ inr e | inr ne ↦ inl (omega arith) ]

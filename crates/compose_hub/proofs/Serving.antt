@@ -16,15 +16,19 @@ use Rattle.compose_many.proofs.Happening.{filter-both}
 use Rattle.compose_many.proofs.OneOfMany.{turns_are_streamed, streamed_one_after_another}
 use Rattle.compose_hub.specs.Sockets.{AllStay, BytesStay, KeepsBytes}
 use Rattle.compose_hub.specs.Ends.{ToldEnd, told_more, HasEnded, times_told, max_held, TellsEnd}
-use Rattle.compose_hub.specs.Turns.{AreTurns}
-use Rattle.compose_hub.specs.Serving.{World, world, AreNumberedTo, ServesMany, EachIsTold, StandsAs, SlotGoesOn, SlotTurnsSo, AcceptsSo, AllAreStill, IsIn, HasNone, IsServed, ServedSoFar}
-use Rattle.compose_hub.specs.Rounds.{is_done, uses_room, patience, SlotGivesUp}
+use Rattle.compose_many.specs.Streams.{is_failed}
+use Rattle.compose_many.specs.declared.turn.Turn.{Turn}
+use Rattle.compose_many.specs.declared.turn.Turn.TheVariants.{GoesOn, Loaded, Waits, NeedsRoom, Ends}
+use Rattle.compose_hub.specs.Turns.{AreTurns, LeavesSo}
+use Rattle.compose_hub.specs.Serving.{World, world, AreNumberedTo, ServesMany, EachIsTold, StandsAs, GoesOnOrEnds, SlotFollows, ClosesSo, SlotGoesOn, SlotTurnsSo, AcceptsSo, AllAreStill, IsIn, HasNone, IsServed, ServedSoFar}
+use Rattle.compose_hub.specs.Rounds.{is_done, SlotGivesUp}
+use Rattle.compose_hub.specs.Slots.{uses_room, patience}
 use Rattle.compose_hub.specs.declared.client.Client.{Client}
 use Rattle.compose_hub.specs.declared.client.Limits.{Limits}
 use Rattle.compose_many.specs.Ends.{EndsSo}
 use Rattle.compose_hub.specs.declared.ends.ConnectionEnd.{ConnectionEnd}
 use Rattle.compose_hub.specs.declared.ends.ConnectionEnd.TheVariants.{Served, Stalled}
-use Rattle.compose_hub.proofs.Turns.{closed}
+use Rattle.compose_hub.proofs.Turns.{closed, are_closed}
 use Rattle.compose_hub.proofs.Slots.{IsAt, at_slot, in_slot, same_or, still_at_first, still_back, still_forth, all_free}
 
 -- ---- lists
@@ -316,11 +320,50 @@ keeps number streams streams' h c = elim (same_or c number (c == number) refl) [
   | inr ne ↦ (ap (λ (t : StreamState). t.left) (h.others c ne), ap (λ (t : StreamState). t.written) (h.others c ne))
 ]
 
--- turns of the connection in a slot, if it was ready
+stays_keep : (number : ℕ) (streams streams' : ℕ → StreamState) → AllStay streams streams' → KeepsBytes number streams streams'
+stays_keep number streams streams' h = record { left = ap (λ (t : StreamState). t.left) (h number); written = ap (λ (t : StreamState). t.written) (h number); others = λ c ne. h c }
+
+keeps_of : (turn : Turn) (number : ℕ) (streams streams' : ℕ → StreamState) → ClosesSo turn number streams streams' → KeepsBytes number streams streams'
+keeps_of GoesOn number streams streams' h = stays_keep number streams streams' h
+keeps_of Loaded number streams streams' h = stays_keep number streams streams' h
+keeps_of Waits number streams streams' h = stays_keep number streams streams' h
+keeps_of NeedsRoom number streams streams' h = stays_keep number streams streams' h
+keeps_of (Ends how) number streams streams' h = h
+
+goes_on_as : (c : Client) (after state : ConnectionState) (stream : StreamState) (now : Option Client) (ended : Option (ℕ × ConnectionEnd)) → state ≡ after → ended ≡ None → StandsAs c.number state now
+    → GoesOnOrEnds c after stream now ended
+goes_on_as c after state stream now ended same none stands =
+    subst (λ (e : Option (ℕ × ConnectionEnd)). GoesOnOrEnds c after stream now e) (sym none)
+    (subst (λ (s : ConnectionState). StandsAs c.number s now) same stands)
+
+-- a slot behind turns goes on with its connection as they left it, or its connection ended
+slot_follows : (turn : Turn) (c : Client) (after state : ConnectionState) (stream stream' : StreamState) (now : Option Client) (ended : Option (ℕ × ConnectionEnd)) → stream'.left ≡ stream.left
+    → LeavesSo turn after state stream → SlotFollows turn c state now ended → GoesOnOrEnds c after stream' now ended
+slot_follows GoesOn c after state stream stream' now ended same leaves h = goes_on_as c after state stream' now ended leaves h.0 h.1
+slot_follows Loaded c after state stream stream' now ended same leaves h = goes_on_as c after state stream' now ended leaves h.0 h.1
+slot_follows Waits c after state stream stream' now ended same leaves h = goes_on_as c after state stream' now ended leaves h.0 h.1
+slot_follows NeedsRoom c after state stream stream' now ended same leaves h = goes_on_as c after state stream' now ended leaves h.0 h.1
+slot_follows (Ends how) c after state stream stream' now ended same leaves h =
+    subst (λ (e : Option (ℕ × ConnectionEnd)). GoesOnOrEnds c after stream' now e) (sym h.1)
+    (h.0, refl, has_ended_on (Served how) stream stream' after same (is_failed stream.read_mark, is_failed stream.write_mark, leaves))
+
+-- turns of the connection in a slot, if its turn was next
 pub slot_turns : (unsent : ℕ) (reading : Reading) (old new : ServiceState) (streams streams' : ℕ → StreamState) (before now : Option Client) (ended : Option (ℕ × ConnectionEnd))
     → SlotTurnsSo unsent reading old new streams streams' before now ended → SlotGoesOn unsent reading old new streams streams' before now ended
 slot_turns unsent reading old new streams streams' before now ended (inl p) = inl (p.0, p.1, p.2, p.3)
-slot_turns unsent reading old new streams streams' before now ended (inr p) = inr (p.0, p.1, p.3, p.4, p.5, p.6)
+slot_turns unsent reading old new streams streams' before now ended (inr p) =
+    let c = p.0 in
+    let between = p.5 in
+    let t = p.6 in
+    let kept = keeps_of p.3 c.number between streams' p.7 in
+    inr (
+      c,
+      p.1,
+      t.0,
+      t.1,
+      are_closed unsent reading old new c.number streams between streams' c.connection t.1 t.0 t.2 kept,
+      slot_follows p.3 c t.1 p.4 (between c.number) (streams' c.number) now ended kept.left t.5 p.8,
+    )
 
 -- the end of the connection in a slot, if it was stalled
 pub slot_gives_up : (unsent time : ℕ) (reading : Reading) (state : ServiceState) (streams streams' : ℕ → StreamState) (before now : Option Client) (ended : Option (ℕ × ConnectionEnd))

@@ -1,5 +1,5 @@
 -- Turns of a connection, one after another.
-use Rattle.std.proofs.Common.{◌≡◌, ℕ, ◌+◌, ◌*◌, ◌<◌, ◌≤◌, List, [], ◌++◌, length, max, refl, sym, ◌∙◌, ap, subst, length-append, zero-add, arith}
+use Rattle.std.proofs.Common.{◌≡◌, ◌≢◌, ℕ, ◌+◌, ◌*◌, ◌<◌, ◌≤◌, List, [], ◌∷◌, ◌++◌, length, max, refl, sym, ◌∙◌, ap, subst, length-append, append-nil, zero-add, inl, inr, arith}
 use Rattle.std.specs.Prelude.{Option}
 use Rattle.std.proofs.KnownBytes.{Consumes-nil, Appends-nil}
 use Rattle.std.specs.Io.KnownBytes.{Consumes, Appends}
@@ -7,11 +7,19 @@ use Rattle.compose_machine.specs.Machine.{ServiceState, Reading}
 use Rattle.compose_many.specs.Connection.{ConnectionState, Event, piece_of, received, loads, max_piece}
 use Rattle.compose_many.specs.Numbered.{StreamState}
 use Rattle.compose_many.specs.declared.turn.Turn.{Turn}
-use Rattle.compose_many.specs.declared.turn.Turn.TheVariants.{GoesOn}
+use Rattle.compose_many.specs.declared.turn.Turn.TheVariants.{GoesOn, Loaded, Waits, NeedsRoom, Ends}
 use Rattle.compose_many.proofs.Happening.{flat-both, loads-both}
 use Rattle.compose_many.proofs.Turning.{turn_then}
+use Rattle.compose_many.specs.Connection.{AllHappen}
+use Rattle.compose_many.specs.Turns.{Moves}
+use Rattle.compose_hub.specs.Slots.{KeepsShare}
+use Rattle.compose_hub.specs.declared.client.Client.{Client}
 use Rattle.compose_hub.specs.Sockets.{KeepsBytes}
-use Rattle.compose_hub.specs.Turns.{AreTurns, TurnsSo}
+use Rattle.compose_hub.specs.Turns.{AreTurns, TurnsSo, WasHad}
+
+none_behind : (es fs : List Event) → es ++ fs ≡ [] → fs ≡ []
+none_behind [] fs none = none
+none_behind (e ∷ es) fs none = absurd (cc)
 
 -- so many turns after which the connection goes on, and in which no load was answered
 pub record WentOn (turns unsent : ℕ) (reading : Reading) (old new : ServiceState) (number : ℕ) (streams streams' : ℕ → StreamState) (before now : ConnectionState) : Type 0 where
@@ -19,6 +27,7 @@ pub record WentOn (turns unsent : ℕ) (reading : Reading) (old new : ServiceSta
   pub are : AreTurns unsent reading old new number streams streams' before now events
   pub few : length (received events) ≤ turns * max_piece
   pub no_load : loads events ≡ 0
+  pub some : 0 < turns → events ≢ []
 
 -- a stream that is closed, while nothing happens on its connection
 pub closed : (unsent : ℕ) (reading : Reading) (old : ServiceState) (number : ℕ) (streams streams' : ℕ → StreamState) (state : ConnectionState) → KeepsBytes number streams streams'
@@ -39,6 +48,7 @@ no_turn unsent reading old number streams before = record {
   are = closed unsent reading old number streams streams before (record { left = refl; written = refl; others = λ c ne. refl });
   few = omega arith;
   no_load = refl;
+  some = λ lt. absurd (omega arith);
 }
 
 -- turns, and then further ones, are turns
@@ -63,6 +73,13 @@ module _ (turns unsent : ℕ) (reading : Reading) (old mid new : ServiceState) (
   no_load_both : (fs : List Event) → loads (so_far.events ++ fs) ≡ loads fs
   no_load_both fs = loads-both so_far.events fs ∙ ap (λ n. n + loads fs) so_far.no_load ∙ zero-add (loads fs)
 
+  some_both : (turn : Turn) (fs : List Event) (after : ConnectionState) (stream : StreamState) → WasHad turn fs after stream → WasHad turn (so_far.events ++ fs) after stream
+  some_both GoesOn fs after stream h = λ none. h (none_behind so_far.events fs none)
+  some_both Loaded fs after stream h = λ none. h (none_behind so_far.events fs none)
+  some_both Waits fs after stream h = h
+  some_both NeedsRoom fs after stream h = h
+  some_both (Ends end) fs after stream h = h
+
   -- a last turn after turns on which the connection went on is turns of it altogether
   pub turns_then : (most : ℕ) (turn : Turn) → turns < most → TurnsSo 1 unsent reading turn mid new number streams' streams'' between now → TurnsSo most unsent reading turn old new number streams streams'' before now
   turns_then most turn lt t = (
@@ -72,6 +89,7 @@ module _ (turns unsent : ℕ) (reading : Reading) (old mid new : ServiceState) (
     (let few = few_both t.0 t.3 in omega arith),
     no_load_both t.0 ∙ t.4,
     t.5,
+    some_both turn t.0 t.1 (streams'' number) t.6,
   )
 
   -- and where it goes on after that one too, it went on
@@ -83,4 +101,31 @@ module _ (turns unsent : ℕ) (reading : Reading) (old mid new : ServiceState) (
         (subst (λ (s : ConnectionState). AreTurns unsent reading mid new number streams' streams'' between s t.0) (sym t.5) t.2);
     few = few_both t.0 t.3;
     no_load = no_load_both t.0 ∙ t.4;
+    some = λ lt. some_both GoesOn t.0 t.1 (streams'' number) t.6;
   }
+
+-- turns, and then their stream is closed
+pub are_closed : (unsent : ℕ) (reading : Reading) (old new : ServiceState) (number : ℕ) (streams between streams' : ℕ → StreamState) (before after : ConnectionState) (events : List Event)
+    → AreTurns unsent reading old new number streams between before after events → KeepsBytes number between streams' → AreTurns unsent reading old new number streams streams' before after events
+are_closed unsent reading old new number streams between streams' before after events t h =
+    subst (λ (es : List Event). AreTurns unsent reading old new number streams streams' before after es) (append-nil events)
+    (are_both unsent reading old new new number streams between streams' before after after events [] t (closed unsent reading new number between streams' after h))
+
+-- ---- a share
+
+-- a share is kept by a turn after turns that kept it
+pub share_then : (turn : Turn) (a b c : Client) → KeepsShare GoesOn a b → KeepsShare turn b c → KeepsShare turn a c
+share_then GoesOn a b c h k = (k.0 ∙ h.0, λ fair. k.1 (h.1 fair))
+share_then Loaded a b c h k = (k.0 ∙ h.0, λ fair. k.1 (h.1 fair))
+share_then Waits a b c h k = (k.0 ∙ h.0, λ fair. k.1 (h.1 fair))
+share_then NeedsRoom a b c h k = (k.0 ∙ h.0, λ fair. k.1 (h.1 fair))
+share_then (Ends end) a b c h k = k ∙ h.0
+
+-- ---- one turn
+
+-- where nothing happened nothing moved
+pub moved : (limit : ℕ) (before after : ConnectionState) (events : List Event) → AllHappen limit before events after → Moves before events after → events ≢ []
+moved limit before after [] happen (inl m) none = m refl
+moved limit before after [] happen (inr (inl m)) none = m refl
+moved limit before after [] happen (inr (inr m)) none = m (ap (λ (s : ConnectionState). s.unsent) happen)
+moved limit before after (e ∷ events) happen m none = absurd (cc)

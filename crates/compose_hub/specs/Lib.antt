@@ -1,5 +1,6 @@
 pub mod Sockets
 pub mod Ends
+pub mod Slots
 pub mod Turns
 pub mod Serving
 pub mod Rounds

@@ -1,18 +1,18 @@
 -- A round of the service: what it waits for, who has room, and who gives up.
-use Rattle.std.specs.Prelude.{◌≡◌, ℕ, ◌-◌, ◌<◌, ◌≤◌, Bool, true, false, ◌&&◌, ◌||◌, nat_le, nat_lt, if◌then◌else◌, List, length, get_or, Option, Some, None}
+use Rattle.std.specs.Prelude.{◌≡◌, ℕ, ◌==◌, ◌<◌, ◌≤◌, Bool, true, false, ◌&&◌, ◌||◌, nat_le, nat_lt, if◌then◌else◌, List, length, get_or, count_by, Option, Some, None}
 use Rattle.std.specs.List.{list_any, list_all}
 use Rattle.std.specs.Option.{is_none}
 use Rattle.compose_many.specs.Numbered.{StreamState}
 use Rattle.compose_hub.specs.Sockets.{AllStay, KeepsBytes}
-use Rattle.compose_hub.specs.Ends.{max_held}
+use Rattle.compose_hub.specs.Slots.{slot_has_turn, slot_waits_for_room, slot_has_room, slot_is_fair, waits_since, is_stalled, given_turn}
 use Rattle.compose_hub.specs.declared.client.Client.{Client}
 use Rattle.compose_hub.specs.declared.client.Limits.{Limits}
-use Rattle.compose_hub.specs.declared.client.WaitsFor.{WaitsFor}
-use Rattle.compose_hub.specs.declared.client.WaitsFor.TheVariants.{Turn, Stream, Room}
 use Rattle.compose_hub.specs.declared.server.Queue.{Queue}
 use Rattle.compose_hub.specs.declared.server.Queue.TheVariants.{Empty, Waits, Failed}
 use Rattle.compose_hub.specs.declared.ends.ConnectionEnd.{ConnectionEnd}
 use Rattle.compose_hub.specs.declared.ends.ConnectionEnd.TheVariants.{Stalled}
+use Rattle.compose_hub.specs.declared.sockets.Ready.{Ready}
+use Rattle.compose_hub.specs.declared.sockets.Ready.TheVariants.{Listener, Key}
 use Rattle.compose_hub.specs.declared.sockets.Accepted.{Accepted}
 use Rattle.compose_hub.specs.declared.sockets.Accepted.TheVariants.{Connection, NoneWaits, GivenUp, Fails}
 
@@ -29,60 +29,6 @@ queue_after Fails = Failed
 abbrev pub retried : Queue → Queue
 retried Failed = Waits
 retried queue = queue
-
--- ---- one client
-
-abbrev pub for_turn : WaitsFor → Bool
-for_turn Turn = true
-for_turn _ = false
-
-abbrev pub for_room : WaitsFor → Bool
-for_room Room = true
-for_room _ = false
-
--- a connection uses its room where it holds much of a load
-abbrev pub uses_room : Client → Bool
-uses_room c = c.has_room && nat_le max_held (length c.connection.held)
-
--- ten seconds, in microseconds
-abbrev pub patience : ℕ
-patience = 10000000
-
--- it uses its room, and nothing came for ten seconds
-abbrev pub is_stalled : ℕ → Client → Bool
-is_stalled time c = uses_room c && nat_le patience (time - c.since)
-
--- what it waits for once its stream is ready
-abbrev pub woken : WaitsFor → WaitsFor
-woken Stream = Turn
-woken other = other
-
--- ---- a slot
-
-abbrev pub slot_has_turn : Option Client → Bool
-slot_has_turn None = false
-slot_has_turn (Some c) = for_turn c.waits_for
-
-abbrev pub slot_waits_for_room : Option Client → Bool
-slot_waits_for_room None = false
-slot_waits_for_room (Some c) = for_room c.waits_for
-
-abbrev pub slot_uses_room : Option Client → Bool
-slot_uses_room None = false
-slot_uses_room (Some c) = uses_room c
-
--- since when the connection in a slot waits for room, if it does
-abbrev pub waits_since : Option Client → Option ℕ
-waits_since None = None
-waits_since (Some c) = if for_room c.waits_for then Some c.since else None
-
-abbrev pub given_turn : Option Client → Option Client
-given_turn None = None
-given_turn (Some c) = Some (record c { waits_for = woken c.waits_for })
-
-abbrev pub given_room : ℕ → Option Client → Option Client
-given_room time None = None
-given_room time (Some c) = Some (record c { waits_for = Turn; has_room = true; since = time })
 
 -- ---- all slots
 
@@ -138,3 +84,40 @@ abbrev pub SlotGivesUp : ℕ → (ℕ → StreamState) → (ℕ → StreamState)
 SlotGivesUp time streams streams' before now None = AllStay streams streams' × (now ≡ before) × ((c : Client) → before ≡ Some c → is_stalled time c ≡ false)
 SlotGivesUp time streams streams' before now (Some e) =
     (c : Client) × (before ≡ Some c) × (is_stalled time c ≡ true) × (now ≡ None) × (e.0 ≡ c.number) × (e.1 ≡ Stalled) × KeepsBytes c.number streams streams'
+
+-- ---- what is ready
+
+abbrev pub is_listener : Ready → Bool
+is_listener Listener = true
+is_listener (Key key) = false
+
+abbrev pub is_key : ℕ → Ready → Bool
+is_key key Listener = false
+is_key key (Key k) = k == key
+
+-- where the listener is ready connections may wait
+abbrev pub queue_with : List Ready → Queue → Queue
+queue_with ready queue = if list_any is_listener ready then Waits else queue
+
+-- each client whose stream is ready has its next turn if it waits for its stream, and nothing else changes
+abbrev pub MarksReady : List Ready → List (Option Client) → List (Option Client) → Type 0
+MarksReady ready before now = (key : ℕ) → get_or now key None ≡ (let slot = get_or before key None in if list_any (is_key key) ready then given_turn slot else slot)
+
+-- ---- room
+
+-- so many connections have room for more than their share
+abbrev pub max_rooms : ℕ
+max_rooms = 8
+
+-- at most eight connections have room, and each other holds no more than its share
+pub record AreWithinRooms (slots : List (Option Client)) : Type 0 where
+  pub few : count_by slot_has_room slots ≤ max_rooms
+  pub fair : (key : ℕ) → slot_is_fair (get_or slots key None) ≡ true
+
+abbrev pub KeepsRooms : List (Option Client) → List (Option Client) → Type 0
+KeepsRooms before now = AreWithinRooms before → AreWithinRooms now
+
+-- a slot has room only where it had, and is fair where it was
+pub record KeepsRoom (before now : Option Client) : Type 0 where
+  pub room : slot_has_room now ≡ true → slot_has_room before ≡ true
+  pub fair : slot_is_fair before ≡ true → slot_is_fair now ≡ true

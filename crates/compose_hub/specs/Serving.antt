@@ -1,18 +1,22 @@
 -- The connections in the slots of a server, and what happened on all connections since the first.
-use Rattle.std.specs.Prelude.{◌≡◌, ◌≢◌, ◌⊎◌, ℕ, ◌+◌, ◌<◌, ◌≤◌, max, List, get_or, Option, Some, None}
+use Rattle.std.specs.Prelude.{◌≡◌, ◌≢◌, ◌⊎◌, ℕ, ◌+◌, ◌<◌, ◌≤◌, true, false, if◌then◌else◌, max, List, [], ◌∷◌, flat_map, get_or, Option, Some, None}
 use Rattle.std.specs.List.{AllByRecursion}
 use Rattle.compose_machine.specs.Machine.{ServiceState, Reading}
 use Rattle.compose_many.specs.Connection.{ConnectionState, new_connection, Event}
 use Rattle.compose_many.specs.Service.{NumberedEvent}
 use Rattle.compose_many.specs.Numbered.{StreamState, AllStreamed}
 use Rattle.compose_many.specs.declared.turn.Turn.{Turn}
-use Rattle.compose_hub.specs.Sockets.{AllStay}
+use Rattle.compose_many.specs.declared.turn.Turn.TheVariants.{Waits, NeedsRoom, Ends}
+use Rattle.compose_hub.specs.Sockets.{AllStay, KeepsBytes}
 use Rattle.compose_hub.specs.Ends.{ToldEnd, told_more, HasEnded, times_told}
-use Rattle.compose_hub.specs.Turns.{TurnsSo, AreTurns}
+use Rattle.compose_hub.specs.Turns.{max_turns, TurnsSo, AreTurns}
+use Rattle.compose_hub.specs.Slots.{slot_has_turn, clients_in}
 use Rattle.compose_hub.specs.declared.client.Client.{Client}
 use Rattle.compose_hub.specs.declared.client.Limits.{Limits}
-use Rattle.compose_hub.specs.declared.client.WaitsFor.TheVariants.{Turn as ForTurn}
+use Rattle.compose_hub.specs.declared.client.WaitsFor.{WaitsFor}
+use Rattle.compose_hub.specs.declared.client.WaitsFor.TheVariants.{Turn as ForTurn, Stream as ForStream, Room as ForRoom}
 use Rattle.compose_hub.specs.declared.ends.ConnectionEnd.{ConnectionEnd}
+use Rattle.compose_hub.specs.declared.ends.ConnectionEnd.TheVariants.{Served}
 
 -- the service, the streams of all connections, and what was told of those that ended
 pub record World : Type 0 where
@@ -69,7 +73,7 @@ AllAreStill before now = (key : ℕ) → SlotIsStill (get_or before key None) (g
 abbrev pub AcceptsSo : ℕ → ℕ → Option Client → Option Client → Type 0
 AcceptsSo accepted accepted' before now = ((accepted' ≡ accepted) × (now ≡ before)) ⊎ ((accepted' ≡ accepted + 1) × StandsAs accepted' new_connection now)
 
--- up to so many turns of a client are turns of its connection
+-- up to so many turns of a client are turns of its connection; it keeps its room, and holds no more than its share where it did
 abbrev pub ClientTurnsSo : ℕ → ℕ → Reading → Turn → ServiceState → ServiceState → (ℕ → StreamState) → (ℕ → StreamState) → Client → Client → Type 0
 ClientTurnsSo most unsent reading turn old new streams streams' before now =
     TurnsSo most unsent reading turn old new before.number streams streams' before.connection now.connection × (now.number ≡ before.number)
@@ -86,12 +90,42 @@ SlotGoesOn unsent reading old new streams streams' before now ended =
     ⊎ ((c : Client) × (before ≡ Some c) × (events : List Event) × (after : ConnectionState)
     × AreTurns unsent reading old new c.number streams streams' c.connection after events × GoesOnOrEnds c after (streams' c.number) now ended)
 
--- the client in a slot has had turns if its turn was next, and else nothing happened
+-- what a connection waits for behind its turns
+abbrev pub waits_after : Turn → WaitsFor
+waits_after Waits = ForStream
+waits_after NeedsRoom = ForRoom
+waits_after _ = ForTurn
+
+-- the slot of a connection behind its turns: it goes on as they leave it and waits as the last one says, or it ended, and its end is said
+abbrev pub SlotFollows : Turn → Client → ConnectionState → Option Client → Option (ℕ × ConnectionEnd) → Type 0
+SlotFollows (Ends end) c state now ended = (now ≡ None) × (ended ≡ Some (c.number, Served end))
+SlotFollows turn c state now ended = (ended ≡ None) × StandsAs c.number state now × ((d : Client) → now ≡ Some d → d.waits_for ≡ waits_after turn)
+
+-- the stream of a connection is closed where it ended, and else all streams stay
+abbrev pub ClosesSo : Turn → ℕ → (ℕ → StreamState) → (ℕ → StreamState) → Type 0
+ClosesSo (Ends end) number streams streams' = KeepsBytes number streams streams'
+ClosesSo _ number streams streams' = AllStay streams streams'
+
+-- the client in a slot has had its turns if its turn was next, and else nothing happened
 abbrev pub SlotTurnsSo : ℕ → Reading → ServiceState → ServiceState → (ℕ → StreamState) → (ℕ → StreamState) → Option Client → Option Client → Option (ℕ × ConnectionEnd) → Type 0
 SlotTurnsSo unsent reading old new streams streams' before now ended =
-    ((new ≡ old) × AllStay streams streams' × (now ≡ before) × (ended ≡ None) × ((c : Client) → before ≡ Some c → c.waits_for ≢ ForTurn))
-    ⊎ ((c : Client) × (before ≡ Some c) × (c.waits_for ≡ ForTurn) × (events : List Event) × (after : ConnectionState)
-    × AreTurns unsent reading old new c.number streams streams' c.connection after events × GoesOnOrEnds c after (streams' c.number) now ended)
+    ((new ≡ old) × AllStay streams streams' × (now ≡ before) × (ended ≡ None) × (slot_has_turn before ≡ false))
+    ⊎ ((c : Client) × (before ≡ Some c) × (slot_has_turn before ≡ true) × (turn : Turn) × (state : ConnectionState) × (between : ℕ → StreamState)
+    × TurnsSo max_turns unsent reading turn old new c.number streams between c.connection state × ClosesSo turn c.number between streams' × SlotFollows turn c state now ended)
+
+-- ---- a round
+
+-- the clients whose turn is next, in the order of their slots
+abbrev pub with_turn : List (Option Client) → List Client
+with_turn slots = flat_map (λ slot. if slot_has_turn slot then clients_in slot else []) slots
+
+-- each of these clients has its turns, one after another, and is closed where it ended; nothing else happens
+abbrev pub AreRound : ℕ → Reading → ServiceState → ServiceState → (ℕ → StreamState) → (ℕ → StreamState) → List Client → Type 0
+AreRound unsent reading old new streams streams' [] = (new ≡ old) × AllStay streams streams'
+AreRound unsent reading old new streams streams' (c ∷ clients) =
+    (turn : Turn) × (state : ConnectionState) × (mid : ServiceState) × (between : ℕ → StreamState) × (closed : ℕ → StreamState)
+    × TurnsSo max_turns unsent reading turn old mid c.number streams between c.connection state × ClosesSo turn c.number between closed
+    × AreRound unsent reading mid new closed streams' clients
 
 -- the client that is in a slot
 abbrev pub IsIn : List (Option Client) → ℕ → Client → Type 0

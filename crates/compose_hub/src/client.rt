@@ -1,9 +1,10 @@
 //! A connection that is served.
-ghost use Rattle.std.specs.Prelude.{◌≡◌, true};
+ghost use Rattle.std.specs.Prelude.{◌≡◌, true, false, if◌then◌else◌};
 ghost use Rattle.compose_many.specs.Connection.{new_connection};
+ghost use Rattle.compose_hub.specs.Ends.{max_held};
 ghost use Rattle.compose_hub.specs.Turns.{max_turns};
 ghost use Rattle.compose_hub.specs.Serving.{ClientTurnsSo};
-ghost use Rattle.compose_hub.specs.Rounds.{uses_room, is_stalled};
+ghost use Rattle.compose_hub.specs.Slots.{uses_room, is_stalled, KeepsShare};
 
 use compose_many::{Connection, Limits as TurnLimits, Streams, Turn, turn_on};
 use compose_serve::Answer;
@@ -54,7 +55,8 @@ pub(crate) struct Client {
 impl Client {
     /// A client that has had no turn.
     pub(crate) fn new(alloc: Global, number: u32) -> Client
-        ensures { (result.number ≡ number) × (result.connection ≡ new_connection) }
+        ensures { (result.number ≡ number) × (result.connection ≡ new_connection)
+            × (result.has_room ≡ false) }
     {
         Client {
             connection: Connection::new(alloc),
@@ -70,6 +72,13 @@ impl Client {
         ensures { result ≡ self.now.number }
     {
         self.number
+    }
+
+    /// So many bytes it may hold before it needs room.
+    fn most_held(&self) -> usize
+        ensures { result ≡ (if self.now.has_room then usize.MAX else max_held) }
+    {
+        if self.has_room { usize::MAX } else { HELD }
     }
 
     /// Whether it uses the room that it was given.
@@ -126,8 +135,10 @@ impl Client {
         unsent: usize,
         time: u64,
     ) -> Turn
-        ensures { ClientTurnsSo max_turns unsent A.reading result (A.state service.old)
+        ensures turns { ClientTurnsSo max_turns unsent A.reading result (A.state service.old)
             (A.state service.new) (N.stream streams.old) (N.stream streams.new) self.old self.new }
+        ensures share { KeepsShare result self.old self.new }
+        ensures waits { self.new.waits_for ≡ self.old.waits_for }
     {
         'turns: for _ in 0..TURNS {
             match self.turn(streams, service, alloc, unsent) {
@@ -146,11 +157,15 @@ impl Client {
         alloc: Global,
         unsent: usize,
     ) -> Turn
-        ensures { ClientTurnsSo 1 unsent A.reading result (A.state service.old)
+        ensures turn { ClientTurnsSo 1 unsent A.reading result (A.state service.old)
             (A.state service.new) (N.stream streams.old) (N.stream streams.new) self.old self.new }
+        ensures share { KeepsShare result self.old self.new }
+        ensures waits { self.new.waits_for ≡ self.old.waits_for }
     {
-        let held = if self.has_room { usize::MAX } else { HELD };
-        let limits = TurnLimits { unsent, held };
+        let limits = TurnLimits {
+            unsent,
+            held: self.most_held(),
+        };
         let number = u64::from(self.number);
         turn_on(
             streams,

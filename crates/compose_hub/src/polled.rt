@@ -1,5 +1,6 @@
 //! A Unix listener and its connections, as sockets that are polled.
-ghost use Rattle.std.specs.Prelude.{◌≡◌, None};
+ghost use Rattle.std.specs.Prelude.{◌≡◌, ◌≤◌, length, None};
+ghost use Rattle.compose_many.specs.Connection.{max_piece};
 ghost use Rattle.compose_many.specs.Streams.{TryPulls, TryPushes};
 ghost use Rattle.compose_hub.specs.Sockets.{KeepsBytes};
 ghost use Rattle.compose_hub.specs.Polled.{polled_at};
@@ -32,6 +33,7 @@ pub(crate) struct PolledStream {
 impl PolledStream {
     /// Reads as `TryPull::try_pull` does; of the bytes nothing is known.
     fn try_pull(&mut self, piece: &mut [u8]) -> Result<usize, TryError>
+        requires { length piece.old ≤ max_piece }
         ensures pulls { TryPulls None None self.old.read_mark self.new.read_mark result piece.new }
         ensures writer { self.new.write_mark ≡ self.old.write_mark }
     {

@@ -1,11 +1,12 @@
 //! The connections of a service, and their turns.
-ghost use Rattle.std.specs.Prelude.{◌≡◌, ◌≤◌, ◌==◌, ◌&&◌, ℕ, Bool, Option, List, ◌+◌, ◌<◌, ◌^◌, max, vec_len, IfOk, OnOk};
+ghost use Rattle.std.specs.Prelude.{◌≡◌, ◌≤◌, ◌==◌, ◌&&◌, [], ◌∷◌, ℕ, Bool, Option, List, ◌+◌, ◌<◌, ◌^◌, max, length, get_or, slice_set, vec_len, count_by, None, IfOk, OnOk};
 ghost use Rattle.compose_machine.specs.Machine.{ServiceState, Reading};
 ghost use Rattle.compose_many.specs.Connection.{new_connection};
 ghost use Rattle.compose_hub.specs.Sockets.{KeepsBytes};
 ghost use Rattle.compose_hub.specs.Ends.{ToldEnd};
-ghost use Rattle.compose_hub.specs.Serving.{world, ServesMany, ServesAll, HasServed, GoesOnServing, AcceptsSo, AllAreStill, HasNone, SlotIsStill, SlotTurnsSo};
-ghost use Rattle.compose_hub.specs.Rounds.{queue_after, retried, is_wanted, is_done, has_turns, waits_for_room, has_slot, longest_wait, slot_uses_room, waits_since, given_turn, given_room, longer, WaitsLongest, SlotGivesUp};
+ghost use Rattle.compose_hub.specs.Serving.{world, ServesMany, ServesAll, HasServed, GoesOnServing, AcceptsSo, AllAreStill, HasNone, SlotIsStill, SlotTurnsSo, AreRound, with_turn};
+ghost use Rattle.compose_hub.specs.Rounds.{queue_after, retried, is_wanted, is_done, has_turns, waits_for_room, has_slot, longest_wait, longer, WaitsLongest, SlotGivesUp, queue_with, MarksReady, KeepsRooms, KeepsRoom};
+ghost use Rattle.compose_hub.specs.Slots.{slot_uses_room, slot_has_room, waits_since, given_turn, given_room};
 ghost use Rattle.std.specs.Option.{option_map, is_none};
 ghost use Rattle.std.specs.List.{list_any, list_all};
 ghost use Rattle.std.specs.Duration.{as_nanos};
@@ -181,10 +182,11 @@ impl Server {
 
     /// Accepts the connections that wait, while there is a slot for them.
     fn accept_all<N: Sockets>(&mut self, alloc: Global, sockets: &mut N, limits: Limits)
-        ensures { (reading : Reading) (state : ServiceState) (told : Option (List ToldEnd))
+        ensures goes_on { (reading : Reading) (state : ServiceState) (told : Option (List ToldEnd))
             → GoesOnServing limits reading (world state (N.stream sockets.old) told)
             (world state (N.stream sockets.new) told) self.old.accepted
             self.new.accepted self.old.slots.items self.new.slots.items }
+        ensures rooms { KeepsRooms self.old.slots.items self.new.slots.items }
     {
         self.queue = retried(self.queue);
         'slots: for (key, slot) in self.slots.iter_mut().enumerate() {
@@ -197,23 +199,35 @@ impl Server {
 
     /// Gives what is ready its next turn.
     fn mark_ready(&mut self, ready: &[Ready])
-        ensures { (self.new.accepted ≡ self.old.accepted)
+        ensures still { (self.new.accepted ≡ self.old.accepted)
             × AllAreStill self.old.slots.items self.new.slots.items }
+        ensures queue { self.new.queue ≡ queue_with ready.now self.old.queue }
+        ensures marks { MarksReady ready.now self.old.slots.items self.new.slots.items }
+        ensures rooms { KeepsRooms self.old.slots.items self.new.slots.items }
     {
         'ready: for source in ready {
-            match source {
-                Ready::Listener => self.queue = Queue::Waits,
-                Ready::Key(key) => {
-                    let key = *key;
-                    if key < self.slots.len() {
-                        give_turn(&mut self.slots[key]);
-                    }
-                }
-            }
+            self.mark(*source);
         }
     }
 
-    /// The turns of all connections that are ready.
+    /// Marks that this is ready: connections may wait, or a client that waits for its stream has its next turn.
+    fn mark(&mut self, source: Ready)
+        ensures still { (self.new.accepted ≡ self.old.accepted)
+            × AllAreStill self.old.slots.items self.new.slots.items }
+        ensures queue { self.new.queue ≡ queue_with (source ∷ []) self.old.queue }
+        ensures marks { MarksReady (source ∷ []) self.old.slots.items self.new.slots.items }
+        ensures rooms { KeepsRooms self.old.slots.items self.new.slots.items }
+    {
+        let Ready::Key(key) = source else {
+            self.queue = Queue::Waits;
+            return;
+        };
+        if key < self.slots.len() {
+            give_turn(&mut self.slots[key]);
+        }
+    }
+
+    /// The turns of all connections whose turn is next, in the order of their slots: each has its own.
     fn take_turns<N: Sockets, A: Answer, E: Report>(
         &mut self,
         sockets: &mut N,
@@ -230,6 +244,10 @@ impl Server {
             (world (A.state service.old) (N.stream sockets.old) (E.told report.old))
             (world (A.state service.new) (N.stream sockets.new) (E.told report.new))
             self.old.accepted self.new.accepted self.old.slots.items self.new.slots.items) }
+        ensures round { OnOk result (AreRound limits.unsent A.reading (A.state service.old)
+            (A.state service.new) (N.stream sockets.old) (N.stream sockets.new)
+            (with_turn self.old.slots.items)) }
+        ensures rooms { KeepsRooms self.old.slots.items self.new.slots.items }
     {
         let time = self.time;
         'slots: for slot in self.slots.iter_mut() {
@@ -239,23 +257,31 @@ impl Server {
         Ok(())
     }
 
-    /// Takes room that is not used, and gives what there is to the connections that have waited longest for it.
+    /// Takes room that is not used, and gives what there is to the connections that have waited longest for it, so that at most 8 have some.
     fn share_room(&mut self)
-        ensures { (self.new.accepted ≡ self.old.accepted)
+        ensures still { (self.new.accepted ≡ self.old.accepted)
             × AllAreStill self.old.slots.items self.new.slots.items }
+        ensures rooms { KeepsRooms self.old.slots.items self.new.slots.items }
     {
-        'slots: for slot in self.slots.iter_mut() {
-            if let Some(client) = slot {
-                client.give_back_room();
-            }
-        }
-        let used = self.slots.iter().filter(|slot| uses_room(slot)).count();
+        give_back_rooms(&mut self.slots);
+        let used = rooms_used(&self.slots);
         'rooms: for _ in 0..ROOMS.saturating_sub(used) {
             match waits_longest(&self.slots) {
-                Some(key) => give_room(&mut self.slots[key], self.time),
+                Some(key) => self.give_room_at(key),
                 None => return,
             }
         }
+    }
+
+    /// Gives the connection in this slot room.
+    fn give_room_at(&mut self, key: usize)
+        requires { key < length self.old.slots.items }
+        ensures still { (self.new.accepted ≡ self.old.accepted)
+            × AllAreStill self.old.slots.items self.new.slots.items }
+        ensures given { self.new.slots.items ≡ slice_set self.old.slots.items key
+            (given_room self.old.time (get_or self.old.slots.items key None)) }
+    {
+        give_room(&mut self.slots[key], self.time);
     }
 
     /// Ends the connections of which nothing came for ten seconds, where others wait for their room.
@@ -273,6 +299,7 @@ impl Server {
             → GoesOnServing limits reading (world state (N.stream sockets.old) (E.told report.old))
             (world state (N.stream sockets.new) (E.told report.new))
             self.old.accepted self.new.accepted self.old.slots.items self.new.slots.items) }
+        ensures rooms { KeepsRooms self.old.slots.items self.new.slots.items }
     {
         if !self.waits_for_room() {
             return Ok(());
@@ -318,6 +345,7 @@ fn queue_after(accepted: Accepted) -> Queue
 fn give_turn(slot: &mut Option<Client>)
     ensures gives { slot.new ≡ given_turn slot.old }
     ensures still { SlotIsStill slot.old slot.new }
+    ensures room { KeepsRoom slot.old slot.new }
 {
     if let Some(client) = slot {
         if client.waits_for == WaitsFor::Stream {
@@ -334,6 +362,41 @@ fn give_room(slot: &mut Option<Client>, time: u64)
     if let Some(client) = slot {
         client.take_room(time);
     }
+}
+
+/// Takes the rooms that are not used. O(slots).
+fn give_back_rooms(slots: &mut [Option<Client>])
+    ensures still { AllAreStill slots.old slots.new }
+    ensures rooms { KeepsRooms slots.old slots.new }
+    ensures used { count_by slot_has_room slots.new ≡ count_by slot_uses_room slots.new }
+{
+    'slots: for slot in slots.iter_mut() {
+        give_back_room(slot);
+    }
+}
+
+/// Takes the room of the connection in this slot, where it does not use it.
+fn give_back_room(slot: &mut Option<Client>)
+    ensures still { SlotIsStill slot.old slot.new }
+    ensures room { KeepsRoom slot.old slot.new }
+    ensures used { slot_has_room slot.new ≡ slot_uses_room slot.new }
+{
+    if let Some(client) = slot {
+        client.give_back_room();
+    }
+}
+
+/// How many rooms are used. O(slots).
+fn rooms_used(slots: &[Option<Client>]) -> usize
+    ensures { result ≡ count_by slot_uses_room slots.now }
+{
+    let mut used = 0;
+    'slots: for slot in slots {
+        if uses_room(slot) {
+            used += 1;
+        }
+    }
+    used
 }
 
 /// Whether the connection in this slot uses the room that it was given.
@@ -397,6 +460,7 @@ fn accept_into<N: Sockets>(
 ) -> Queue
     requires { accepted.old + 1 < 2 ^ 32 }
     ensures accepts { AcceptsSo accepted.old accepted.new slot.old slot.new }
+    ensures room { KeepsRoom slot.old slot.new }
     ensures stay { KeepsBytes (accepted.old + 1) (N.stream sockets.old) (N.stream sockets.new) }
 {
     let number = *accepted + 1;
@@ -417,8 +481,9 @@ fn serve_slot<N: Sockets, A: Answer>(
     unsent: usize,
     time: u64,
 ) -> Option<(u32, ConnectionEnd)>
-    ensures { SlotTurnsSo unsent A.reading (A.state service.old)
+    ensures turns { SlotTurnsSo unsent A.reading (A.state service.old)
         (A.state service.new) (N.stream sockets.old) (N.stream sockets.new) slot.old slot.new result }
+    ensures room { KeepsRoom slot.old slot.new }
 {
     let Some(client) = slot else {
         return None;
@@ -428,7 +493,8 @@ fn serve_slot<N: Sockets, A: Answer>(
     }
     let number = client.number();
     match client.take_turns(sockets, service, alloc, unsent, time) {
-        Turn::GoesOn | Turn::Loaded => None,
+        Turn::GoesOn => None,
+        Turn::Loaded => None,
         Turn::Waits => {
             client.waits_for = WaitsFor::Stream;
             None
@@ -451,7 +517,8 @@ fn give_up<N: Sockets>(
     sockets: &mut N,
     time: u64,
 ) -> Option<(u32, ConnectionEnd)>
-    ensures { SlotGivesUp time (N.stream sockets.old) (N.stream sockets.new) slot.old slot.new result }
+    ensures gives_up { SlotGivesUp time (N.stream sockets.old) (N.stream sockets.new) slot.old slot.new result }
+    ensures room { KeepsRoom slot.old slot.new }
 {
     let Some(client) = slot else {
         return None;

@@ -205,12 +205,16 @@ fn append(bytes: &mut Vec<u8>, more: &[u8])
     bytes.extend_from_slice(more).unwrap();
 }
 
-/// Moves the bytes behind the first ones to the beginning.
+/// Moves the bytes behind the first ones to the beginning; where none are left, their memory is freed.
 fn remove_prefix(bytes: &mut Vec<u8>, count: usize)
     requires { count ≤ vec_len bytes.old }
-    ensures { bytes.new.items ≡ drop count bytes.old.items }
+    ensures items { bytes.new.items ≡ drop count bytes.old.items }
+    ensures freed { vec_len bytes.new ≡ 0 → vec_capacity bytes.new ≡ 0 }
 {
     let len = bytes.len();
     bytes.as_mut_slice().copy_within(count..len, 0);
     bytes.truncate(len - count);
+    if bytes.is_empty() {
+        bytes.shrink_to_fit();
+    }
 }

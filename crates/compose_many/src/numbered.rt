@@ -1,5 +1,6 @@
 //! The streams of many connections, each by its number.
-ghost use Rattle.std.specs.Prelude.{ℕ};
+ghost use Rattle.std.specs.Prelude.{ℕ, ◌≤◌, length};
+ghost use Rattle.compose_many.specs.Connection.{max_piece};
 ghost use Rattle.compose_many.specs.Numbered.{StreamState, PullsOn, PushesOn, OthersStay, TurnsAreStreamed, StreamedOneAfterAnother, EachStreamHasItsOwn};
 
 use crate::streams::TryError;
@@ -13,8 +14,9 @@ pub trait Streams {
 
     /// Puts the next bytes of the stream with this number at the start of the piece and says how many, as `TryPull::try_pull` does.
     ///
-    /// Nothing else changes on this stream, and nothing on any other.
+    /// It is never asked for more than 4,096 bytes. Nothing else changes on this stream, and nothing on any other.
     fn try_pull(&mut self, number: u64, piece: &mut [u8]) -> Result<usize, TryError>
+        requires { length piece.old ≤ max_piece }
         ensures own { PullsOn (stream self.old number) (stream self.new number) result piece.new }
         ensures others { OthersStay number (stream self.old) (stream self.new) };
 

@@ -1,7 +1,8 @@
 //! What bytes are read from and written to, without waiting.
-ghost use Rattle.std.specs.Prelude.{ℕ, List, Option};
+ghost use Rattle.std.specs.Prelude.{ℕ, ◌≤◌, List, Option, length};
 ghost use Rattle.compose_many.specs.declared.streams.TryError.{TryError};
 ghost use Rattle.compose_many.specs.Streams.{TryPulls, TryPushes};
+ghost use Rattle.compose_many.specs.Connection.{max_piece};
 
 /// Why a device gives or takes no bytes.
 #[derive(Clone, Copy, Debug, PartialEq, Eq, Drop)]
@@ -22,8 +23,10 @@ pub trait TryPull {
 
     /// Puts the next bytes at the start of the piece and says how many; none only at the end, or where the piece has no room.
     ///
-    /// WouldBlock where there are none for now, Failed where it cannot: it is marked so, and no byte is gone.
+    /// It is never asked for more than 4,096 bytes. WouldBlock where there are none for now, Failed where it cannot: it is marked
+    /// so, and no byte is gone.
     fn try_pull(&mut self, piece: &mut [u8]) -> Result<usize, TryError>
+        requires { length piece.old ≤ max_piece }
         ensures { TryPulls (left self.old) (left self.new) (mark self.old)
             (mark self.new) result piece.new };
 }

@@ -2,6 +2,10 @@
 use Rattle.std.specs.Prelude.{◌≡◌, ℕ, ◌<◌, ◌≤◌, Bool, true, List, ◌++◌, length, take, Option, None, Some, MatchResult, Result, ⊤}
 use Rattle.std.specs.Io.KnownBytes.{ReadConsumes, WriteAppends, Appends}
 
+-- no more bytes are asked for at once
+abbrev pub max_piece : ℕ
+max_piece = 4096
+
 -- a pull takes n bytes from the beginning and leaves the mark, and gives none only at the end or with no room; a failure sets the mark and takes none
 abbrev pub Pulls : {E : Type 0} → Option (List ℕ) → Option (List ℕ) → Bool → Bool → Result ℕ E → List ℕ → Type 0
 Pulls left left' failed failed' r piece = ReadConsumes left left' r piece × MatchResult r (λ n. (n ≤ length piece) × (failed' ≡ failed)) (λ _. failed' ≡ true)

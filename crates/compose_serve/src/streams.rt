@@ -1,7 +1,7 @@
 //! What bytes are read from and written to.
-ghost use Rattle.std.specs.Prelude.{◌≡◌, ◌<◌, ℕ, List, Bool, Option, true, length, take, OnOk, OnErr};
+ghost use Rattle.std.specs.Prelude.{◌≡◌, ◌<◌, ◌≤◌, ℕ, List, Bool, Option, true, length, take, OnOk, OnErr};
 ghost use Rattle.std.specs.Io.KnownBytes.{Appends};
-ghost use Rattle.compose_serve.specs.Streams.{Pulls, Pushes, PushesPart};
+ghost use Rattle.compose_serve.specs.Streams.{max_piece, Pulls, Pushes, PushesPart};
 
 /// A device failed.
 #[derive(Clone, Copy, Debug, PartialEq, Eq, Drop)]
@@ -17,8 +17,9 @@ pub trait Pull {
 
     /// Puts the next bytes at the start of the piece and says how many; none only at the end, or where the piece has no room.
     ///
-    /// Failed where it cannot: it is marked then, and no byte is gone.
+    /// It is never asked for more than 4,096 bytes. Failed where it cannot: it is marked then, and no byte is gone.
     fn pull(&mut self, piece: &mut [u8]) -> Result<usize, Failed>
+        requires { length piece.old ≤ max_piece }
         ensures { Pulls (left self.old) (left self.new) (failed self.old)
             (failed self.new) result piece.new };
 }

@@ -2,6 +2,8 @@ use Rattle.std.proofs.Common.{◌∙◌, List, Option, refl, sym, ap, subst}
 use Rattle.compose_hub.specs.Serving.{world, AllAreStill}
 use Rattle.compose_hub.specs.declared.client.Client.{Client}
 use Rattle.compose_hub.proofs.Serving.{nothing_happened, none_served, serves_stay, still_so_far, stays, all_told}
+use Rattle.compose_hub.specs.Rounds.{AreWithinRooms}
+use Rattle.compose_hub.proofs.Rooms.{no_rooms}
 use Rattle.compose_hub.proofs.server.serve_at_once.Goals as goal
 
 pub returns-in_err-server-clause-serves : goal.returns-in_err-server-clause-serves
@@ -9,16 +11,19 @@ returns-in_err-server-clause-serves g c =
     nothing_happened c.args.limits g.A.Answer.reading (g.A.Answer.state c.args.service.now) (g.N.Streams.stream c.args.sockets.now) (g.E.Report.told c.args.report.now)
 
 pub rounds-init : goal.rounds-init
-rounds-init g c =
-    none_served c.args.limits g.A.Answer.reading (g.A.Answer.state c.args.service.now) (g.N.Streams.stream c.args.sockets.now) (g.E.Report.told c.args.report.now) c.in_ok-server.server.accepted
-    c.in_ok-server.server.slots.items c.in_ok-server.ensures.1 c.in_ok-server.ensures.2
+rounds-init g c = record {
+  served =
+      none_served c.args.limits g.A.Answer.reading (g.A.Answer.state c.args.service.now) (g.N.Streams.stream c.args.sockets.now) (g.E.Report.told c.args.report.now) c.in_ok-server.server.accepted
+      c.in_ok-server.server.slots.items c.in_ok-server.ensures.1 c.in_ok-server.ensures.2;
+  rooms = no_rooms c.in_ok-server.server.slots.items c.in_ok-server.ensures.1;
+}
 
 pub returns-then-is_done-clause-serves : goal.returns-then-is_done-clause-serves
 returns-then-is_done-clause-serves g c =
     let first = world (g.A.Answer.state c.args.service.now) (g.N.Streams.stream c.args.sockets.now) (g.E.Report.told c.args.report.now) in
     let state = g.A.Answer.state c.rounds.service in
     let told = g.E.Report.told c.rounds.report in
-    let accepted = c.accept_all.ensures g.A.Answer.reading state told first c.rounds.invariant in
+    let accepted = c.accept_all.ensures.goes_on g.A.Answer.reading state told first c.rounds.invariant.served in
     accepted.so_far
 
 pub returns-then-is_done-clause-all : goal.returns-then-is_done-clause-all
@@ -26,7 +31,7 @@ returns-then-is_done-clause-all g c =
     let first = world (g.A.Answer.state c.args.service.now) (g.N.Streams.stream c.args.sockets.now) (g.E.Report.told c.args.report.now) in
     let state = g.A.Answer.state c.rounds.service in
     let told = g.E.Report.told c.rounds.report in
-    let accepted = c.accept_all.ensures g.A.Answer.reading state told first c.rounds.invariant in (
+    let accepted = c.accept_all.ensures.goes_on g.A.Answer.reading state told first c.rounds.invariant.served in (
       accepted.so_far,
       all_told c.args.limits g.A.Answer.reading first (world state (g.N.Streams.stream c.accept_all.new.sockets) told) c.accept_all.new.self.accepted c.accept_all.new.self.slots.items
           (sym c.is_done.ensures ∙ c.if-is_done.true) accepted,
@@ -37,7 +42,7 @@ returns-in_err-waited-clause-serves g c =
     let first = world (g.A.Answer.state c.args.service.now) (g.N.Streams.stream c.args.sockets.now) (g.E.Report.told c.args.report.now) in
     let state = g.A.Answer.state c.rounds.service in
     let told = g.E.Report.told c.rounds.report in
-    let accepted = c.accept_all.ensures g.A.Answer.reading state told first c.rounds.invariant in
+    let accepted = c.accept_all.ensures.goes_on g.A.Answer.reading state told first c.rounds.invariant.served in
     serves_stay c.args.limits g.A.Answer.reading first state (g.N.Streams.stream c.accept_all.new.sockets) (g.N.Streams.stream c.poll.new.self) told
     (stays (g.N.Streams.stream c.accept_all.new.sockets) (g.N.Streams.stream c.poll.new.self) c.poll.ensures) accepted.so_far
 
@@ -46,12 +51,12 @@ returns-in_err-take_turns-clause-serves g c =
     let first = world (g.A.Answer.state c.args.service.now) (g.N.Streams.stream c.args.sockets.now) (g.E.Report.told c.args.report.now) in
     let state = g.A.Answer.state c.rounds.service in
     let told = g.E.Report.told c.rounds.report in
-    let accepted = c.accept_all.ensures g.A.Answer.reading state told first c.rounds.invariant in
+    let accepted = c.accept_all.ensures.goes_on g.A.Answer.reading state told first c.rounds.invariant.served in
     let waited =
     still_so_far c.args.limits g.A.Answer.reading first state (g.N.Streams.stream c.accept_all.new.sockets) (g.N.Streams.stream c.poll.new.self) told
     (stays (g.N.Streams.stream c.accept_all.new.sockets) (g.N.Streams.stream c.poll.new.self) c.poll.ensures) c.accept_all.new.self.accepted c.mark_ready.new.self.accepted
-    c.accept_all.new.self.slots.items c.mark_ready.new.self.slots.items (c.mark_ready.ensures.0 ∙ c.count_time.ensures.0)
-    (subst (λ (v : List (Option Client)). AllAreStill v c.mark_ready.new.self.slots.items) (ap (λ v. v.items) c.count_time.ensures.1) c.mark_ready.ensures.1) accepted
+    c.accept_all.new.self.slots.items c.mark_ready.new.self.slots.items (c.mark_ready.ensures.still.0 ∙ c.count_time.ensures.0)
+    (subst (λ (v : List (Option Client)). AllAreStill v c.mark_ready.new.self.slots.items) (ap (λ v. v.items) c.count_time.ensures.1) c.mark_ready.ensures.still.1) accepted
     in
     c.take_turns.ensures.happened first waited
 
@@ -60,18 +65,18 @@ returns-in_err-give_up_stalled-clause-serves g c =
     let first = world (g.A.Answer.state c.args.service.now) (g.N.Streams.stream c.args.sockets.now) (g.E.Report.told c.args.report.now) in
     let state = g.A.Answer.state c.rounds.service in
     let told = g.E.Report.told c.rounds.report in
-    let accepted = c.accept_all.ensures g.A.Answer.reading state told first c.rounds.invariant in
+    let accepted = c.accept_all.ensures.goes_on g.A.Answer.reading state told first c.rounds.invariant.served in
     let waited =
     still_so_far c.args.limits g.A.Answer.reading first state (g.N.Streams.stream c.accept_all.new.sockets) (g.N.Streams.stream c.poll.new.self) told
     (stays (g.N.Streams.stream c.accept_all.new.sockets) (g.N.Streams.stream c.poll.new.self) c.poll.ensures) c.accept_all.new.self.accepted c.mark_ready.new.self.accepted
-    c.accept_all.new.self.slots.items c.mark_ready.new.self.slots.items (c.mark_ready.ensures.0 ∙ c.count_time.ensures.0)
-    (subst (λ (v : List (Option Client)). AllAreStill v c.mark_ready.new.self.slots.items) (ap (λ v. v.items) c.count_time.ensures.1) c.mark_ready.ensures.1) accepted
+    c.accept_all.new.self.slots.items c.mark_ready.new.self.slots.items (c.mark_ready.ensures.still.0 ∙ c.count_time.ensures.0)
+    (subst (λ (v : List (Option Client)). AllAreStill v c.mark_ready.new.self.slots.items) (ap (λ v. v.items) c.count_time.ensures.1) c.mark_ready.ensures.still.1) accepted
     in
     let turned = c.in_ok-take_turns.ensures.goes_on first waited in
     let shared =
     still_so_far c.args.limits g.A.Answer.reading first (g.A.Answer.state c.take_turns.new.service) (g.N.Streams.stream c.take_turns.new.sockets) (g.N.Streams.stream c.take_turns.new.sockets)
     (g.E.Report.told c.take_turns.new.report) (λ n. (refl, refl)) c.take_turns.new.self.accepted c.share_room.new.self.accepted c.take_turns.new.self.slots.items c.share_room.new.self.slots.items
-    c.share_room.ensures.0 c.share_room.ensures.1 turned
+    c.share_room.ensures.still.0 c.share_room.ensures.still.1 turned
     in
     c.give_up_stalled.ensures.happened g.A.Answer.reading (g.A.Answer.state c.take_turns.new.service) first shared
 
@@ -80,20 +85,26 @@ rounds-preserved g c =
     let first = world (g.A.Answer.state c.args.service.now) (g.N.Streams.stream c.args.sockets.now) (g.E.Report.told c.args.report.now) in
     let state = g.A.Answer.state c.rounds.service in
     let told = g.E.Report.told c.rounds.report in
-    let accepted = c.accept_all.ensures g.A.Answer.reading state told first c.rounds.invariant in
+    let accepted = c.accept_all.ensures.goes_on g.A.Answer.reading state told first c.rounds.invariant.served in
     let waited =
     still_so_far c.args.limits g.A.Answer.reading first state (g.N.Streams.stream c.accept_all.new.sockets) (g.N.Streams.stream c.poll.new.self) told
     (stays (g.N.Streams.stream c.accept_all.new.sockets) (g.N.Streams.stream c.poll.new.self) c.poll.ensures) c.accept_all.new.self.accepted c.mark_ready.new.self.accepted
-    c.accept_all.new.self.slots.items c.mark_ready.new.self.slots.items (c.mark_ready.ensures.0 ∙ c.count_time.ensures.0)
-    (subst (λ (v : List (Option Client)). AllAreStill v c.mark_ready.new.self.slots.items) (ap (λ v. v.items) c.count_time.ensures.1) c.mark_ready.ensures.1) accepted
+    c.accept_all.new.self.slots.items c.mark_ready.new.self.slots.items (c.mark_ready.ensures.still.0 ∙ c.count_time.ensures.0)
+    (subst (λ (v : List (Option Client)). AllAreStill v c.mark_ready.new.self.slots.items) (ap (λ v. v.items) c.count_time.ensures.1) c.mark_ready.ensures.still.1) accepted
     in
     let turned = c.in_ok-take_turns.ensures.goes_on first waited in
     let shared =
     still_so_far c.args.limits g.A.Answer.reading first (g.A.Answer.state c.take_turns.new.service) (g.N.Streams.stream c.take_turns.new.sockets) (g.N.Streams.stream c.take_turns.new.sockets)
     (g.E.Report.told c.take_turns.new.report) (λ n. (refl, refl)) c.take_turns.new.self.accepted c.share_room.new.self.accepted c.take_turns.new.self.slots.items c.share_room.new.self.slots.items
-    c.share_room.ensures.0 c.share_room.ensures.1 turned
+    c.share_room.ensures.still.0 c.share_room.ensures.still.1 turned
     in
-    c.in_ok-give_up_stalled.ensures.goes_on g.A.Answer.reading (g.A.Answer.state c.take_turns.new.service) first shared
+    record {
+      served = c.in_ok-give_up_stalled.ensures.goes_on g.A.Answer.reading (g.A.Answer.state c.take_turns.new.service) first shared;
+      rooms =
+          (let counted : AreWithinRooms c.count_time.new.self.slots.items = subst (λ (v : List (Option Client)). AreWithinRooms v) (sym (ap (λ v. v.items) c.count_time.ensures.1))
+          (c.accept_all.ensures.rooms c.rounds.invariant.rooms) in
+          c.in_ok-give_up_stalled.ensures.rooms (c.share_room.ensures.rooms (c.in_ok-take_turns.ensures.rooms (c.mark_ready.ensures.rooms counted))));
+    }
 
 pub returns-clause-serves : goal.returns-clause-serves
-returns-clause-serves g c = c.rounds.invariant.so_far
+returns-clause-serves g c = c.rounds.invariant.served.so_far

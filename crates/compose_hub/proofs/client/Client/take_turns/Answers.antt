@@ -1,11 +1,11 @@
 use Rattle.std.proofs.Common.{◌∙◌, ◌<◌, ℕ, subst, arith}
 use Rattle.compose_many.specs.declared.turn.Turn.TheVariants.{GoesOn}
 use Rattle.compose_hub.specs.Turns.{max_turns, TurnsSo}
-use Rattle.compose_hub.proofs.Turns.{turns_then, went_on}
+use Rattle.compose_hub.proofs.Turns.{turns_then, went_on, share_then}
 use Rattle.compose_hub.proofs.client.Client.take_turns.Goals as goal
 
-pub returns-in_default : goal.returns-in_default
-returns-in_default g c =
+pub returns-in_default-clause-turns : goal.returns-in_default-clause-turns
+returns-in_default-clause-turns g c =
     let lt : c.turns.counter < max_turns = omega arith in
     let mid = g.A.Answer.state c.turns.service in
     let new = g.A.Answer.state c.turn.new.service in
@@ -13,8 +13,8 @@ returns-in_default g c =
     let streams' = g.N.Streams.stream c.turn.new.streams in (
       turns_then c.turns.counter c.args.unsent g.A.Answer.reading (g.A.Answer.state c.args.service.now) mid new c.args.self.now.number (g.N.Streams.stream c.args.streams.now) streams streams'
           c.args.self.now.connection c.turns.self.connection c.turn.new.self.connection c.turns.invariant.0 max_turns c.turn.result lt
-          (subst (λ (n : ℕ). TurnsSo 1 c.args.unsent g.A.Answer.reading c.turn.result mid new n streams streams' c.turns.self.connection c.turn.new.self.connection) c.turns.invariant.1 c.turn.ensures.0),
-      c.turn.ensures.1 ∙ c.turns.invariant.1,
+          (subst (λ (n : ℕ). TurnsSo 1 c.args.unsent g.A.Answer.reading c.turn.result mid new n streams streams' c.turns.self.connection c.turn.new.self.connection) c.turns.invariant.1 c.turn.ensures.turn.0),
+      c.turn.ensures.turn.1 ∙ c.turns.invariant.1,
     )
 
 pub turns-preserved : goal.turns-preserved
@@ -25,6 +25,11 @@ turns-preserved g c =
     let streams' = g.N.Streams.stream c.turn.new.streams in (
       went_on c.turns.counter c.args.unsent g.A.Answer.reading (g.A.Answer.state c.args.service.now) mid new c.args.self.now.number (g.N.Streams.stream c.args.streams.now) streams streams'
           c.args.self.now.connection c.turns.self.connection c.turn.new.self.connection c.turns.invariant.0
-          (subst (λ (n : ℕ). TurnsSo 1 c.args.unsent g.A.Answer.reading GoesOn mid new n streams streams' c.turns.self.connection c.turn.new.self.connection) c.turns.invariant.1 c.in-GoesOn.ensures.0),
-      c.in-GoesOn.ensures.1 ∙ c.turns.invariant.1,
+          (subst (λ (n : ℕ). TurnsSo 1 c.args.unsent g.A.Answer.reading GoesOn mid new n streams streams' c.turns.self.connection c.turn.new.self.connection) c.turns.invariant.1 c.in-GoesOn.ensures.turn.0),
+      c.in-GoesOn.ensures.turn.1 ∙ c.turns.invariant.1,
+      share_then GoesOn c.args.self.now c.turns.self c.turn.new.self c.turns.invariant.2 c.in-GoesOn.ensures.share,
+      c.in-GoesOn.ensures.waits ∙ c.turns.invariant.3,
     )
+
+pub returns-in_default-clause-share : goal.returns-in_default-clause-share
+returns-in_default-clause-share g c = share_then c.turn.result c.args.self.now c.turns.self c.turn.new.self c.turns.invariant.2 c.turn.ensures.share

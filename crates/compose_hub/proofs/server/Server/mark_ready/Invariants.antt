@@ -1,6 +1,13 @@
-use Rattle.std.proofs.Common.{◌≡◌}
+use Rattle.std.proofs.Common.{◌≡◌, take}
 use Rattle.compose_hub.specs.Serving.{AllAreStill}
+use Rattle.compose_hub.specs.Rounds.{queue_with, MarksReady, KeepsRooms}
 use Rattle.compose_hub.proofs.server.Server.mark_ready.Given as goal
 
 abbrev pub invariant-ready : goal.invariant-ready
-invariant-ready l = (l.self.accepted ≡ l.fn.self.accepted) × AllAreStill l.fn.self.slots.items l.self.slots.items
+invariant-ready l = record {
+  accepted : l.self.accepted ≡ l.fn.self.accepted;
+  still : AllAreStill l.fn.self.slots.items l.self.slots.items;
+  queue : l.self.queue ≡ queue_with (take l.source-index l.ready) l.fn.self.queue;
+  marks : MarksReady (take l.source-index l.ready) l.fn.self.slots.items l.self.slots.items;
+  rooms : KeepsRooms l.fn.self.slots.items l.self.slots.items;
+}
