@@ -11,3 +11,5 @@ pub mod Times
 pub mod Found
 pub mod WordsIn
 pub mod Rising
+pub mod PairOrder
+pub mod PairSearch

@@ -7,6 +7,7 @@ ghost use Rattle.compose_cert.specs.Reading.{certificate_of};
 ghost use Rattle.compose_cert.specs.Spelling.{max_count, are_counted, is_typed, is_counted, Spells};
 
 use crate::CertFault;
+use crate::pairs::IndexedPairs;
 use crate::read::{count_at, fresh_at, number_at, pairs_at, typings_at, version_at};
 use crate::write::{add_fresh, add_head, add_pairs, add_typings};
 use keysym_core::Keysym;
@@ -53,7 +54,7 @@ impl Typing {
 #[derive(Drop)]
 pub struct Certificate {
     bound: u32,
-    pairs: Vec<(u32, u32)>,
+    pairs: IndexedPairs,
     typings: Vec<Typing>,
     fresh: Vec<Keysym>,
 }
@@ -63,7 +64,7 @@ impl Model for Certificate {
 
     ghost view = { λ c. record {
       bound = c.bound;
-      pairs = c.pairs.items;
+      pairs = c.pairs;
       typings =
           c.typings.items;
       fresh = c.fresh.items;
@@ -73,7 +74,7 @@ impl Model for Certificate {
         (is_counted
         (record {
           bound = c.bound;
-          pairs = c.pairs.items;
+          pairs = c.pairs;
           typings = c.typings.items;
           fresh =
               c.fresh.items;
@@ -82,7 +83,7 @@ impl Model for Certificate {
 
 impl Certificate {
     /// The certificate without fresh keysyms; none where there are more than 1,048,576 pairs, typings or keys of one typing,
-    /// or a typing without keys. O(typings).
+    /// or a typing without keys. O(pairs + typings).
     pub fn new(bound: u32, pairs: Vec<(u32, u32)>, typings: Vec<Typing>) -> Option<Certificate>
         ensures { result
             ≡ (if are_counted pairs.items typings.items then Some
@@ -100,7 +101,7 @@ impl Certificate {
         let fresh = Vec::new(*pairs.allocator());
         Some(Certificate {
             bound,
-            pairs,
+            pairs: IndexedPairs::new(pairs),
             typings,
             fresh,
         })
@@ -122,8 +123,8 @@ impl Certificate {
         ensures err { IfErr result (λ e. e ≡ CertFault.NoMemory) }
     {
         let mut text = String::new(alloc);
-        add_head(&mut text, self.bound, self.pairs.len(), &self.fresh)?;
-        add_pairs(&mut text, &self.pairs)?;
+        add_head(&mut text, self.bound, self.pair_count(), &self.fresh)?;
+        add_pairs(&mut text, self.pairs())?;
         add_typings(&mut text, &self.typings)?;
         add_fresh(&mut text, &self.fresh)?;
         Ok(text)
@@ -147,7 +148,7 @@ impl Certificate {
     pub fn pair_count(&self) -> usize
         ensures { result ≡ length self.now.pairs }
     {
-        self.pairs.len()
+        self.pairs().len()
     }
 
     /// The old node's and the new node's number at this index. O(1).
@@ -155,7 +156,16 @@ impl Certificate {
         requires { index < length self.now.pairs }
         ensures { slice_get self.now.pairs index ≡ Some result }
     {
-        self.pairs[index]
+        self.pairs()[index]
+    }
+
+    /// Whether these numbers are a pair, for pairs that strictly rise.
+    /// O(log pairs of the old node) if they are one, and else O(log pairs).
+    pub fn has_pair(&self, old: u32, new: u32) -> bool
+        requires { IsTrue (model.pairs_rise self.now.pairs) }
+        ensures { result ≡ model.has_pair self.now.pairs old new }
+    {
+        self.pairs.contains(old, new)
     }
 
     /// The typings. O(1).
@@ -237,9 +247,10 @@ fn read_lines(alloc: Global, bytes: &[u8]) -> Result<Certificate, CertFault>
     let (typing_count, rest) = count_at(rest, b"typings ", 4 + pair_count)?;
     let (typings, rest) = typings_at(alloc, rest, typing_count, 5 + pair_count)?;
     let fresh = fresh_at(alloc, version, rest, 5 + pair_count + typing_count)?;
+    let indexed = IndexedPairs::read(alloc, pairs)?;
     Ok(Certificate {
         bound,
-        pairs,
+        pairs: indexed,
         typings,
         fresh,
     })

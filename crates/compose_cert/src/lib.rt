@@ -22,6 +22,7 @@ mod certificate_lines;
 mod certificate_words;
 mod entry;
 mod numeral;
+mod pairs;
 mod read;
 mod repertoire;
 mod repertoire_words;

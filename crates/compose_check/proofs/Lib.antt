@@ -1,7 +1,6 @@
 mod Examples
 pub mod Lists
 pub mod PairOrder
-pub mod PairSearch
 pub mod Landed
 pub mod EdgeConditions
 pub mod StartConditions

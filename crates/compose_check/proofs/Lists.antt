@@ -2,7 +2,7 @@
 use Rattle.std.proofs.Common.{◌≡◌, ℕ, zero, suc, ◌+◌, ◌<◌, List, [], ◌∷◌, Bool, true, false, ◌&&◌, length, get_or, drop, refl, sym, ◌∙◌, ap, arith}
 use Rattle.std.specs.Prelude.{slice_get, Some}
 use Rattle.std.specs.List.{list_any, list_all}
-use Rattle.std.proofs.lemmas.Bool.{and_parts, and_left, or_from, or_left, or_right}
+use Rattle.std.proofs.lemmas.Bool.{and_parts, and_left, or_left, or_right}
 use Rattle.compose_fresh.proofs.Unmet.{drop_at}
 
 -- the test of all that is left, where the element at the index fails or passes
@@ -11,11 +11,6 @@ all_fail p xs i x e h = ap (list_all p) (drop_at xs i x e) ∙ and_left (p x) (l
 
 pub all_go_on : {X : Type 0} (p : X → Bool) (xs : List X) (i : ℕ) (x : X) → slice_get xs i ≡ Some x → p x ≡ true → list_all p (drop (i + 1) xs) ≡ list_all p (drop i xs)
 all_go_on p xs i x e h = sym (ap (list_all p) (drop_at xs i x e) ∙ ap (λ b. b && list_all p (drop (i + 1) xs)) h)
-
--- a test that fails at each place, or passes at one
-pub none_passes : {X : Type 0} (q : X → Bool) (d : X) (xs : List X) → ((k : ℕ) → k < length xs → q (get_or xs k d) ≡ false) → list_any q xs ≡ false
-none_passes q d [] f = refl
-none_passes q d (x ∷ xs) f = or_from (q x) (list_any q xs) (f 0 (omega arith)) (none_passes q d xs (λ k h. f (suc k) (omega arith)))
 
 -- where the element at an index passes, one of the list passes
 pub one_passes : {X : Type 0} (q : X → Bool) (d : X) (xs : List X) (k : ℕ) → k < length xs → q (get_or xs k d) ≡ true → list_any q xs ≡ true

@@ -8,7 +8,6 @@ ghost use Rattle.compose_fresh.specs.Conditions.{first_unmet};
 ghost use Rattle.compose_check.specs.Conditions.{edge_conditions, one_edge_conditions};
 
 use crate::landing::{cancels, commits, number_at, text_to};
-use crate::pairs::has_pair;
 use compose_cert::Certificate;
 use compose_fresh::CheckFault;
 use compose_tree::{ComposeTable, NodeId, Target};
@@ -23,7 +22,7 @@ struct Pair {
 }
 
 /// The first edge at which the new table does not do what the old one does, pair by pair.
-/// O(pairs × edges of their old nodes × (log pairs + log edges of their new nodes)).
+/// O(pairs × edges of their old nodes × (log new nodes + log edges of their new nodes)).
 pub(crate) fn check_edges<T: ComposeTable, U: ComposeTable>(
     old: &T,
     new: &U,
@@ -118,7 +117,7 @@ fn check_edge<T: ComposeTable, U: ComposeTable>(
             keysym,
         });
     }
-    if !has_pair(certificate, number_at(Some(target)), number_at(landing)) {
+    if !certificate.has_pair(number_at(Some(target)), number_at(landing)) {
         return Some(CheckFault::PairMissing {
             pair: pair.index,
             keysym,

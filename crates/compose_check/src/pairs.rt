@@ -1,4 +1,4 @@
-//! The conditions on the pairs of a certificate by themselves, and the look-up of a pair.
+//! The conditions on the pairs of a certificate by themselves.
 ghost use Rattle.std.specs.Prelude.{◌≡◌, ◌==◌, ◌&&◌, ◌||◌, not, nat_lt, List, length, IsTrue};
 ghost use Rattle.std.specs.List.{list_all};
 ghost use Rattle.compose_model.specs.Table.{Definition};
@@ -27,7 +27,7 @@ pub(crate) fn check_pairs(
     if !are_in_range(certificate, old_count, new_count) {
         return Some(CheckFault::NodeOutOfRange);
     }
-    if !has_pair(certificate, 0, 0) {
+    if !certificate.has_pair(0, 0) {
         return Some(CheckFault::RootPairMissing);
     }
     if !is_rest_kept(certificate) {
@@ -85,12 +85,4 @@ fn keeps_rest(pair: (u32, u32)) -> bool
     ensures { result ≡ (not (pair.0 == 0) || pair.1 == 0) }
 {
     pair.0 != 0 || pair.1 == 0
-}
-
-/// Whether these numbers are a pair. O(log pairs).
-pub(crate) fn has_pair(certificate: &Certificate, old: u32, new: u32) -> bool
-    requires { IsTrue (words.pairs_rise certificate.now.pairs) }
-    ensures { result ≡ words.has_pair certificate.now.pairs old new }
-{
-    certificate.pairs().binary_search(&(old, new)).is_ok()
 }

@@ -45,7 +45,7 @@ pub fn law_conditions()
 /// most the certificate's bound are pending. And each character of the repertoire is typed from rest by its typing, whose keys are
 /// keys of the repertoire.
 ///
-/// Takes no memory. O(pairs × edges of their old nodes × (log pairs + log edges of their new nodes)), and beside it
+/// Takes no memory. O(pairs × edges of their old nodes × (log new nodes + log edges of their new nodes)), and beside it
 /// O(edges of the old table × log fresh keysyms), O(nodes of the new table), and the typings' keys, each O(pending keysyms × log edges).
 pub fn check<T: ComposeTable, U: ComposeTable>(
     old: &T,

@@ -1,7 +1,8 @@
-use Rattle.std.proofs.Common.{◌≡◌, refl, Ok}
+use Rattle.std.proofs.Common.{◌≡◌, ◌∙◌, refl, ap, Ok}
 use Rattle.std.specs.Prelude.{codes}
 use Rattle.compose_model.specs.Certificate.{Certificate}
 use Rattle.compose_cert.specs.Reading.{certificate_of}
+use Rattle.compose_cert.specs.Spelling.{is_counted}
 use Rattle.compose_cert.proofs.Found.{read_is_spelled, is_counted-certificate}
 use Rattle.compose_cert.proofs.certificate.read_lines.Goals as goal
 
@@ -18,4 +19,5 @@ invariant_of-result c =
       c.in_ok-typings.ensures,
       c.in_ok-fresh.ensures,
     ) refl in
-    is_counted-certificate found (read_is_spelled c.args.bytes.now found said).fits
+    ap (λ pairs. is_counted (record { bound = found.bound; pairs = pairs; typings = found.typings; fresh = found.fresh })) c.in_ok-indexed.ensures.ok
+    ∙ is_counted-certificate found (read_is_spelled c.args.bytes.now found said).fits

@@ -1,14 +1,17 @@
 -- What a binary search among rising pairs finds.
-use Rattle.std.proofs.Common.{◌≡◌, ◌⊎◌, ℕ, ◌≤◌, List, true, false, ◌&&◌, length, get_or, sym, ◌∙◌, ap, arith, inl, inr, eqb-true, nat_cmp, Ordering, Less, Equal, Greater}
-use Rattle.std.specs.Prelude.{◌==◌, is_ok, Result, Ok, Err}
+use Rattle.std.proofs.Common.{◌≡◌, ◌⊎◌, ℕ, ◌-◌, ◌<◌, ◌≤◌, List, Bool, true, false, ◌&&◌, length, take, drop, get_or, refl, sym, ◌∙◌, ap, arith, inl, inr, eqb-true, nat_cmp, Ordering, Less, Equal, Greater}
+use Rattle.std.specs.Prelude.{◌==◌, is_ok, slice_range, Result, Ok, Err}
+use Rattle.std.specs.List.{list_any}
 use Rattle.std.specs.Cmp.{nat_cmp_is}
 use Rattle.std.specs.Ordering.{ordering_then, ordering_index}
 use Rattle.std.specs.List.Sorted.{IsBinarySearchResult, IsNonDecreasingBy, IsSearchInRange}
-use Rattle.std.proofs.lemmas.Bool.{and_parts, cases_Bool, cases_lt}
+use Rattle.std.proofs.lemmas.Bool.{and_parts, or_left, or_right, cases_Bool, cases_lt}
 use Rattle.std.proofs.lemmas.List.Sorted.{IsNonDecreasingBy-from_default}
 use Rattle.compose_model.specs.Certificate.{is_pair_before, pairs_rise, has_pair}
-use Rattle.compose_check.proofs.Lists.{none_passes, one_passes}
-use Rattle.compose_check.proofs.PairOrder.{before_means, before_trans, earlier_before, neither_is, other_before, other_behind}
+use Rattle.std.proofs.lemmas.List.{take-append-drop}
+use Rattle.std.proofs.lemmas.List.Elements.{All-from_get_or}
+use Rattle.std.proofs.lemmas.List.Folds.{list_any_at, list_any_none, list_any-append}
+use Rattle.compose_cert.proofs.PairOrder.{before_means, before_trans, earlier_before, neither_is, other_before, other_behind}
 
 -- how a pair compares with the numbers i and j
 abbrev pub compared : ℕ → ℕ → ℕ × ℕ → Ordering
@@ -99,13 +102,34 @@ is_other i j p h = go (compare i j p)
       | inr g ↦ (let clash : Equal ≡ Greater = sym e ∙ g in cc)
     ]
 
--- a binary search tells whether the numbers are a pair
+-- a test that fails at each place
+none_passes : (q : ℕ × ℕ → Bool) (xs : List (ℕ × ℕ)) → ((k : ℕ) → k < length xs → q (get_or xs k (0, 0)) ≡ false) → list_any q xs ≡ false
+none_passes q xs f = list_any_none q xs (All-from_get_or (λ x. q x ≡ false) xs (0, 0) f)
+
+-- what a binary search finds is a pair
+pub found_pair : (pairs : List (ℕ × ℕ)) (i j : ℕ) (r : Result ℕ ℕ) → IsSearchInRange r (length pairs) → IsBinarySearchResult (compared i j) pairs r → is_ok r ≡ true
+    → has_pair pairs i j ≡ true
+found_pair pairs i j (Ok k) range found e = list_any_at (λ p. p.0 == i && p.1 == j) pairs k (0, 0) range (is_equal i j (get_or pairs k (0, 0)) (found (0, 0)))
+found_pair pairs i j (Err k) range found e = cc
+
+-- a binary search among rising pairs tells whether the numbers are a pair
 pub searched_pair : (pairs : List (ℕ × ℕ)) (i j : ℕ) (r : Result ℕ ℕ) → pairs_rise pairs ≡ true → IsSearchInRange r (length pairs) → IsBinarySearchResult (compared i j) pairs r
     → is_ok r ≡ has_pair pairs i j
-searched_pair pairs i j (Ok k) rise range found = sym (one_passes (λ p. p.0 == i && p.1 == j) (0, 0) pairs k range (is_equal i j (get_or pairs k (0, 0)) (found (0, 0))))
+searched_pair pairs i j (Ok k) rise range found = sym (found_pair pairs i j (Ok k) range found refl)
 searched_pair pairs i j (Err k) rise range found =
     let parts = found (rises_compared i j pairs rise) in
-    sym (none_passes (λ p. p.0 == i && p.1 == j) (0, 0) pairs (λ n h. is_other i j (get_or pairs n (0, 0)) (elim (cases_lt n k) [
+    sym (none_passes (λ p. p.0 == i && p.1 == j) pairs (λ n h. is_other i j (get_or pairs n (0, 0)) (elim (cases_lt n k) [
       | inl low ↦ inl (parts.0 n (0, 0) (omega arith) low)
       | inr high ↦ inr (parts.1 n (0, 0) high h)
     ])))
+
+-- a pair of a part is a pair of the whole
+pub pair_of_part : (pairs : List (ℕ × ℕ)) (begin end i j : ℕ) → has_pair (slice_range pairs begin end) i j ≡ true → has_pair pairs i j ≡ true
+pair_of_part pairs begin end i j h =
+    let passes : ℕ × ℕ → Bool = λ p. p.0 == i && p.1 == j in
+    let rest = drop begin pairs in
+    let of_rest : list_any passes rest ≡ true =
+    ap (list_any passes) (sym (take-append-drop (end - begin) rest)) ∙ list_any-append passes (take (end - begin) rest) (drop (end - begin) rest)
+    ∙ or_left (list_any passes (take (end - begin) rest)) (list_any passes (drop (end - begin) rest)) h in
+    ap (list_any passes) (sym (take-append-drop begin pairs)) ∙ list_any-append passes (take begin pairs) rest
+    ∙ or_right (list_any passes (take begin pairs)) (list_any passes rest) of_rest
