@@ -67,6 +67,15 @@ module _ (lengths : List ℕ) (keys i : ℕ) (start xs ys : List LeafId) (so_far
       (sym (more ∙ ap (λ b. filter (λ (leaf : LeafId). nat_eq (get_or lengths leaf.0 0) keys) (leaf_ids i) ++ cond b (leaf_id i ∷ []) []) (ne_eqb (get_or lengths i 0) keys e)
       ∙ append-nil (filter (λ (leaf : LeafId). nat_eq (get_or lengths leaf.0 0) keys) (leaf_ids i))))
 
+module _ (table : List Definition) where
+  -- the leaves by their numbers are the sequences in order
+  pub numbered : map (sequence_at table) (leaf_ids (length (leaves table))) ≡ leaves table
+  numbered = in_a_row (leaves table) (leaves table) 0 (λ i d. (let here : 0 + i ≡ i = omega arith in ap (λ n. get_or (leaves table) n d) here))
+
+  -- each leaf is one of the table's
+  pub all_leaves : All (IsLeaf table) (leaf_ids (length (leaves table)))
+  all_leaves = All-map (IsLeaf table) leaf_id (range_with_len 0 (length (leaves table))) (row_within (length (leaves table)) (length (leaves table)) 0 (omega arith))
+
 module _ (table : List Definition) (settled : IsSettled table) where
   -- a leaf of the table has the text of its sequence
   pub text_given : (leaf : LeafId) → IsLeaf table leaf → (text : List ℕ) → has_text table text leaf ≡ gives table text (sequence_at table leaf)
@@ -78,14 +87,6 @@ module _ (table : List Definition) (settled : IsSettled table) where
     where
       tested : (a b : ℕ) → a < b → nat_lt a b ≡ true
       tested a b h = search rules
-
-  -- the leaves by their numbers are the sequences in order
-  numbered : map (sequence_at table) (leaf_ids (length (leaves table))) ≡ leaves table
-  numbered = in_a_row (leaves table) (leaves table) 0 (λ i d. (let here : 0 + i ≡ i = omega arith in ap (λ n. get_or (leaves table) n d) here))
-
-  -- each leaf is one of the table's
-  pub all_leaves : All (IsLeaf table) (leaf_ids (length (leaves table)))
-  all_leaves = All-map (IsLeaf table) leaf_id (range_with_len 0 (length (leaves table))) (row_within (length (leaves table)) (length (leaves table)) 0 (omega arith))
 
   -- the leaves in the order of their lengths, of which a text is given
   pub shortest : (lengths : List ℕ) → lengths ≡ map length (leaves table) → (text : List ℕ)
@@ -102,14 +103,14 @@ module _ (table : List Definition) (settled : IsSettled table) where
       here =
           ap (λ n. map (sequence_at table) (filter (has_text table text) (flat_map (λ m. filter (λ leaf. nat_eq (get_or (map length (leaves table)) leaf.0 0) m) (leaf_ids n)) key_counts))) (length-map (leaves table) length)
           ∙ of_each (sequence_at table) (λ leaf. get_or (map length (leaves table)) leaf.0 0) counts (has_text table text) (gives table text) key_counts (leaf_ids (length (leaves table)))
-          (λ k d h. text_given (get_or (leaf_ids (length (leaves table))) k d) (all_leaves k d h) text)
-          ∙ ap (λ ss. flat_map (λ n. filter (λ s. nat_eq (length s) n) (filter (gives table text) ss)) key_counts) numbered
+          (λ k d h. text_given (get_or (leaf_ids (length (leaves table))) k d) (all_leaves table k d h) text)
+          ∙ ap (λ ss. flat_map (λ n. filter (λ s. nat_eq (length s) n) (filter (gives table text) ss)) key_counts) (numbered table)
 
   -- the leaves in the order of their lengths are the table's
   pub all_by_length : (lengths : List ℕ) → length lengths ≡ length (leaves table) → All (IsLeaf table) (by_length lengths)
   all_by_length lengths e = all_joined (IsLeaf table) (of_length lengths) (λ n.
       All-filter (λ leaf. nat_eq (get_or lengths leaf.0 0) n) (IsLeaf table) (leaf_ids (length lengths))
-      (subst (λ m. All (IsLeaf table) (leaf_ids m)) (sym e) all_leaves)) key_counts
+      (subst (λ m. All (IsLeaf table) (leaf_ids m)) (sym e) (all_leaves table))) key_counts
 
   -- those leaves, in the order of their texts
   pub made : (lengths : List ℕ) (start index : List LeafId) → lengths ≡ map length (leaves table) → start ≡ by_length lengths → IsPermutation start index
