@@ -1,0 +1,4 @@
+pub mod Given
+pub mod NextLine
+pub mod OneMore
+pub mod LastOnes

@@ -1,0 +1,13 @@
+-- Which of the lines of a file counts for a sequence (Compose(5): a later definition overrides an earlier one).
+use Rattle.std.specs.Prelude.{◌≡◌, ℕ, Bool, false, bytes_eq, List, reverse, Option, slice_get}
+use Rattle.std.specs.List.{find}
+use Rattle.std.specs.Option.{option_map_or}
+use Rattle.compose_lint.specs.Lines.{LintLine}
+
+-- the line defines the sequence
+abbrev pub defines : List ℕ → LintLine → Bool
+defines s l = option_map_or (λ d. bytes_eq d.sequence s) l.definition false
+
+-- of the lines the last one that defines the sequence
+abbrev pub last_defining : List LintLine → List ℕ → Option LintLine
+last_defining lines s = find (defines s) (reverse lines)

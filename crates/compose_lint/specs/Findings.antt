@@ -1,0 +1,89 @@
+-- What is found in the lines of a file, each kind by itself.
+use Rattle.std.specs.Prelude.{ℕ, Bool, ◌+◌, ◌&&◌, not, nat_lt, bytes_eq, if◌then◌else◌, List, [], ◌∷◌, ◌++◌, map, flat_map, Option, Some, None, option_to_list, false}
+use Rattle.std.specs.List.{list_any}
+use Rattle.std.specs.Option.{option_map_or, option_and_then}
+use Rattle.keysym_core.specs.Names.{KeysymNames}
+use Rattle.compose_model.specs.Table.{Definition}
+use Rattle.compose_lint.specs.Productions.{Written, production_of}
+use Rattle.compose_read.specs.Lines.{Source}
+use Rattle.compose_lint.specs.Lines.{LintLine, lines_in}
+use Rattle.compose_lint.specs.Counting.{last_defining}
+use Rattle.compose_lint.specs.Texts.{repeats_mark, is_normal, has_other_character}
+use Rattle.compose_lint.specs.Readers.{has_ten_keysyms, has_eleven_keysyms, has_no_symbol, has_longest_text, has_wide_keysym, has_digit_name, has_no_string, has_letter_escape}
+use Rattle.compose_lint.specs.declared.finding.Finding.{Finding}
+use Rattle.compose_lint.specs.declared.finding.Kind.{Kind}
+use Rattle.compose_lint.specs.declared.finding.Kind.TheVariants.{Overridden, Repeated, Keysym, Mark, Form, Reader}
+use Rattle.compose_lint.specs.declared.reader.Readers.{Readers}
+use Rattle.compose_lint.specs.declared.reader.Reader.TheVariants.{LibX11, Libxkbcommon, Gtk3, Gtk4}
+use Rattle.compose_lint.specs.declared.reader.Class.TheVariants.{ManyKeysyms, NoSymbol, LongestText, WideKeysym, DigitName, NoString, LetterEscape}
+
+abbrev pub when : Bool → Kind → List Kind
+when b kind = if b then kind ∷ [] else []
+
+-- ---- other lines of the file
+
+abbrev pub gives_text : List ℕ → LintLine → Bool
+gives_text text m = option_map_or (λ d. bytes_eq text d.text) m.definition false
+
+-- what a definition of the line is beside the line that counts
+abbrev pub beside : LintLine → Definition → LintLine → List Kind
+beside l d m = if nat_lt l.line m.line then (if gives_text d.text m then Repeated m.line else Overridden m.line) ∷ [] else []
+
+-- a later line of the file counts for the sequence
+abbrev pub defined_again : List LintLine → LintLine → Definition → List Kind
+defined_again lines l d = option_map_or (beside l d) (last_defining lines d.sequence) []
+
+-- ---- the line by itself
+
+abbrev pub text_kinds : KeysymNames → Written → Definition → List Kind
+text_kinds names p d = when (has_other_character names p d) Keysym ++ when (repeats_mark d.text) Mark ++ when (not (is_normal d.text)) Form
+
+-- ---- the readers that are asked for
+
+abbrev pub libx11_kinds : Readers → Definition → List Kind
+libx11_kinds readers d = when (readers.libx11 && has_ten_keysyms d) (Reader LibX11 ManyKeysyms) ++ when (readers.libx11 && has_no_symbol d) (Reader LibX11 NoSymbol)
+
+abbrev pub libxkbcommon_kinds : Readers → Written → Definition → List Kind
+libxkbcommon_kinds readers p d =
+    when (readers.libxkbcommon && has_eleven_keysyms d) (Reader Libxkbcommon ManyKeysyms)
+    ++ when (readers.libxkbcommon && has_no_symbol d) (Reader Libxkbcommon NoSymbol)
+    ++ when (readers.libxkbcommon && has_longest_text d) (Reader Libxkbcommon LongestText)
+    ++ when (readers.libxkbcommon && has_digit_name p) (Reader Libxkbcommon DigitName)
+    ++ when (readers.libxkbcommon && has_letter_escape p) (Reader Libxkbcommon LetterEscape)
+
+abbrev pub gtk_kinds : Readers → Written → Definition → List Kind
+gtk_kinds readers p d =
+    when (readers.gtk3 && has_no_string p) (Reader Gtk3 NoString)
+    ++ when (readers.gtk4 && has_wide_keysym d) (Reader Gtk4 WideKeysym)
+    ++ when (readers.gtk4 && has_no_string p) (Reader Gtk4 NoString)
+
+-- ---- all kinds
+
+-- of a line with this definition, which the production gives
+abbrev pub kinds_of : KeysymNames → Readers → List LintLine → LintLine → Written → Definition → List Kind
+kinds_of names readers lines l p d =
+    defined_again lines l d ++ text_kinds names p d ++ libx11_kinds readers d ++ libxkbcommon_kinds readers p d ++ gtk_kinds readers p d
+
+abbrev pub kinds_if : KeysymNames → Readers → List LintLine → LintLine → Option Written → Option Definition → List Kind
+kinds_if names readers lines l (Some p) (Some d) = kinds_of names readers lines l p d
+kinds_if names readers lines l _ _ = []
+
+-- what is found in a line of the file; a line that defines nothing has nothing
+abbrev pub line_kinds : KeysymNames → Readers → List LintLine → LintLine → List Kind
+line_kinds names readers lines l = kinds_if names readers lines l (production_of l.bytes) l.definition
+
+abbrev pub line_findings : KeysymNames → Readers → List LintLine → LintLine → List Finding
+line_findings names readers lines l = map (λ k. record { source = l.source; line = l.line; kind = k }) (line_kinds names readers lines l)
+
+-- what is found in the lines of a file, in order
+abbrev pub findings_in : KeysymNames → Readers → List LintLine → List Finding
+findings_in names readers lines = flat_map (line_findings names readers lines) lines
+
+-- what is found in these sources, the first of which has this index
+abbrev pub findings_from : KeysymNames → Readers → List Source → ℕ → List Source → List Finding
+findings_from names readers sources i [] = []
+findings_from names readers sources i (s ∷ rest) = findings_in names readers (lines_in names sources i) ++ findings_from names readers sources (1 + i) rest
+
+-- what is found in the lines of all sources, each once, in order
+abbrev pub findings : KeysymNames → Readers → List Source → List Finding
+findings names readers sources = findings_from names readers sources 0 sources

@@ -1,0 +1,54 @@
+-- What a production writes (Compose(5), "FILE DESCRIPTION"), and the definition that it gives.
+use Rattle.std.specs.Prelude.{ℕ, if◌then◌else◌, List, [], ◌∷◌, Option, Some, None, Result, Ok, unwrap_or}
+use Rattle.std.specs.Option.{option_map, option_and_then}
+use Rattle.std.specs.Result.{result_ok}
+use Rattle.std.specs.Str.{is_utf8}
+use Rattle.keysym_core.specs.Keysym.{is_ignored}
+use Rattle.keysym_core.specs.Names.{KeysymNames, value, text}
+use Rattle.compose_model.specs.Table.{Definition}
+use Rattle.compose_lex.specs.Line.{Reading, production}
+use Rattle.compose_lex.specs.Fault.{reading_of}
+use Rattle.compose_lex.specs.Escape.{text_of}
+use Rattle.compose_lex.specs.declared.LexFault.{LexFault}
+
+-- the names of the keys, what stands between the quotes of the string, and the name of the result keysym
+pub record Written : Type 0 where
+  pub events : List (List ℕ)
+  pub raw : Option (List ℕ)
+  pub name : Option (List ℕ)
+
+abbrev pub parts_of : Result Reading LexFault → Option Written
+parts_of (Ok (production events raw name)) = Some (record { events = events; raw = raw; name = name })
+parts_of _ = None
+
+-- what the line writes, if it is a text and reads as a production
+abbrev pub production_of : List ℕ → Option Written
+production_of line = if is_utf8 line then parts_of (reading_of line) else None
+
+-- ---- words for private functions
+
+-- the keysym of a key, if it has one that is not ignored
+abbrev pub fed_keysym : KeysymNames → List ℕ → Option ℕ
+fed_keysym names event = option_and_then (λ k. if is_ignored k then None else Some k) (value names event)
+
+-- the keysyms of the keys, if each has one
+abbrev pub fed_sequence : KeysymNames → List (List ℕ) → Option (List ℕ)
+fed_sequence names [] = Some []
+fed_sequence names (event ∷ events) = option_and_then (λ k. option_map (λ s. k ∷ s) (fed_sequence names events)) (fed_keysym names event)
+
+-- the text of the string, if the string is right
+abbrev pub string_given : Option (List ℕ) → Option (Option (List ℕ))
+string_given None = Some None
+string_given (Some raw) = option_map (λ t. Some t) (result_ok (text_of raw))
+
+-- the text of the result keysym, if its name has one; nothing where there is no name
+abbrev pub name_given : KeysymNames → Option (List ℕ) → Option (List ℕ)
+name_given names None = Some []
+name_given names (Some name) = option_map (text names) (value names name)
+
+-- the string, or else the text of the result keysym
+abbrev pub text_given : KeysymNames → Option (List ℕ) → Option (List ℕ) → Option (List ℕ)
+text_given names raw name = option_and_then (λ string. option_map (λ other. unwrap_or string other) (name_given names name)) (string_given raw)
+
+abbrev pub definition_given : KeysymNames → Written → Option Definition
+definition_given names p = option_and_then (λ s. option_map (λ t. record { sequence = s; text = t }) (text_given names p.raw p.name)) (fed_sequence names p.events)

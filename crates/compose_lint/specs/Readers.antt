@@ -1,0 +1,44 @@
+-- What other readers of Compose files make of a definition that is read here: each class is one line of docs/READERS.md.
+use Rattle.std.specs.Prelude.{ℕ, Bool, true, false, not, ◌==◌, ◌&&◌, ◌||◌, nat_lt, nat_le, List, [], ◌∷◌, length, is_some, Option}
+use Rattle.std.specs.List.{list_any}
+use Rattle.std.specs.Option.{option_map_or}
+use Rattle.std.specs.Char.{is_ascii_digit}
+use Rattle.compose_text.specs.Bytes.{begins}
+use Rattle.compose_model.specs.Table.{Definition}
+use Rattle.compose_lint.specs.Productions.{Written}
+
+-- libX11 skips a line of ten keysyms or more, libxkbcommon one of more than ten
+abbrev pub has_ten_keysyms : Definition → Bool
+has_ten_keysyms d = nat_le 10 (length d.sequence)
+
+abbrev pub has_eleven_keysyms : Definition → Bool
+has_eleven_keysyms d = nat_le 11 (length d.sequence)
+
+-- the keysym 0, `NoSymbol`: libX11 and libxkbcommon skip the line
+abbrev pub has_no_symbol : Definition → Bool
+has_no_symbol d = list_any (λ k. k == 0) d.sequence
+
+-- libxkbcommon skips a text of 255 bytes
+abbrev pub has_longest_text : Definition → Bool
+has_longest_text d = nat_le 255 (length d.text)
+
+-- GTK 4 matches no key above 0xffff
+abbrev pub has_wide_keysym : Definition → Bool
+has_wide_keysym d = list_any (λ k. nat_lt 0xffff k) d.sequence
+
+-- the name of the result begins with a digit: libxkbcommon skips the line
+abbrev pub has_digit_name : Written → Bool
+has_digit_name p = option_map_or (begins is_ascii_digit) p.name false
+
+-- GTK skips a line without a string
+abbrev pub has_no_string : Written → Bool
+has_no_string p = not (is_some p.raw)
+
+-- `\n`, `\r` or `\t` (codes 110, 114 and 116 after a backslash, code 92): libxkbcommon takes the letter
+abbrev pub has_letter_escape_from : Bool → List ℕ → Bool
+has_letter_escape_from taken [] = false
+has_letter_escape_from true (b ∷ raw) = (b == 110 || b == 114 || b == 116) || has_letter_escape_from false raw
+has_letter_escape_from false (b ∷ raw) = has_letter_escape_from (b == 92) raw
+
+abbrev pub has_letter_escape : Written → Bool
+has_letter_escape p = option_map_or (has_letter_escape_from false) p.raw false

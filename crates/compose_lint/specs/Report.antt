@@ -1,0 +1,45 @@
+-- How a finding is printed (this project's profile).
+use Rattle.std.specs.Prelude.{ℕ, if◌then◌else◌, List, [], ◌∷◌, ◌++◌, map, flat_map, slice_get, unwrap_or, codes}
+use Rattle.std.specs.Fmt.{decimal}
+use Rattle.compose_shown.specs.Shown.{shown_text}
+use Rattle.compose_lint.specs.declared.finding.Finding.{Finding}
+use Rattle.compose_lint.specs.declared.finding.Kind.{Kind}
+use Rattle.compose_lint.specs.declared.finding.Kind.TheVariants.{Overridden, Repeated, Keysym, Mark, Form, Reader}
+use Rattle.compose_lint.specs.declared.reader.Reader.{Reader as ReaderName}
+use Rattle.compose_lint.specs.declared.reader.Reader.TheVariants.{LibX11, Libxkbcommon, Gtk3, Gtk4}
+use Rattle.compose_lint.specs.declared.reader.Class.{Class}
+use Rattle.compose_lint.specs.declared.reader.Class.TheVariants.{ManyKeysyms, NoSymbol, LongestText, WideKeysym, DigitName, NoString, LetterEscape}
+
+abbrev pub reader_word : ReaderName → List ℕ
+reader_word LibX11 = codes "libX11"
+reader_word Libxkbcommon = codes "libxkbcommon"
+reader_word Gtk3 = codes "gtk3"
+reader_word Gtk4 = codes "gtk4"
+
+abbrev pub class_said : Class → List ℕ
+class_said ManyKeysyms = codes "the line is skipped, as its sequence has more keysyms than are read"
+class_said NoSymbol = codes "the line is skipped, as its sequence has the keysym 0"
+class_said LongestText = codes "the line is skipped, as its text has 255 bytes"
+class_said WideKeysym = codes "the sequence is never typed, as a keysym of it is above 0xffff"
+class_said DigitName = codes "the line is skipped, as the name of its result begins with a digit"
+class_said NoString = codes "the line is skipped, as it has no string"
+class_said LetterEscape = codes "of the escapes \\n, \\r and \\t the letter is typed"
+
+abbrev pub kind_said : Kind → List ℕ
+kind_said (Overridden line) = codes "overridden: line " ++ decimal line ++ codes " gives the sequence another text, which counts"
+kind_said (Repeated line) = codes "repeated: line " ++ decimal line ++ codes " gives the sequence the same text again"
+kind_said Keysym = codes "keysym: the keysym after the string has another character"
+kind_said Mark = codes "mark: the text has one combining mark twice in a row"
+kind_said Form = codes "form: the text is not in normal form C"
+kind_said (Reader reader class) = reader_word reader ++ codes ": " ++ class_said class
+
+-- the path of the source with this index; nothing where there is none
+abbrev pub path_of : List (List ℕ) → ℕ → List ℕ
+path_of paths source = unwrap_or (slice_get paths source) []
+
+-- `PATH:LINE:1: KIND: SENTENCE`, and a newline (code 10)
+abbrev pub finding_line : List (List ℕ) → Finding → List ℕ
+finding_line paths f = shown_text (path_of paths f.source) ++ codes ":" ++ decimal f.line ++ codes ":1: " ++ kind_said f.kind ++ 10 ∷ []
+
+abbrev pub findings_text : List (List ℕ) → List Finding → List ℕ
+findings_text paths findings = flat_map (finding_line paths) findings

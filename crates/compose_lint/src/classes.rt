@@ -1,0 +1,94 @@
+//! What other readers make of a definition.
+ghost use Rattle.std.specs.Prelude.{◌≡◌, false};
+ghost use Rattle.std.specs.Char.{is_ascii_digit};
+ghost use Rattle.compose_text.specs.Bytes.{begins};
+ghost use Rattle.compose_lint.specs.Readers as words;
+
+use crate::definition::LineDefinition;
+use crate::production::Production;
+
+/// Whether the sequence has ten keysyms or more. O(1).
+pub(crate) fn has_ten_keysyms(definition: &LineDefinition) -> bool
+    ensures { result ≡ words.has_ten_keysyms definition.now }
+{
+    definition.sequence().len() >= 10
+}
+
+/// Whether the sequence has eleven keysyms or more. O(1).
+pub(crate) fn has_eleven_keysyms(definition: &LineDefinition) -> bool
+    ensures { result ≡ words.has_eleven_keysyms definition.now }
+{
+    definition.sequence().len() >= 11
+}
+
+/// Whether the keysym 0 is in the sequence. O(keysyms).
+pub(crate) fn has_no_symbol(definition: &LineDefinition) -> bool
+    ensures { result ≡ words.has_no_symbol definition.now }
+{
+    definition.sequence().iter().any(|keysym| keysym.value() == 0)
+}
+
+/// Whether the text has 255 bytes. O(1).
+pub(crate) fn has_longest_text(definition: &LineDefinition) -> bool
+    ensures { result ≡ words.has_longest_text definition.now }
+{
+    definition.text().len() >= 255
+}
+
+/// Whether a keysym above 0xffff is in the sequence. O(keysyms).
+pub(crate) fn has_wide_keysym(definition: &LineDefinition) -> bool
+    ensures { result ≡ words.has_wide_keysym definition.now }
+{
+    definition.sequence().iter().any(|keysym| keysym.value() > 0xffff)
+}
+
+/// Whether the name of the result begins with a digit. O(1).
+pub(crate) fn has_digit_name(production: &Production<'_>) -> bool
+    ensures { result ≡ words.has_digit_name production.now }
+{
+    match production.result_name() {
+        Some(name) => begins_with_digit(name.as_bytes()),
+        None => false,
+    }
+}
+
+/// Whether the first byte is a digit.
+fn begins_with_digit(name: &[u8]) -> bool
+    ensures { result ≡ begins is_ascii_digit name.now }
+{
+    match name.first() {
+        Some(byte) => byte.is_ascii_digit(),
+        None => false,
+    }
+}
+
+/// Whether there is no string. O(1).
+pub(crate) fn has_no_string(production: &Production<'_>) -> bool
+    ensures { result ≡ words.has_no_string production.now }
+{
+    production.raw_text().is_none()
+}
+
+/// Whether the string has the escape of a letter. O(bytes).
+pub(crate) fn has_letter_escape(production: &Production<'_>) -> bool
+    ensures { result ≡ words.has_letter_escape production.now }
+{
+    match production.raw_text() {
+        Some(raw) => has_letter_escape_in(raw.as_bytes()),
+        None => false,
+    }
+}
+
+/// Whether one of the letters n, r and t follows a backslash that begins an escape.
+fn has_letter_escape_in(raw: &[u8]) -> bool
+    ensures { result ≡ words.has_letter_escape_from false raw.now }
+{
+    let mut taken = false;
+    for byte in raw {
+        if taken && matches!(*byte, b'n' | b'r' | b't') {
+            return true;
+        }
+        taken = !taken && *byte == b'\\';
+    }
+    false
+}

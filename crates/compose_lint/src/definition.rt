@@ -1,0 +1,173 @@
+//! The definition that a line gives.
+ghost use Rattle.std.specs.Prelude.{◌≡◌, ◌++◌, List, map, length, Some, IfOk, option_copied, string_bytes};
+ghost use Rattle.std.specs.Option.{option_map};
+ghost use Rattle.std.specs.Result.{result_ok};
+ghost use Rattle.keysym_core.specs.Names.{text};
+ghost use Rattle.compose_lex.specs.Escape.{text_of};
+ghost use Rattle.compose_read.specs.Lines.{Source, Visit};
+ghost use Rattle.compose_read.specs.Read.{line_gives};
+ghost use Rattle.compose_lint.specs.Productions as words;
+ghost use Rattle.compose_lint.specs.Lines.{definition_in};
+
+use crate::production::{Production, production_of};
+use compose_lex::{LexFault, unescape};
+use keysym_core::{Keysym, Names};
+use std::alloc::{AllocError, Global};
+use std::marker::Model;
+
+/// A definition: a sequence of keysyms and a text.
+#[derive(Drop)]
+pub(crate) struct LineDefinition {
+    pub(crate) sequence: Vec<Keysym>,
+    pub(crate) text: String,
+}
+
+impl Model for LineDefinition {
+    ghost use Rattle.std.specs.Prelude.{string_bytes};
+    ghost use Rattle.compose_model.specs.Table.{Definition};
+
+    ghost Value = { Definition };
+
+    ghost view = { λ d. record { sequence = d.sequence.items; text = string_bytes d.text } };
+}
+
+impl LineDefinition {
+    ghost use Rattle.std.specs.Prelude.{◌≡◌};
+
+    pub(crate) fn sequence(&self) -> &[Keysym]
+        ensures { result.now ≡ self.now.sequence }
+    {
+        &self.sequence
+    }
+
+    pub(crate) fn text(&self) -> &str
+        ensures { result.now ≡ self.now.text }
+    {
+        &self.text
+    }
+}
+
+/// The definition that a line gives; a faulty line gives none. O(bytes).
+pub(crate) fn line_definition(
+    alloc: Global,
+    names: &Names,
+    line: &[u8],
+) -> Result<Option<LineDefinition>, AllocError>
+    ensures { (sources : List Source) (v : Visit) → v.bytes ≡ line.now
+        → IfOk result (λ d. d ≡ definition_in (line_gives names.now sources v)) }
+{
+    match production_of(line) {
+        Some(production) => definition_given(alloc, names, &production),
+        None => Ok(None),
+    }
+}
+
+/// The definition that a production gives, if its keys have keysyms and its text is right.
+fn definition_given(
+    alloc: Global,
+    names: &Names,
+    production: &Production<'_>,
+) -> Result<Option<LineDefinition>, AllocError>
+    ensures { IfOk result (λ d. d ≡ words.definition_given names.now production.now) }
+{
+    let Some(sequence) = fed_sequence(alloc, names, &production.events)? else {
+        return Ok(None);
+    };
+    match text_given(alloc, names, production.raw_text, production.result_name)? {
+        Some(text) => Ok(Some(LineDefinition { sequence, text })),
+        None => Ok(None),
+    }
+}
+
+/// The keysyms of these keys, if each has one that is not ignored.
+fn fed_sequence(
+    alloc: Global,
+    names: &Names,
+    events: &[&str],
+) -> Result<Option<Vec<Keysym>>, AllocError>
+    ensures { IfOk result
+        (λ sequence. option_map (λ keysyms. keysyms.items) sequence
+        ≡ words.fed_sequence names.now (map (λ e. e.now) events.now)) }
+{
+    let mut sequence = Vec::with_capacity(alloc, events.len())?;
+    for event in events {
+        let Some(keysym) = fed_keysym(names, event) else {
+            return Ok(None);
+        };
+        sequence.push(keysym)?;
+    }
+    Ok(Some(sequence))
+}
+
+/// The keysym of a key, if it has one that is not ignored.
+fn fed_keysym(names: &Names, event: &str) -> Option<Keysym>
+    ensures { result ≡ words.fed_keysym names.now event.now }
+{
+    let keysym = names.lookup(event)?;
+    if keysym.is_ignored() {
+        return None;
+    }
+    Some(keysym)
+}
+
+/// The text of a string, or else of a result keysym, if both are right.
+fn text_given(
+    alloc: Global,
+    names: &Names,
+    raw: Option<&str>,
+    name: Option<&str>,
+) -> Result<Option<String>, AllocError>
+    ensures { IfOk result
+        (λ text. option_map string_bytes text
+        ≡ words.text_given names.now (option_copied raw.entry) (option_copied name.entry)) }
+{
+    let Some(other) = name_given(alloc, names, name)? else {
+        return Ok(None);
+    };
+    match raw {
+        Some(raw) => string_text(alloc, raw),
+        None => Ok(Some(other)),
+    }
+}
+
+/// The text of the keysym of this name, if the name has one; nothing where there is no name.
+fn name_given(
+    alloc: Global,
+    names: &Names,
+    name: Option<&str>,
+) -> Result<Option<String>, AllocError>
+    ensures { IfOk result
+        (λ text. option_map string_bytes text
+        ≡ words.name_given names.now (option_copied name.entry)) }
+{
+    let Some(name) = name else {
+        return Ok(Some(String::new(alloc)));
+    };
+    match names.lookup(name) {
+        Some(keysym) => Ok(Some(keysym_text(alloc, names, keysym)?)),
+        None => Ok(None),
+    }
+}
+
+/// The text of a keysym; nothing where it has no character.
+fn keysym_text(alloc: Global, names: &Names, keysym: Keysym) -> Result<String, AllocError>
+    ensures { IfOk result (λ given. string_bytes given ≡ text names.now keysym) }
+{
+    let mut given = String::new(alloc);
+    if let Some(character) = names.text_of(keysym) {
+        given.push(character)?;
+    }
+    Ok(given)
+}
+
+/// The text that a raw text stands for, if it is right.
+fn string_text(alloc: Global, raw: &str) -> Result<Option<String>, AllocError>
+    ensures { IfOk result
+        (λ text. option_map string_bytes text ≡ result_ok (text_of raw.now)) }
+{
+    match unescape(alloc, raw) {
+        Ok(text) => Ok(Some(text)),
+        Err(LexFault::NoMemory) => Err(AllocError),
+        Err(_) => Ok(None),
+    }
+}

@@ -1,0 +1,27 @@
+//! What is found in a line.
+use crate::reader::{Class, Reader};
+
+/// What is found in a line.
+#[derive(Clone, Copy, Debug, PartialEq, Eq, Drop)]
+pub enum Kind {
+    /// The line with this number of the same file defines the sequence again, with another text.
+    Overridden { line: usize },
+    /// The line with this number of the same file defines the sequence again, with the same text.
+    Repeated { line: usize },
+    /// The keysym beside the string has another character.
+    Keysym,
+    /// The text has one combining mark twice in a row.
+    Mark,
+    /// The text is not in normal form C.
+    Form,
+    /// The reader doesn't take the line, or types it otherwise.
+    Reader(Reader, Class),
+}
+
+/// A finding: the index of its source, from 0, the number of its line, from 1, and what is found there.
+#[derive(Clone, Copy, Debug, PartialEq, Eq, Drop)]
+pub struct Finding {
+    pub source: usize,
+    pub line: usize,
+    pub kind: Kind,
+}

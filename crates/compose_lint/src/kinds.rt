@@ -1,0 +1,275 @@
+//! What is found in the lines of a file.
+ghost use Rattle.std.specs.Prelude.{◌≡◌, ◌++◌, ℕ, List, IfOk, OnOk, bytes_eq, slice_get, option_copied, map};
+ghost use Rattle.std.specs.Borrow.{Bor};
+ghost use Rattle.std.specs.Option.{option_and_then};
+ghost use Rattle.indexmap.specs.IndexMap.{get_by};
+ghost use Rattle.compose_lint.specs.Counting.{last_defining};
+ghost use Rattle.compose_lint.specs.Findings as words;
+
+use crate::classes::{
+    has_digit_name, has_eleven_keysyms, has_letter_escape, has_longest_text, has_no_string,
+    has_no_symbol, has_ten_keysyms, has_wide_keysym,
+};
+use crate::counting::{LastLines, last_lines};
+use crate::definition::LineDefinition;
+use crate::finding::{Finding, Kind};
+use crate::lines::LintLine;
+use crate::production::Production;
+use crate::reader::{Class, Reader, Readers};
+use crate::texts::{has_other_character, is_normal, repeats_mark};
+use keysym_core::{Keysym, Names};
+use std::alloc::{AllocError, Global};
+
+/// Adds this kind, where it is so.
+fn push_when(kinds: &mut Vec<Kind>, is_so: bool, kind: Kind) -> Result<(), AllocError>
+    ensures { OnOk result (kinds.new.items ≡ kinds.old.items ++ words.when is_so kind) }
+{
+    if is_so {
+        kinds.push(kind)?;
+    }
+    Ok(())
+}
+
+/// Whether the definition of a line has this text.
+fn gives_text(text: &str, line: &LintLine<'_>) -> bool
+    ensures { result ≡ words.gives_text text.now line.now }
+{
+    match line.definition() {
+        Some(definition) => text == definition.text(),
+        None => false,
+    }
+}
+
+/// Adds that a later line of the file counts for the sequence, if so.
+fn push_defined_again(
+    kinds: &mut Vec<Kind>,
+    lines: &[LintLine<'_>],
+    last: &LastLines<'_>,
+    line: &LintLine<'_>,
+    definition: &LineDefinition,
+) -> Result<(), AllocError>
+    requires { (q : Bor (List ℕ))
+        → option_and_then (slice_get lines.now) (get_by (λ k. bytes_eq q.now k.now) last.now)
+        ≡ last_defining lines.now q.now }
+    ensures { OnOk result
+        (kinds.new.items
+        ≡ kinds.old.items ++ words.defined_again lines.now line.now definition.now) }
+{
+    match counting_line(lines, last, definition.sequence()) {
+        Some(counting) => push_beside(kinds, line, definition, counting),
+        None => Ok(()),
+    }
+}
+
+/// The line that counts for a sequence, if there is one.
+fn counting_line<'b, 'a>(
+    lines: &'b [LintLine<'a>],
+    last: &LastLines<'_>,
+    sequence: &[Keysym],
+) -> Option<&'b LintLine<'a>>
+    requires { (q : Bor (List ℕ))
+        → option_and_then (slice_get lines.now) (get_by (λ k. bytes_eq q.now k.now) last.now)
+        ≡ last_defining lines.now q.now }
+    ensures { option_copied result ≡ last_defining lines.now sequence.now }
+{
+    lines.get(*last.get(sequence)?)
+}
+
+/// Adds what a definition of the line is beside the line that counts.
+fn push_beside(
+    kinds: &mut Vec<Kind>,
+    line: &LintLine<'_>,
+    definition: &LineDefinition,
+    counting: &LintLine<'_>,
+) -> Result<(), AllocError>
+    ensures { OnOk result
+        (kinds.new.items
+        ≡ kinds.old.items ++ words.beside line.now definition.now counting.now) }
+{
+    if line.line() >= counting.line() {
+        return Ok(());
+    }
+    let line = counting.line();
+    if gives_text(definition.text(), counting) {
+        kinds.push(Kind::Repeated { line })?;
+    } else {
+        kinds.push(Kind::Overridden { line })?;
+    }
+    Ok(())
+}
+
+/// Adds what is wrong with the text by itself.
+fn push_text_kinds(
+    alloc: Global,
+    names: &Names,
+    kinds: &mut Vec<Kind>,
+    production: &Production<'_>,
+    definition: &LineDefinition,
+) -> Result<(), AllocError>
+    ensures { OnOk result
+        (kinds.new.items
+        ≡ kinds.old.items ++ words.text_kinds names.now production.now definition.now) }
+{
+    let is_other = has_other_character(names, production, definition);
+    push_when(kinds, is_other, Kind::Keysym)?;
+    push_when(kinds, repeats_mark(definition.text()), Kind::Mark)?;
+    push_when(kinds, !is_normal(alloc, definition.text())?, Kind::Form)
+}
+
+/// Adds what libX11 doesn't take.
+fn push_libx11_kinds(
+    kinds: &mut Vec<Kind>,
+    readers: Readers,
+    definition: &LineDefinition,
+) -> Result<(), AllocError>
+    ensures { OnOk result
+        (kinds.new.items ≡ kinds.old.items ++ words.libx11_kinds readers definition.now) }
+{
+    let reader = Reader::LibX11;
+    let many = readers.libx11 && has_ten_keysyms(definition);
+    push_when(kinds, many, Kind::Reader(reader, Class::ManyKeysyms))?;
+    let none = readers.libx11 && has_no_symbol(definition);
+    push_when(kinds, none, Kind::Reader(reader, Class::NoSymbol))
+}
+
+/// Adds what libxkbcommon doesn't take.
+fn push_libxkbcommon_kinds(
+    kinds: &mut Vec<Kind>,
+    readers: Readers,
+    production: &Production<'_>,
+    definition: &LineDefinition,
+) -> Result<(), AllocError>
+    ensures { OnOk result
+        (kinds.new.items
+        ≡ kinds.old.items
+        ++ words.libxkbcommon_kinds readers production.now definition.now) }
+{
+    let reader = Reader::Libxkbcommon;
+    let many = readers.libxkbcommon && has_eleven_keysyms(definition);
+    push_when(kinds, many, Kind::Reader(reader, Class::ManyKeysyms))?;
+    let none = readers.libxkbcommon && has_no_symbol(definition);
+    push_when(kinds, none, Kind::Reader(reader, Class::NoSymbol))?;
+    let long = readers.libxkbcommon && has_longest_text(definition);
+    push_when(kinds, long, Kind::Reader(reader, Class::LongestText))?;
+    let digit = readers.libxkbcommon && has_digit_name(production);
+    push_when(kinds, digit, Kind::Reader(reader, Class::DigitName))?;
+    let letter = readers.libxkbcommon && has_letter_escape(production);
+    push_when(kinds, letter, Kind::Reader(reader, Class::LetterEscape))
+}
+
+/// Adds what GTK doesn't take.
+fn push_gtk_kinds(
+    kinds: &mut Vec<Kind>,
+    readers: Readers,
+    production: &Production<'_>,
+    definition: &LineDefinition,
+) -> Result<(), AllocError>
+    ensures { OnOk result
+        (kinds.new.items
+        ≡ kinds.old.items ++ words.gtk_kinds readers production.now definition.now) }
+{
+    let none = has_no_string(production);
+    push_when(kinds, readers.gtk3 && none, Kind::Reader(Reader::Gtk3, Class::NoString))?;
+    let wide = readers.gtk4 && has_wide_keysym(definition);
+    push_when(kinds, wide, Kind::Reader(Reader::Gtk4, Class::WideKeysym))?;
+    push_when(kinds, readers.gtk4 && none, Kind::Reader(Reader::Gtk4, Class::NoString))
+}
+
+/// The names, the readers that are asked for, and the lines of a file.
+#[derive(Clone, Copy)]
+pub(crate) struct LintFile<'b, 'a> {
+    pub(crate) names: &'b Names,
+    pub(crate) readers: Readers,
+    pub(crate) lines: &'b [LintLine<'a>],
+}
+
+/// What is found in a line of the file with this definition, which the production gives.
+fn kinds_of(
+    alloc: Global,
+    file: LintFile<'_, '_>,
+    last: &LastLines<'_>,
+    line: &LintLine<'_>,
+    production: &Production<'_>,
+    definition: &LineDefinition,
+) -> Result<Vec<Kind>, AllocError>
+    requires { (q : Bor (List ℕ))
+        → option_and_then (slice_get file.lines.now) (get_by (λ k. bytes_eq q.now k.now) last.now)
+        ≡ last_defining file.lines.now q.now }
+    ensures { IfOk result
+        (λ kinds. kinds.items
+        ≡ words.kinds_of file.entry.names.now file.entry.readers file.entry.lines.now line.now
+        production.now definition.now) }
+{
+    let mut kinds = Vec::new(alloc);
+    push_defined_again(&mut kinds, file.lines, last, line, definition)?;
+    push_text_kinds(alloc, file.names, &mut kinds, production, definition)?;
+    push_libx11_kinds(&mut kinds, file.readers, definition)?;
+    push_libxkbcommon_kinds(&mut kinds, file.readers, production, definition)?;
+    push_gtk_kinds(&mut kinds, file.readers, production, definition)?;
+    Ok(kinds)
+}
+
+/// What is found in a line of the file.
+fn line_kinds(
+    alloc: Global,
+    file: LintFile<'_, '_>,
+    last: &LastLines<'_>,
+    line: &LintLine<'_>,
+) -> Result<Vec<Kind>, AllocError>
+    requires { (q : Bor (List ℕ))
+        → option_and_then (slice_get file.lines.now) (get_by (λ k. bytes_eq q.now k.now) last.now)
+        ≡ last_defining file.lines.now q.now }
+    ensures { IfOk result
+        (λ kinds. kinds.items
+        ≡ words.line_kinds file.entry.names.now file.entry.readers file.entry.lines.now line.now) }
+{
+    match (line.production(), line.definition()) {
+        (Some(production), Some(definition)) => {
+            kinds_of(alloc, file, last, line, &production, definition)
+        }
+        _ => Ok(Vec::new(alloc)),
+    }
+}
+
+/// Adds that these kinds are found in the line.
+fn push_kinds(
+    findings: &mut Vec<Finding>,
+    line: &LintLine<'_>,
+    kinds: &[Kind],
+) -> Result<(), AllocError>
+    ensures { OnOk result
+        (findings.new.items
+        ≡ findings.old.items
+        ++ map (λ k. record { source = line.now.source; line = line.now.line; kind = k })
+        kinds.now) }
+{
+    let (source, line) = (line.source(), line.line());
+    for kind in kinds {
+        findings.push(Finding {
+            source,
+            line,
+            kind: *kind,
+        })?;
+    }
+    Ok(())
+}
+
+/// Adds what is found in the lines of a file, in order. O(bytes).
+pub(crate) fn push_findings(
+    alloc: Global,
+    findings: &mut Vec<Finding>,
+    file: LintFile<'_, '_>,
+) -> Result<(), AllocError>
+    ensures { OnOk result
+        (findings.new.items
+        ≡ findings.old.items
+        ++ words.findings_in file.entry.names.now file.entry.readers file.entry.lines.now) }
+{
+    let lines = file.lines;
+    let last = last_lines(alloc, lines)?;
+    for line in lines {
+        let kinds = line_kinds(alloc, file, &last, line)?;
+        push_kinds(findings, line, &kinds)?;
+    }
+    Ok(())
+}

@@ -1,0 +1,20 @@
+//! What is wrong in a table, and which readers of Compose files don't take it.
+#![tactic(auto)]
+
+mod answer;
+mod classes;
+mod counting;
+mod definition;
+mod finding;
+mod kinds;
+mod lines;
+mod lint;
+mod production;
+mod reader;
+mod report;
+mod texts;
+
+pub use answer::{LintInput, lint_table};
+pub use finding::{Finding, Kind};
+pub use lint::find_findings;
+pub use reader::{Class, Reader, Readers};

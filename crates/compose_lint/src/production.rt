@@ -1,0 +1,70 @@
+//! What a production writes.
+ghost use Rattle.std.specs.Prelude.{◌≡◌};
+ghost use Rattle.compose_lint.specs.Productions.{production_of};
+
+use arrayvec::ArrayVec;
+use compose_lex::{Said, lex_line_into};
+use std::marker::Model;
+
+/// What a production writes: the names of its keys, what stands between the quotes of its string,
+/// and the name of its result keysym.
+#[derive(Drop)]
+pub(crate) struct Production<'a> {
+    pub(crate) events: ArrayVec<&'a str, 32>,
+    pub(crate) raw_text: Option<&'a str>,
+    pub(crate) result_name: Option<&'a str>,
+}
+
+impl<'a> Model for Production<'a> {
+    ghost use Rattle.std.specs.Prelude.{map, option_copied};
+    ghost use Rattle.compose_lint.specs.Productions.{Written};
+
+    ghost Value = { Written };
+
+    ghost view = { λ p. record {
+      events = map (λ e. e.now) p.events.items;
+      raw = option_copied p.raw_text;
+      name = option_copied p.result_name;
+    } };
+}
+
+impl<'a> Production<'a> {
+    ghost use Rattle.std.specs.Prelude.{◌≡◌, option_copied};
+
+    /// What stands between the quotes of the string, if there is one.
+    pub(crate) fn raw_text(&self) -> Option<&'a str>
+        ensures { option_copied result ≡ self.now.raw }
+    {
+        self.raw_text
+    }
+
+    /// The name of the result keysym, if there is one.
+    pub(crate) fn result_name(&self) -> Option<&'a str>
+        ensures { option_copied result ≡ self.now.name }
+    {
+        self.result_name
+    }
+}
+
+/// What the line writes, if it reads as a production. O(bytes).
+pub(crate) fn production_of(line: &[u8]) -> Option<Production<'_>>
+    ensures { result ≡ production_of line.now }
+{
+    let Ok(text) = str::from_utf8(line) else {
+        return None;
+    };
+    let mut events = ArrayVec::new();
+    match lex_line_into(text, &mut events) {
+        Ok(
+            Said::Production {
+                raw_text,
+                result_name,
+            },
+        ) => Some(Production {
+            events,
+            raw_text,
+            result_name,
+        }),
+        _ => None,
+    }
+}

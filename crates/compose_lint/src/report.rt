@@ -1,0 +1,119 @@
+//! How findings are printed.
+ghost use Rattle.std.specs.Prelude.{◌≡◌, ◌++◌, map, IfOk, OnOk, string_bytes};
+ghost use Rattle.compose_lint.specs.Report as words;
+
+use crate::finding::{Finding, Kind};
+use crate::reader::{Class, Reader};
+use compose_shown::Shown;
+use std::alloc::{AllocError, Global};
+use std::fmt;
+use std::fmt::Write;
+
+impl fmt::Display for Reader {
+    ghost use Rattle.std.specs.Prelude.{Some};
+    ghost use Rattle.compose_lint.specs.Report.{reader_word};
+
+    ghost output = { λ reader. Some (reader_word reader) };
+
+    fn fmt<W: fmt::Write>(&self, f: &mut fmt::Formatter<W>) -> fmt::Result {
+        f.write_str(match self {
+            Reader::LibX11 => "libX11",
+            Reader::Libxkbcommon => "libxkbcommon",
+            Reader::Gtk3 => "gtk3",
+            Reader::Gtk4 => "gtk4",
+        })
+    }
+}
+
+impl fmt::Display for Class {
+    ghost use Rattle.std.specs.Prelude.{Some};
+    ghost use Rattle.compose_lint.specs.Report.{class_said};
+
+    ghost output = { λ class. Some (class_said class) };
+
+    fn fmt<W: fmt::Write>(&self, f: &mut fmt::Formatter<W>) -> fmt::Result {
+        match self {
+            Class::ManyKeysyms => {
+                f.write_str("the line is skipped, as its sequence has more keysyms than are read")
+            }
+            Class::NoSymbol => {
+                f.write_str("the line is skipped, as its sequence has the keysym 0")
+            }
+            Class::LongestText => f.write_str("the line is skipped, as its text has 255 bytes"),
+            Class::WideKeysym => {
+                f.write_str("the sequence is never typed, as a keysym of it is above 0xffff")
+            }
+            Class::DigitName => {
+                f.write_str("the line is skipped, as the name of its result begins with a digit")
+            }
+            Class::NoString => f.write_str("the line is skipped, as it has no string"),
+            Class::LetterEscape => {
+                f.write_str("of the escapes \\n, \\r and \\t the letter is typed")
+            }
+        }
+    }
+}
+
+/// Printed as the word of the kind, a colon and a sentence.
+impl fmt::Display for Kind {
+    ghost use Rattle.std.specs.Prelude.{Some};
+    ghost use Rattle.compose_lint.specs.Report.{kind_said};
+
+    ghost output = { λ kind. Some (kind_said kind) };
+
+    fn fmt<W: fmt::Write>(&self, f: &mut fmt::Formatter<W>) -> fmt::Result {
+        match self {
+            Kind::Overridden { line } => write!(
+                f,
+                "overridden: line {line} gives the sequence another text, which counts"
+            ),
+            Kind::Repeated { line } => {
+                write!(f, "repeated: line {line} gives the sequence the same text again")
+            }
+            Kind::Keysym => f.write_str("keysym: the keysym after the string has another character"),
+            Kind::Mark => f.write_str("mark: the text has one combining mark twice in a row"),
+            Kind::Form => f.write_str("form: the text is not in normal form C"),
+            Kind::Reader(reader, class) => write!(f, "{reader}: {class}"),
+        }
+    }
+}
+
+/// The findings as text, a line for each. O(findings).
+pub(crate) fn findings_text(
+    alloc: Global,
+    paths: &[&str],
+    findings: &[Finding],
+) -> Result<String, AllocError>
+    ensures { IfOk result
+        (λ text. string_bytes text
+        ≡ words.findings_text (map (λ path. path.now) paths.now) findings.now) }
+{
+    let mut text = String::new(alloc);
+    for finding in findings {
+        push_line(&mut text, paths, *finding)?;
+    }
+    Ok(text)
+}
+
+/// Adds the line of a finding.
+fn push_line(text: &mut String, paths: &[&str], finding: Finding) -> Result<(), AllocError>
+    ensures { OnOk result
+        (string_bytes text.new
+        ≡ string_bytes text.old
+        ++ words.finding_line (map (λ path. path.now) paths.now) finding) }
+{
+    let path = Shown(path_of(paths, finding.source));
+    let (line, kind) = (finding.line, finding.kind);
+    writeln!(text, "{path}:{line}:1: {kind}")?;
+    Ok(())
+}
+
+/// The path of the source with this index; nothing where there is none.
+fn path_of<'a>(paths: &[&'a str], source: usize) -> &'a str
+    ensures { result.now ≡ words.path_of (map (λ path. path.now) paths.now) source }
+{
+    match paths.get(source) {
+        Some(path) => path,
+        None => "",
+    }
+}
