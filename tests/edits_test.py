@@ -60,11 +60,22 @@ pub fn before(a: u8) -> u8
     let less: u8 = 1;
     a - less
 }
+
+/// Twice a number, for C.
+#[unsafe(no_mangle)]
+pub extern "C" fn neighbours_double(a: u8) -> u8
+    requires { a ≤ 99 }
+    ensures { result ≡ a + a }
+{
+    let same = a;
+    a + same
+}
 """
 
 # What an edit writes in the place of what, and how its line must begin.
 EDITS = {
     "wrong_answer": ("    let more: u8 = 1;", "    let more: u8 = 2;", "refused by "),
+    "wrong_for_c": ("    let same = a;", "    let same: u8 = 1;", "refused by "),
     "same_meaning": ("    if a < b {", "    if a <= b {", "NOT REFUSED"),
     "only_its_callee_is_wrong": ("    let one = next(a);", "    let one = if a == 0 { 1 } else { next(a) };", "NOT REFUSED"),
     "does_not_compile": ("    let less: u8 = 1;", "    let less: u8 = true;", "BAD EDIT"),
@@ -96,7 +107,7 @@ def lines_of_the_runner():
         for folder in ("src", "must-fail"):
             os.makedirs(os.path.join(crate, folder))
         texts = {f"must-fail/{name}.edit": f"file: src/lib.rt\nold: {old}\nnew: {new}\n" for name, (old, new, _) in EDITS.items()}
-        for path, text in {**texts, "src/lib.rt": SOURCE, "../../crates.txt": "neighbours:\n"}.items():
+        for path, text in {**texts, "src/lib.rt": SOURCE, "../../crates.txt": "neighbours staticlib:\n"}.items():
             with open(os.path.join(crate, path), "w", encoding="utf-8") as file:
                 file.write(text)
         subprocess.run(["git", "init", "-q"], cwd=room, check=True)
@@ -111,7 +122,7 @@ def tests_of_the_runner():
     for name, (_, _, begin) in EDITS.items():
         said = lines.get(name, "no line")
         yield f"{name}: {said[:60]}", said.startswith(begin)
-    yield f"counts: {counts}", counts == "1 passed, 4 failed"
+    yield f"counts: {counts}", counts == "2 passed, 4 failed"
     yield f"status: {status}", status == 1
 
 

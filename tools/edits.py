@@ -45,7 +45,7 @@ LARGEST_BATCH = 40
 # The most memory that a check of a batch was seen to take, in bytes.
 MEMORY = 2_600_000_000
 # A function as rt fmt lays it out: no line between its first and its last begins at its indent, but those that its head and its body are written on.
-FUNCTION = re.compile(r"^( *)(?:pub(?:\(\w+\))? )?(?:const )?(?:unsafe )?fn (\w+).*(?:\n(?:\1(?: .*|\).*|\{|where.*))?)*?\n\1\}$", re.M)
+FUNCTION = re.compile(r"^( *)(?:pub(?:\(\w+\))? )?(?:const )?(?:unsafe )?(?:extern \"\w+\" )?fn (\w+).*(?:\n(?:\1(?: .*|\).*|\{|where.*))?)*?\n\1\}$", re.M)
 IMPL = re.compile(r"(?:unsafe )?impl(?:<(?:[^<>]|<[^<>]*>)*>)? (?:(.*) for )?(.*) \{")
 # A goal that is not proved: such notes stand above the line of their function, and behind the line of the item before.
 OPEN_GOAL = re.compile(r"note: src/\S+ it is not proved that .*?\(`([^`]+)`\)(?:;|$)")

@@ -1,0 +1,122 @@
+-- A key that is asked about is typed once.
+use Rattle.std.proofs.Common.{◌≡◌, ℕ, suc, ◌-◌, ◌==◌, ◌&&◌, Bool, true, false, cond, refl, ap, sym, ◌∙◌, List, [], ◌∷◌, ◌++◌, length, map}
+use Rattle.std.specs.Prelude.{Some}
+use Rattle.std.proofs.lemmas.Bool.{eq-eqb}
+use Rattle.std.proofs.Math.Dec.{eqb-suc-zero}
+use Rattle.std.proofs.Math.Numerals.{sub-one}
+use Rattle.keysym_core.specs.Names.{KeysymNames}
+use Rattle.compose_model.specs.Table.{Definition}
+use Rattle.compose_model.specs.Step.{pending, pending_from, pending_after}
+use Rattle.compose_model.specs.Session.{Session, rest, fed as session_fed}
+use Rattle.compose_model.specs.declared.Status.{Status}
+use Rattle.compose_model.proofs.Reached.{pending_reached}
+use Rattle.compose_wire.specs.Messages.{Body, key, ask, Answer, fed, was_reset, refused, session_taken}
+use Rattle.compose_typing.specs.declared.action.Verdict.{Verdict}
+use Rattle.compose_typing.specs.declared.action.Action.TheVariants.{Wait, Connect, Tell}
+use Rattle.compose_typing.specs.declared.stage.Waiting.{Waiting}
+use Rattle.compose_typing.specs.declared.stage.Heard.{Heard}
+use Rattle.compose_typing.specs.declared.stage.Stage.{Stage}
+use Rattle.compose_typing.specs.declared.stage.Stage.TheVariants.{Apart, Ready, Connecting, Opening, Feeding, Asking}
+use Rattle.compose_typing.specs.Typing.{Client, Outcome, does, asks, bodies_for, before_key, typed_anew, told, connected, answered, answered_at, fed_at, lost, lost_at, lost_with}
+use Rattle.compose_typing.specs.Laws.{Event, connect, reply, lose, happens, after}
+use Rattle.compose_typing.specs.Service.{answer_of, session_after, replies, typed, told_in, told_at, heard, moved, Types, session_for, key_at, AskedOnce, LostOnce, PendingAgain}
+
+-- at these events the client becomes this one, and these verdicts are told
+pub record Goes (c : Client) (es : List Event) (end : Client) (verdicts : List Verdict) : Type 0 where
+  pub client : after c es ≡ end
+  pub told : told_at c es ≡ verdicts
+
+happened : (c : Client) (e : Event) (o : Outcome) (es : List Event) (end : Client) (verdicts : List Verdict) → happens c e ≡ o → Goes o.client es end verdicts
+    → Goes c (e ∷ es) end (told_in o.action ++ verdicts)
+happened c e o es end verdicts h g = record {
+  client = ap (λ (x : Outcome). after x.client es) h ∙ g.client;
+  told = ap (λ (x : Outcome). told_in x.action ++ told_at x.client es) h ∙ ap (λ (v : List Verdict). told_in o.action ++ v) g.told;
+}
+
+heard_here : (c : Client) (a : Answer) → answered c (record { session = c.session; answer = a }) ≡ answered_at c.stage c a
+heard_here c a = rw (eq-eqb c.session c.session refl) refl
+
+goes_on : (c : Client) (a : Answer) (o : Outcome) (es : List Event) (end : Client) (verdicts : List Verdict) → answered_at c.stage c a ≡ o → Goes o.client es end verdicts
+    → Goes c (reply (record { session = c.session; answer = a }) ∷ es) end (told_in o.action ++ verdicts)
+goes_on c a o es end verdicts e g = happened c (reply (record { session = c.session; answer = a })) o es end verdicts (heard_here c a ∙ e) g
+
+-- the client while so many replies are passed over
+abbrev feeding : Client → Waiting → ℕ → Client
+feeding c w n = record c { is_stale = true; stage = Feeding w n }
+
+fed_next : (c : Client) (w : Waiting) (n : ℕ) (status : Status) (accepted : Bool) (text : List ℕ)
+    → fed_at (feeding c w (suc n)) w (suc n) (fed status accepted text) ≡ does (feeding c w n) Wait
+fed_next c w n status accepted text = rw (eqb-suc-zero n) (rw (sub-one (suc n)) refl)
+
+reset_next : (c : Client) (w : Waiting) (n : ℕ) → fed_at (feeding c w (suc n)) w (suc n) was_reset ≡ does (feeding c w n) Wait
+reset_next c w n = rw (eqb-suc-zero n) (rw (sub-one (suc n)) refl)
+
+-- the replies to keys that are typed anew are passed over
+passed_over : (names : KeysymNames) (table : List Definition) (ks : List ℕ) (c : Client) (w : Waiting) (s : Session) (bs : List Body) (end : Client) (verdicts : List Verdict)
+    → Goes (feeding c w 0) (replies names table c.session (typed table s ks) bs) end verdicts
+    → Goes (feeding c w (length (map key ks))) (replies names table c.session s (map key ks ++ bs)) end verdicts
+passed_over names table [] c w s bs end verdicts g = g
+passed_over names table (k ∷ ks) c w s bs end verdicts g =
+    let m : ℕ = length (map key ks) in
+    let a : Answer = answer_of names table s (key k) in
+    goes_on (feeding c w (suc m)) a (does (feeding c w m) Wait) (replies names table c.session (session_fed table s k) (map key ks ++ bs)) end verdicts (fed_next c w m _ _ _)
+    (passed_over names table ks c w (session_fed table s k) bs end verdicts g)
+
+-- the key itself
+key_told : (names : KeysymNames) (table : List Definition) (c : Client) (w : Waiting) (s : Session)
+    → Goes (feeding c w 0) (replies names table c.session s (key w.key ∷ ask ∷ [])) (moved table c s w.key) (told w.key (heard names table s w.key) ∷ [])
+key_told names table c w s =
+    let h : Heard = heard names table s w.key in
+    let asking : Client = record c { is_stale = true; stage = Asking w h } in
+    let now : Session = session_fed table s w.key in
+    goes_on (feeding c w 0) (answer_of names table s (key w.key)) (does asking Wait) (replies names table c.session now (ask ∷ [])) (moved table c s w.key) (told w.key h ∷ []) refl
+    (goes_on asking (answer_of names table now ask) (does (moved table c s w.key) (Tell (told w.key h))) [] (moved table c s w.key) [] refl (record { client = refl; told = refl }))
+
+asked_by : (names : KeysymNames) (table : List Definition) (c : Client) (w : Waiting) (s : Session) (stale : Bool) → c.is_stale ≡ stale
+    → Goes (feeding c w (length (cond stale (typed_anew c.pending) []))) (replies names table c.session s (cond stale (typed_anew c.pending) [] ++ key w.key ∷ ask ∷ []))
+    (moved table c (cond stale (typed table rest c.pending) s) w.key) (told w.key (heard names table (cond stale (typed table rest c.pending) s) w.key) ∷ [])
+asked_by names table c w s false e = key_told names table c w s
+asked_by names table c w s true e =
+    let m : ℕ = length (map key c.pending) in
+    let end : Session = typed table rest c.pending in
+    goes_on (feeding c w (suc m)) was_reset (does (feeding c w m) Wait) (replies names table c.session rest (map key c.pending ++ key w.key ∷ ask ∷ [])) (moved table c end w.key)
+    (told w.key (heard names table end w.key) ∷ []) (reset_next c w m)
+    (passed_over names table c.pending c w rest (key w.key ∷ ask ∷ []) (moved table c end w.key) (told w.key (heard names table end w.key) ∷ []) (key_told names table c w end))
+
+pub asked_once : AskedOnce
+asked_once names table c w s =
+    let g : Goes (feeding c w (length (before_key c))) (replies names table c.session s (bodies_for c w.key)) (moved table c (session_for table c s) w.key) (told w.key (heard names table (session_for table c s) w.key) ∷ [])
+    = asked_by names table c w s c.is_stale refl in
+    record { client = g.client; verdict = g.told }
+
+lost_is : (c : Client) (s : Stage) (w : Waiting) → key_at s ≡ Some w → lost_at s c ≡ lost_with c w
+lost_is c Apart w e = cc
+lost_is c Ready w e = cc
+lost_is c (Connecting v) w e = cc
+lost_is c (Opening v) w e = cc
+lost_is c (Feeding v n) w e = cc
+lost_is c (Asking v h) w e = cc
+
+pub lost_once : LostOnce
+lost_once names table c w s is first opened =
+    let v : Waiting = record { key = w.key; is_again = true } in
+    let connecting : Client = record c { is_stale = true; stage = Connecting v } in
+    let opening : Client = record c { is_stale = true; stage = Opening v } in
+    let end : Session = typed table rest c.pending in
+    let verdicts : List Verdict = told w.key (heard names table end w.key) ∷ [] in
+    let lost_so : lost c ≡ does connecting Connect = lost_is c c.stage w is ∙ rw first refl in
+    let opened_so : answered_at (Opening v) opening (refused session_taken) ≡ asks opening v = rw opened refl in
+    let last : Types names table (asks opening v).client (replies names table c.session s (bodies_for opening w.key)) end w.key = asked_once names table opening v s in
+    let asked : List Event = replies names table c.session s (bodies_for opening w.key) in
+    let taken : Event = reply (record { session = c.session; answer = refused session_taken }) in
+    let g = happened c lose (does connecting Connect) (connect ∷ taken ∷ asked) (moved table c end w.key) verdicts lost_so
+    (happened connecting connect (connected connecting) (taken ∷ asked) (moved table c end w.key) verdicts refl
+    (goes_on opening (refused session_taken) (asks opening v) asked (moved table c end w.key) verdicts opened_so (record { client = last.client; told = last.verdict }))) in
+    record { client = g.client; verdict = g.told }
+
+typed_pending : (table : List Definition) (s : Session) (ks : List ℕ) → (typed table s ks).pending ≡ pending_from table s.pending ks
+typed_pending table s [] = refl
+typed_pending table s (k ∷ ks) = typed_pending table (session_fed table s k) ks
+
+pub pending_again : PendingAgain
+pending_again table keys = typed_pending table rest (pending table keys) ∙ (pending_reached table keys).again

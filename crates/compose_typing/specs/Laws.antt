@@ -1,0 +1,53 @@
+-- What holds of a client over every list of events.
+use Rattle.std.specs.Prelude.{◌≡◌, ℕ, ◌+◌, if◌then◌else◌, List, [], ◌∷◌, sum_by}
+use Rattle.compose_wire.specs.Messages.{Reply}
+use Rattle.compose_typing.specs.declared.action.Action.{Action}
+use Rattle.compose_typing.specs.declared.action.Action.TheVariants.{Wait, Send, Connect, Tell, Abandon, Close}
+use Rattle.compose_typing.specs.Typing.{Client, Outcome, waits, pressed, connected, answered, lost, timed_out}
+
+-- what happens to a client
+pub data Event : Type 0 where
+  press : ℕ → Event
+  connect : Event
+  reply : Reply → Event
+  lose : Event
+  time_out : Event
+
+abbrev pub happens : Client → Event → Outcome
+happens c (press k) = pressed c k
+happens c connect = connected c
+happens c (reply r) = answered c r
+happens c lose = lost c
+happens c time_out = timed_out c
+
+-- the client after these events, and what was to be done at each
+abbrev pub after : Client → List Event → Client
+after c [] = c
+after c (e ∷ es) = after (happens c e).client es
+
+abbrev pub actions : Client → List Event → List Action
+actions c [] = []
+actions c (e ∷ es) = (happens c e).action ∷ actions (happens c e).client es
+
+-- ---- verdicts
+
+-- an action that says what is done with a key
+abbrev pub verdicts : Action → ℕ
+verdicts Wait = 0
+verdicts (Send bytes) = 0
+verdicts Connect = 0
+verdicts (Tell verdict) = 1
+verdicts Abandon = 1
+verdicts Close = 0
+
+abbrev pub presses : Event → ℕ
+presses (press k) = 1
+presses _ = 0
+
+-- the keys that wait
+abbrev pub waiting : Client → ℕ
+waiting c = if waits c.stage then 1 else 0
+
+-- each key that was pressed has one verdict, or waits for it; and no more than one waits
+abbrev pub OneVerdict : Type 0
+OneVerdict = (c : Client) (es : List Event) → sum_by verdicts (actions c es) + waiting (after c es) ≡ waiting c + sum_by presses es

@@ -1,0 +1,4 @@
+pub mod Typing
+pub mod Bytes
+pub mod Laws
+pub mod Service

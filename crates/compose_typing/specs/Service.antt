@@ -1,0 +1,104 @@
+-- A client and a service that types over one table: what comes of a key, also where connections are lost.
+use Rattle.std.specs.Prelude.{◌≡◌, ℕ, Bool, true, false, not, if◌then◌else◌, List, [], ◌∷◌, ◌++◌, Option, Some, None}
+use Rattle.keysym_core.specs.Keysym.{is_ignored}
+use Rattle.keysym_core.specs.Names.{KeysymNames}
+use Rattle.compose_model.specs.Table.{Definition}
+use Rattle.compose_model.specs.Step.{step, pending}
+use Rattle.compose_model.specs.Session.{Session, rest, fed as session_fed}
+use Rattle.compose_wire.specs.Messages.{Body, open_session, key, reset, close, load, ask, Answer, fed, was_reset, state, refused, session_taken}
+use Rattle.compose_typing.specs.declared.action.Action.{Action}
+use Rattle.compose_typing.specs.declared.action.Action.TheVariants.{Wait, Send, Connect, Tell, Abandon, Close}
+use Rattle.compose_typing.specs.declared.action.Verdict.{Verdict}
+use Rattle.compose_typing.specs.declared.action.Verdict.TheVariants.{Pass}
+use Rattle.compose_typing.specs.declared.stage.Waiting.{Waiting}
+use Rattle.compose_typing.specs.declared.stage.Heard.{Heard}
+use Rattle.compose_typing.specs.declared.stage.Stage.{Stage}
+use Rattle.compose_typing.specs.declared.stage.Stage.TheVariants.{Apart, Ready, Connecting, Opening, Feeding, Asking}
+use Rattle.compose_typing.specs.Typing.{Client, asks, bodies_for, told, is_cancelled}
+use Rattle.compose_typing.specs.Laws.{Event, connect, reply, lose, happens, after}
+
+-- ---- the service
+
+-- what a service with this session open answers, and the session after it; it is open, and a client asks nothing else
+abbrev pub answer_of : KeysymNames → List Definition → Session → Body → Answer
+answer_of names table s (key k) = fed (session_fed table s k).status (not (is_ignored k)) (step names table s.pending k).text
+answer_of names table s reset = was_reset
+answer_of names table s ask = state s.status s.pending
+answer_of names table s _ = refused session_taken
+
+abbrev pub session_after : List Definition → Session → Body → Session
+session_after table s (key k) = session_fed table s k
+session_after table s reset = rest
+session_after table s _ = s
+
+-- the replies to requests of the session n, one after another
+abbrev pub replies : KeysymNames → List Definition → ℕ → Session → List Body → List Event
+replies names table n s [] = []
+replies names table n s (b ∷ bs) = reply (record { session = n; answer = answer_of names table s b }) ∷ replies names table n (session_after table s b) bs
+
+-- the session after these keys
+abbrev pub typed : List Definition → Session → List ℕ → Session
+typed table s [] = s
+typed table s (k ∷ ks) = typed table (session_fed table s k) ks
+
+-- ---- what is told
+
+abbrev pub told_in : Action → List Verdict
+told_in (Tell verdict) = verdict ∷ []
+told_in Abandon = Pass ∷ []
+told_in _ = []
+
+-- the verdicts at these events
+abbrev pub told_at : Client → List Event → List Verdict
+told_at c [] = []
+told_at c (e ∷ es) = told_in (happens c e).action ++ told_at (happens c e).client es
+
+-- what the key is answered in the session
+abbrev pub heard : KeysymNames → List Definition → Session → ℕ → Heard
+heard names table s k = record { status = (session_fed table s k).status; accepted = not (is_ignored k); text = (step names table s.pending k).text }
+
+-- the client where the session is after the key
+abbrev pub moved : List Definition → Client → Session → ℕ → Client
+moved table c s k = record c {
+  pending = (session_fed table s k).pending;
+  is_stale = is_cancelled (session_fed table s k).status;
+  stage = Ready;
+}
+
+-- at these events the key has its one verdict, by its step in the session s, and the client is where the session is then
+pub record Types (names : KeysymNames) (table : List Definition) (c : Client) (es : List Event) (s : Session) (k : ℕ) : Type 0 where
+  pub client : after c es ≡ moved table c s k
+  pub verdict : told_at c es ≡ told k (heard names table s k) ∷ []
+
+-- ---- laws
+
+-- the session in which the key is typed: this one, or where it is stale that of the pending keys alone
+abbrev pub session_for : List Definition → Client → Session → Session
+session_for table c s = if c.is_stale then typed table rest c.pending else s
+
+-- a key that is asked about is typed once, in that session
+abbrev pub AskedOnce : Type 0
+AskedOnce = (names : KeysymNames) (table : List Definition) (c : Client) (w : Waiting) (s : Session)
+    → Types names table (asks c w).client (replies names table c.session s (bodies_for c w.key)) (session_for table c s) w.key
+
+-- the key that waits for a reply
+abbrev pub key_at : Stage → Option Waiting
+key_at (Opening w) = Some w
+key_at (Feeding w n) = Some w
+key_at (Asking w h) = Some w
+key_at _ = None
+
+-- the connection is lost, a new one is made, the session is found open there, and all that is asked is answered
+abbrev pub reconnected : KeysymNames → List Definition → Client → Session → ℕ → List Event
+reconnected names table c s k =
+    lose ∷ connect ∷ reply (record { session = c.session; answer = refused session_taken }) ∷ replies names table c.session s (bodies_for (record c { is_stale = true }) k)
+
+-- whatever replies a key has had when its connection is lost, and whatever session the service is left with, the key is typed once, in the
+-- session of the keys that were pending before it
+abbrev pub LostOnce : Type 0
+LostOnce = (names : KeysymNames) (table : List Definition) (c : Client) (w : Waiting) (s : Session) → key_at c.stage ≡ Some w → w.is_again ≡ false → c.is_opened ≡ true
+    → Types names table c (reconnected names table c s w.key) (typed table rest c.pending) w.key
+
+-- what is pending in a session is pending again where it is typed anew
+abbrev pub PendingAgain : Type 0
+PendingAgain = (table : List Definition) (keys : List ℕ) → (typed table rest (pending table keys)).pending ≡ pending table keys

@@ -1,0 +1,166 @@
+-- A client of the typing service as a machine: what it does at each event (this project's protocol, "What a client does with a reply").
+use Rattle.std.specs.Prelude.{ℕ, ◌-◌, ◌==◌, ◌||◌, ◌&&◌, Bool, true, false, if◌then◌else◌, List, [], ◌∷◌, ◌++◌, length, map}
+use Rattle.compose_text.specs.Numbers.{is_between}
+use Rattle.compose_model.specs.declared.Status.{Status}
+use Rattle.compose_model.specs.declared.Status.TheVariants.{Nothing, Composing, Composed, Cancelled}
+use Rattle.compose_wire.specs.Messages.{Body, open_session, key, reset, ask, Request, Answer, opened, fed, was_reset, state, refused, session_taken, code, Reply}
+use Rattle.compose_wire.specs.Frames.{frames}
+use Rattle.compose_typing.specs.declared.action.Verdict.{Verdict}
+use Rattle.compose_typing.specs.declared.action.Verdict.TheVariants.{Pass, Take, Commit}
+use Rattle.compose_typing.specs.declared.action.Action.{Action}
+use Rattle.compose_typing.specs.declared.action.Action.TheVariants.{Wait, Send, Connect, Tell, Abandon, Close}
+use Rattle.compose_typing.specs.declared.stage.Waiting.{Waiting}
+use Rattle.compose_typing.specs.declared.stage.Heard.{Heard}
+use Rattle.compose_typing.specs.declared.stage.Stage.{Stage}
+use Rattle.compose_typing.specs.declared.stage.Stage.TheVariants.{Apart, Ready, Connecting, Opening, Feeding, Asking}
+
+-- a client: the number of its session, and whether a service was heard to have it; what is pending in it; whether a Reset and these keys
+-- have to be sent before the next one; and what is waited for
+pub record Client : Type 0 where
+  pub session : ℕ
+  pub is_opened : Bool
+  pub pending : List ℕ
+  pub is_stale : Bool
+  pub stage : Stage
+
+-- what comes of an event: the client after it, and what is to be done
+pub record Outcome : Type 0 where
+  pub client : Client
+  pub action : Action
+
+abbrev pub does : Client → Action → Outcome
+does c action = record { client = c; action = action }
+
+-- no key was typed, and no connection was made
+abbrev pub start : ℕ → Client
+start n = record { session = n; is_opened = false; pending = []; is_stale = true; stage = Apart }
+
+-- ---- what is sent
+
+-- the bytes of requests with these bodies
+abbrev pub sent : ℕ → List Body → List ℕ
+sent n bodies = frames (map (λ body. record { session = n; body = body }) bodies)
+
+-- what brings the session to where these keys are pending
+abbrev pub typed_anew : List ℕ → List Body
+typed_anew keys = reset ∷ map key keys
+
+-- what goes before the next key
+abbrev pub before_key : Client → List Body
+before_key c = if c.is_stale then typed_anew c.pending else []
+
+abbrev pub bodies_for : Client → ℕ → List Body
+bodies_for c k = before_key c ++ key k ∷ ask ∷ []
+
+-- the key is asked about, and what goes before it is sent with it
+abbrev pub asks : Client → Waiting → Outcome
+asks c w = does (record c { is_stale = true; stage = Feeding w (length (before_key c)) }) (Send (sent c.session (bodies_for c w.key)))
+
+-- ---- what is told of a key
+
+-- dead keys and Multi_key (keysymdef.h): with one of them a toolkit begins a sequence of its own
+abbrev pub begins_sequences : ℕ → Bool
+begins_sequences k = is_between 0xfe50 0xfe93 k || k == 0xff20
+
+-- at rest, a key that gave no text is passed, but for a dead key
+abbrev pub told_at_rest : ℕ → List ℕ → Verdict
+told_at_rest k [] = if begins_sequences k then Take else Pass
+told_at_rest k (byte ∷ text) = Pass
+
+abbrev pub told_by : Status → ℕ → List ℕ → Verdict
+told_by Nothing k text = told_at_rest k text
+told_by Composing k text = Take
+told_by Composed k text = Commit text
+told_by Cancelled k text = Take
+
+-- what is done with the key that was answered so
+abbrev pub told : ℕ → Heard → Verdict
+told k h = if h.accepted then told_by h.status k h.text else Pass
+
+-- ---- the key that waits
+
+abbrev pub waits : Stage → Bool
+waits Apart = false
+waits Ready = false
+waits (Connecting w) = true
+waits (Opening w) = true
+waits (Feeding w n) = true
+waits (Asking w h) = true
+
+-- the connection is given up: the key that waits passes, and what was pending is dropped
+abbrev pub abandoned : Client → Outcome
+abandoned c = does (record c { pending = []; is_stale = true; stage = Apart }) Abandon
+
+abbrev pub given_up : Client → Outcome
+given_up c = if waits c.stage then abandoned c else does (record c { is_stale = true; stage = Apart }) Close
+
+-- ---- events
+
+-- a key is pressed; one that comes while another one waits passes at once
+abbrev pub pressed_at : Stage → Client → ℕ → Outcome
+pressed_at Apart c k = does (record c { stage = Connecting (record { key = k; is_again = false }) }) Connect
+pressed_at Ready c k = asks c (record { key = k; is_again = false })
+pressed_at _ c k = does c (Tell Pass)
+
+abbrev pub pressed : Client → ℕ → Outcome
+pressed c k = pressed_at c.stage c k
+
+-- a connection was made; one that no key waits for is closed
+abbrev pub connected_at : Stage → Client → Outcome
+connected_at (Connecting w) c = does (record c { stage = Opening w }) (Send (sent c.session (open_session ∷ [])))
+connected_at _ c = given_up c
+
+abbrev pub connected : Client → Outcome
+connected c = connected_at c.stage c
+
+-- the answer to an Open: a session that is open is this client's only if it was opened before
+abbrev pub opened_at : Client → Waiting → Answer → Outcome
+opened_at c w opened = asks (record c { is_opened = true; is_stale = true }) w
+opened_at c w (refused why) = if c.is_opened && (code why == code session_taken) then asks (record c { is_stale = true }) w else abandoned c
+opened_at c w _ = abandoned c
+
+-- the answers to a Reset and to keys that are typed anew are passed over, and then the key is answered
+abbrev pub fed_at : Client → Waiting → ℕ → Answer → Outcome
+fed_at c w n (fed status accepted text) =
+    if n == 0 then does (record c { is_stale = true; stage = Asking w (record { status = status; accepted = accepted; text = text }) }) Wait else
+    does (record c { is_stale = true; stage = Feeding w (n - 1) }) Wait
+fed_at c w n was_reset = if n == 0 then abandoned c else does (record c { is_stale = true; stage = Feeding w (n - 1) }) Wait
+fed_at c w n _ = abandoned c
+
+abbrev pub is_cancelled : Status → Bool
+is_cancelled Cancelled = true
+is_cancelled _ = false
+
+-- the session is where the service says; after a cancelled sequence it is put to rest before the next key
+abbrev pub asked_at : Client → Waiting → Heard → Answer → Outcome
+asked_at c w h (state status pending) = does (record c { pending = pending; is_stale = is_cancelled status; stage = Ready }) (Tell (told w.key h))
+asked_at c w h _ = abandoned c
+
+abbrev pub answered_at : Stage → Client → Answer → Outcome
+answered_at (Opening w) c answer = opened_at c w answer
+answered_at (Feeding w n) c answer = fed_at c w n answer
+answered_at (Asking w h) c answer = asked_at c w h answer
+answered_at _ c answer = given_up c
+
+-- a reply came
+abbrev pub answered : Client → Reply → Outcome
+answered c r = if r.session == c.session then answered_at c.stage c r.answer else given_up c
+
+-- the connection was lost, or none could be made: it is made anew once for a key
+abbrev pub lost_with : Client → Waiting → Outcome
+lost_with c w = if w.is_again then abandoned c else does (record c { is_stale = true; stage = Connecting (record { key = w.key; is_again = true }) }) Connect
+
+abbrev pub lost_at : Stage → Client → Outcome
+lost_at Apart c = does c Wait
+lost_at Ready c = does (record c { is_stale = true; stage = Apart }) Wait
+lost_at (Connecting w) c = abandoned c
+lost_at (Opening w) c = lost_with c w
+lost_at (Feeding w n) c = lost_with c w
+lost_at (Asking w h) c = lost_with c w
+
+abbrev pub lost : Client → Outcome
+lost c = lost_at c.stage c
+
+-- the time for a key is up
+abbrev pub timed_out : Client → Outcome
+timed_out c = if waits c.stage then given_up c else does c Wait

@@ -1,0 +1,86 @@
+//! What an input method does after an event.
+ghost use Rattle.std.specs.Prelude.{◌≡◌};
+
+use arrayvec::{ArrayString, ArrayVec};
+use std::marker::Model;
+
+/// The text of a key or of a sequence, at most 255 bytes.
+#[derive(Drop)]
+pub struct Text {
+    bytes: ArrayString<255>,
+}
+
+impl Model for Text {
+    ghost use Rattle.std.specs.Prelude.{ℕ, List};
+
+    ghost Value = { List ℕ };
+
+    ghost view = { λ t. t.bytes.bytes };
+}
+
+impl Text {
+    /// The text of these bytes. O(1).
+    pub(crate) fn new(bytes: ArrayString<255>) -> Text
+        ensures { result ≡ bytes.bytes }
+    {
+        Text { bytes }
+    }
+
+    /// The text. O(1).
+    pub fn as_str(&self) -> &str
+        ensures { result.now ≡ self.now }
+    {
+        self.bytes.as_str()
+    }
+}
+
+/// The bytes of requests, at most 448.
+#[derive(Drop)]
+pub struct Frames {
+    pub(crate) bytes: ArrayVec<u8, 448>,
+}
+
+impl Model for Frames {
+    ghost use Rattle.std.specs.Prelude.{ℕ, List};
+
+    ghost Value = { List ℕ };
+
+    ghost view = { λ f. f.bytes.items };
+}
+
+impl Frames {
+    /// The bytes. O(1).
+    pub fn as_slice(&self) -> &[u8]
+        ensures { result.now ≡ self.now }
+    {
+        self.bytes.as_slice()
+    }
+}
+
+/// What an input method does with a key.
+#[derive(Drop)]
+pub enum Verdict {
+    /// The application gets the key.
+    Pass,
+    /// The application gets nothing.
+    Take,
+    /// The application gets this text in the place of the key.
+    Commit(Text),
+}
+
+/// What an input method does after an event.
+#[derive(Drop)]
+pub enum Action {
+    /// Nothing.
+    Wait,
+    /// It sends these bytes.
+    Send(Frames),
+    /// It makes a connection to the service, and closes the one that it had.
+    Connect,
+    /// It does this with the key that waited.
+    Tell(Verdict),
+    /// It closes the connection, and the key that waited passes.
+    Abandon,
+    /// It closes the connection. No key waited.
+    Close,
+}

@@ -1,0 +1,89 @@
+//! The requests of a client as bytes.
+ghost use Rattle.std.specs.Prelude.{◌≡◌, ◌+◌, ◌≤◌, ◌++◌, ◌∷◌, [], length, if◌then◌else◌};
+ghost use Rattle.compose_wire.specs.Messages as words;
+ghost use Rattle.compose_wire.specs.Frames.{frame, frame_of};
+ghost use Rattle.compose_typing.specs.Typing.{sent, typed_anew};
+
+use crate::action::Frames;
+use arrayvec::ArrayVec;
+use keysym_core::Keysym;
+
+impl Frames {
+    /// No bytes. O(1).
+    fn new() -> Frames
+        ensures { result ≡ [] }
+    {
+        Frames {
+            bytes: ArrayVec::new(),
+        }
+    }
+
+    /// Puts some bytes behind the others. O(their number).
+    fn append(&mut self, more: &[u8])
+        requires { length self.old + length more.now ≤ 448 }
+        ensures { self.new ≡ self.old ++ more.now }
+    {
+        self.bytes.try_extend_from_slice(more).unwrap();
+    }
+
+    /// Puts a frame of this kind behind the others. O(payload).
+    fn push(&mut self, kind: u8, session: u32, payload: &[u8])
+        requires few { length payload.now ≤ 4 }
+        requires room { length self.old + 9 + length payload.now ≤ 448 }
+        ensures value { self.new ≡ self.old ++ frame_of kind session payload.now }
+        ensures length { length self.new ≡ length self.old + 9 + length payload.now }
+    {
+        self.append(&[kind]);
+        self.append(&session.to_be_bytes());
+        self.append(&(payload.len() as u32).to_be_bytes());
+        self.append(payload);
+    }
+
+    /// Puts a request to type the key behind the others. O(1).
+    fn push_key(&mut self, session: u32, key: Keysym)
+        requires { length self.old + 13 ≤ 448 }
+        ensures value { self.new ≡ self.old ++ frame (record { session = session; body = words.key key }) }
+        ensures length { length self.new ≡ length self.old + 13 }
+    {
+        self.push(2, session, &key.value().to_be_bytes());
+    }
+}
+
+/// The request to open the session. O(1).
+pub(crate) fn open_frames(session: u32) -> Frames
+    ensures { result ≡ sent session (words.open_session ∷ []) }
+{
+    let mut frames = Frames::new();
+    frames.push(1, session, &[]);
+    frames
+}
+
+/// The requests that bring the session to where these keys are pending. O(keys).
+fn frames_anew(session: u32, pending: &[Keysym]) -> Frames
+    requires { length pending.now ≤ 31 }
+    ensures value { result ≡ sent session (typed_anew pending.now) }
+    ensures few { length result ≤ 412 }
+{
+    let mut frames = Frames::new();
+    frames.push(3, session, &[]);
+    for index in 0..pending.len() {
+        frames.push_key(session, pending[index]);
+    }
+    frames
+}
+
+/// The requests for a key, behind those that bring the session to where these keys are pending, if it is not there. O(pending keys).
+pub(crate) fn key_frames(session: u32, is_stale: bool, pending: &[Keysym], key: Keysym) -> Frames
+    requires { length pending.now ≤ 31 }
+    ensures { result ≡ sent session
+        ((if is_stale then typed_anew pending.now else []) ++ words.key key ∷ words.ask ∷ []) }
+{
+    let mut frames = if is_stale {
+        frames_anew(session, pending)
+    } else {
+        Frames::new()
+    };
+    frames.push_key(session, key);
+    frames.push(6, session, &[]);
+    frames
+}

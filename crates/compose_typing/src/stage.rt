@@ -1,0 +1,50 @@
+//! What a client waits for.
+ghost use Rattle.std.specs.Prelude.{◌≡◌};
+ghost use Rattle.compose_typing.specs.Typing as words;
+
+use crate::action::Text;
+use compose_model::Status;
+use keysym_core::Keysym;
+
+/// A key that waits for its verdict.
+#[derive(Clone, Copy)]
+pub struct Waiting {
+    /// The key.
+    pub key: Keysym,
+    /// Whether a connection was lost while it waited.
+    pub is_again: bool,
+}
+
+/// What was answered to a key.
+#[derive(Drop)]
+pub struct Heard {
+    pub status: Status,
+    pub accepted: bool,
+    pub text: Text,
+}
+
+/// What a client waits for.
+#[derive(Drop)]
+pub enum Stage {
+    /// No key waits, and there is no connection.
+    Apart,
+    /// No key waits, and there is a connection.
+    Ready,
+    /// A key waits for a connection.
+    Connecting(Waiting),
+    /// A key waits for the reply to Open.
+    Opening(Waiting),
+    /// A key waits for this number of replies to a Reset and to keys that are typed anew, and then for its own.
+    Feeding(Waiting, usize),
+    /// A key was answered, and waits for the reply to Ask.
+    Asking(Waiting, Heard),
+}
+
+impl Stage {
+    /// Whether a key waits. O(1).
+    pub fn waits(&self) -> bool
+        ensures { result ≡ words.waits self.now }
+    {
+        !matches!(self, Stage::Apart | Stage::Ready)
+    }
+}
