@@ -2,8 +2,8 @@
 """run.py PROGRAM TRIALS: times of the program and of single calls, and libxkbcommon at the same work, in turns.
 
 PROGRAM is `composecheck`, TRIALS is `compose_trials` (crates/compose_trials). It needs Debian's libx11-data, x11proto-dev
-and libxkbcommon-dev, and a C compiler. Each figure is the least of some runs, on the table of en_US.UTF-8;
-those of keys in sessions are medians."""
+and libxkbcommon-dev, a C compiler, and valgrind for the counts of instructions. Each figure is the least of some runs,
+on the table of en_US.UTF-8; those of keys in sessions are medians. The last lines are a table of all aims, and which are met."""
 import os
 import re
 import statistics
@@ -16,11 +16,15 @@ TOP = os.path.dirname(os.path.dirname(os.path.abspath(__file__)))
 sys.path.insert(0, os.path.join(TOP, "tests"))
 import key_streams
 import reference
+from aims import Aims, instructions, instructions_between, ratio
 
 SHORT_NAMES = os.path.join(TOP, "share", "composecheck", "short-unicode-names.h")
 ENGLISH = "/usr/share/X11/locale/en_US.UTF-8/Compose"
 FINNISH = "/usr/share/X11/locale/fi_FI.UTF-8/Compose"
 KEYS = 10_000_000
+# Of how many keys the instructions are counted, and how often `compose_trials` compiles a table.
+COUNTED_KEYS = 200_000
+COMPILE_ROUNDS = 200
 CHARACTERS = 1000
 MOST_NODES = 1_048_576
 MOST_CHARACTERS = 65_536
@@ -89,7 +93,15 @@ def prepare(folder):
     subprocess.run(["cc", "-O2", "-o", "xkb", os.path.join(TOP, "bench", "xkb.c"), "-lxkbcommon"], cwd=folder, check=True)
 
 
-def compare_compiling(trials, folder):
+def compile_instructions(trials, folder):
+    """The instructions of compiling a table once, ours and libxkbcommon's: our rounds over the table without those over an empty one."""
+    bench = [trials, "bench", "compile", "names"]
+    ours = instructions_between([*bench, "empty"], [*bench, ENGLISH], COMPILE_ROUNDS, folder)
+    theirs = instructions_between(["./xkb", "compile", ENGLISH, "1"], ["./xkb", "compile", ENGLISH, "3"], 2, folder)
+    return ours, theirs
+
+
+def compare_compiling(trials, folder, aims):
     """From bytes to a table."""
     times = least_figures({"ours": [trials, "bench", "compile", "names", ENGLISH], "theirs": ["./xkb", "compile", ENGLISH, "200"]}, folder, 5)
     ours, theirs = times["ours"], times["theirs"]
@@ -99,9 +111,22 @@ def compare_compiling(trials, folder):
     for part in ["read", "settle", "build", "compile"]:
         print(f"{part}: {ours[part] / 1e6:.3f} ms")
     print(f"libxkbcommon compiles in {theirs['compile'] / 1e6:.3f} ms; ratio {ours['compile'] / theirs['compile']:.2f}")
+    aims.add("compile", "time", 0.30, ours["compile"] / theirs["compile"])
+    aims.add("compile", "instructions", 0.50, ratio(*compile_instructions(trials, folder)))
+    aims.add("a table in memory", "bytes", 0.80, memory / theirs["memory"])
 
 
-def compare_typing(trials, folder):
+def feed_instructions(trials, folder, keys):
+    """The instructions of typing keys, ours and libxkbcommon's: those of a run over some keys without those of a run over half of them."""
+    key_streams.write(keys[:COUNTED_KEYS], os.path.join(folder, "counted"))
+    key_streams.write(keys[: COUNTED_KEYS // 2], os.path.join(folder, "half"))
+    counted = {}
+    for name, command in {"ours": [trials, "bench", "type", "names", ENGLISH], "theirs": ["./xkb", "type", ENGLISH]}.items():
+        counted[name] = instructions_between([*command, "half"], [*command, "counted"], 1, folder)
+    return counted["ours"], counted["theirs"]
+
+
+def compare_typing(trials, folder, aims):
     """Ten million keys."""
     keys = key_streams.stream(reference.sequences(ENGLISH, reference.header_values()), KEYS, 1)
     key_streams.write(keys, os.path.join(folder, "keys"))
@@ -110,6 +135,8 @@ def compare_typing(trials, folder):
     statuses = ["nothing", "composing", "composed", "cancelled"]
     same = all(ours[status] == theirs[status] for status in statuses)
     print(f"{KEYS} keys: {ours['type'] / KEYS:.1f} ns a key; libxkbcommon {theirs['type'] / KEYS:.1f}; ratio {ours['type'] / theirs['type']:.2f}")
+    aims.add("feed", "time", 0.15, ours["type"] / theirs["type"])
+    aims.add("feed", "instructions", 0.28, ratio(*feed_instructions(trials, folder, keys)))
     print("statuses:", ", ".join(f"{ours[status]} {status}" for status in statuses), "(as libxkbcommon)" if same else f"(libxkbcommon: {theirs})")
 
 
@@ -121,7 +148,7 @@ def measure_calls(trials, folder):
     print(f"reading {os.path.getsize(os.path.join(folder, 'names'))} bytes of names: {names / 1e6:.3f} ms")
 
 
-def compare_processes(program, folder):
+def compare_processes(program, folder, aims):
     """Whole processes."""
     keys = ["Multi_key", "apostrophe", "e"]
     typing = [program, "type", "--names", "names"]
@@ -135,6 +162,9 @@ def compare_processes(program, folder):
         60,
     )
     print(f"process, three keys: {times['ours'] * 1000:.2f} ms; libxkbcommon {times['theirs'] * 1000:.2f}; ratio {times['ours'] / times['theirs']:.2f}")
+    counted = [instructions(command, folder) for command in ([*typing, "english", *keys], ["./xkb", "process", ENGLISH, *keys])]
+    aims.add("a whole process", "time", 0.65, times["ours"] / times["theirs"])
+    aims.add("a whole process", "instructions", 0.60, ratio(*counted))
     return times["ours, empty table"] + 2 * (times["ours"] - times["ours, empty table"])
 
 
@@ -144,7 +174,7 @@ def typed_characters():
     return sorted({text for text in texts if ord(text) > 0xA0})[:CHARACTERS]
 
 
-def measure_migration(program, folder, reading):
+def measure_migration(program, folder, reading, aims):
     """Making and checking a certificate for a table with some more sequences."""
     characters = typed_characters()
     write(folder, "repertoire", "keys 0x20 0x1fffffff\n" + "".join(f"U+{ord(c):04X}\n" for c in characters))
@@ -155,9 +185,10 @@ def measure_migration(program, folder, reading):
     print(f"reading names and two tables: {reading * 1000:.2f} ms")
     for name, seconds in times.items():
         print(f"{name}, {len(characters)} characters: {seconds * 1000:.2f} ms; {seconds / reading:.2f} of reading")
+    aims.add("check, of reading both tables", "time", 1.05, times["check"] / reading)
 
 
-def compare_keys(trials, service, folder):
+def compare_keys(trials, service, folder, aims):
     """Keys through a service beside the same keys by a bare `feed`, with the first byte of each text read: the medians of some turns."""
     turns = {sessions: [] for sessions in (1, 100, MOST_SESSIONS)}
     for _ in range(KEY_TURNS):
@@ -167,13 +198,13 @@ def compare_keys(trials, service, folder):
     for sessions, rounds in turns.items():
         bare = statistics.median(feed for feed, _, _ in rounds)
         print(f"keys in {sessions} sessions: {bare:.1f} ns a key by a bare feed")
-        for column, name in ((1, "its status and text read"), (2, "its reply handed out whole")):
+        for column, name, aim in ((1, "its status and text read", 1.2), (2, "its reply handed out whole", 1.5)):
             ratios = sorted(row[column] / row[0] for row in rounds)
-            served = statistics.median(row[column] for row in rounds)
+            aims.add(f"a key in {sessions} sessions, {name}, of a bare feed", "time", aim, statistics.median(ratios))
             print(f"  through a service, {name}: {served:.1f} ns; ratio {statistics.median(ratios):.2f} ({ratios[0]:.2f} to {ratios[-1]:.2f})")
 
 
-def measure_service(program, trials, folder):
+def measure_service(program, trials, folder, aims):
     """Calls of a service: keys beside a bare `feed`, loads beside `check_bytes`, and opening and closing sessions."""
     write(folder, "nobody", "")
     made = subprocess.run([program, "make", "--names", "names", "english", "english", "nobody"], cwd=folder, capture_output=True, text=True, check=True)
@@ -181,7 +212,7 @@ def measure_service(program, trials, folder):
     keys = key_streams.stream(reference.sequences(ENGLISH, reference.header_values()), KEYS_IN_SESSIONS, 2)
     key_streams.write(keys, os.path.join(folder, "pressed"))
     service = ["names", ENGLISH, "itself"]
-    compare_keys(trials, service, folder)
+    compare_keys(trials, service, folder, aims)
     times = least_figures({"load": [trials, "bench", "load", *service]}, folder, 5)["load"]
     loading, checking = times["load"] / 1e6, times["check"] / 1e6
     print(f"an accepted load of the same table: {loading:.3f} ms; check_bytes on the same bytes {checking:.3f} ms; ratio {loading / checking:.2f}")
@@ -215,13 +246,14 @@ def many_definitions(first):
     return "".join(f'<Multi_key> <{key}> <U{0x3400 + other:04X}> : "{first}{other}"\n' for key in keys for other in range(100))
 
 
-def measure_differences(program, folder):
+def measure_differences(program, folder, aims):
     """`diff` on two real tables beside `explain --all` on their manifests, in turns; and on two tables of the most definitions."""
     for name, table in {"english": ENGLISH, "finnish": FINNISH}.items():
         write(folder, name, subprocess.run([program, "manifest", table], capture_output=True, text=True, check=True).stdout)
     explain = [program, "explain", "--all", "--names", "builtin", "english", "finnish"]
     times = least_processes({"diff": [program, "diff", ENGLISH, FINNISH], "explain": explain}, folder, 15)
     print(f"diff of two tables: {times['diff'] * 1000:.2f} ms; explain --all {times['explain'] * 1000:.2f}; ratio {times['diff'] / times['explain']:.2f}")
+    aims.add("diff, of explain --all", "time", 1.2, times["diff"] / times["explain"])
     write(folder, "many old", many_definitions("a"))
     write(folder, "many new", many_definitions("b"))
     seconds, memory = process([program, "diff", "many old", "many new"], folder)
@@ -230,16 +262,18 @@ def measure_differences(program, folder):
 
 def main():
     program, trials = (os.path.abspath(path) for path in sys.argv[1:3])
+    aims = Aims()
     with tempfile.TemporaryDirectory() as folder:
         prepare(folder)
-        compare_compiling(trials, folder)
+        compare_compiling(trials, folder, aims)
         measure_calls(trials, folder)
-        compare_typing(trials, folder)
-        reading = compare_processes(program, folder)
-        measure_migration(program, folder, reading)
-        measure_service(program, trials, folder)
-        measure_differences(program, folder)
+        compare_typing(trials, folder, aims)
+        reading = compare_processes(program, folder, aims)
+        measure_migration(program, folder, reading, aims)
+        measure_service(program, trials, folder, aims)
+        measure_differences(program, folder, aims)
         measure_limits(program, trials, folder)
+    print(aims.table())
 
 
 if __name__ == "__main__":

@@ -1,0 +1,18 @@
+//! What an update does with the table that a service starts from: a new table takes its place only if nobody's typing changes.
+//!
+//! [`decide_update`] is the decision, over values: the bytes that are stored from then on, and the certificate by which a running
+//! service takes the new table; or why everything stays as it is. [`law_update`] says what that is worth.
+//!
+//! ```text
+//! match decide_update::<PackedTable>(alloc, &input)? {
+//!     Update::Replaced { stored, certificate } => ..,    // load it, then replace the stored bytes
+//!     Update::Refused(text) => ..,                       // the lines that `make` prints
+//! }
+//! ```
+#![tactic(auto)]
+
+mod deciding;
+mod law;
+
+pub use deciding::{Update, UpdateFault, UpdateInput, decide_update};
+pub use law::law_update;

@@ -1,0 +1,168 @@
+#!/usr/bin/env python3
+"""update.py PROGRAM: `composecheck update` and a service that is started by what it keeps.
+
+A table that changes nobody's typing takes the place of the one in use, in a running service too; one that does is refused, and all stays as it
+is. An update is ended before each of its calls that change files, one after another (cut.c): what is kept is then the old table or the new
+one, whole, and a further update goes on from there. The last line is `N passed, M failed`."""
+import os
+import struct
+import subprocess
+import sys
+import tempfile
+
+TESTS = os.path.dirname(os.path.abspath(__file__))
+CLANG = "/opt/rattle/toolchain/bin/clang"
+OLD = '<Multi_key> <apostrophe> <e> : "ⓔ"\n<dead_acute> <e> : "é"\n'
+FOLLOWS = OLD + '<Multi_key> <apostrophe> <a> : "ⓐ"\n'
+OTHER = OLD.replace("ⓔ", "ê")
+STARTS = OLD + '<dead_caron> <c> : "č"\n'
+BEHIND = '<Multi_key> <plus> : "±"\n'
+
+
+class Failures:
+    """How many checks passed, and which failed."""
+
+    def __init__(self):
+        self.passed, self.failed = 0, 0
+
+    def check(self, name, got, wanted):
+        if got == wanted:
+            self.passed += 1
+            return
+        self.failed += 1
+        print(f"FAILED {name}: got {got!r:.400}, not {wanted!r:.400}")
+
+
+def kept(folder):
+    """The sources of the table that is kept, by name, or None if none is."""
+    try:
+        with open(os.path.join(folder, "state", "table"), "rb") as file:
+            payload = file.read()
+    except FileNotFoundError:
+        return None
+    count, at, sources = struct.unpack(">H", payload[:2])[0], 2, {}
+    for _ in range(count):
+        size = struct.unpack(">H", payload[at : at + 2])[0]
+        name = payload[at + 2 : at + 2 + size].decode()
+        at += 2 + size
+        size = struct.unpack(">I", payload[at : at + 4])[0]
+        sources[name] = payload[at + 4 : at + 4 + size].decode()
+        at += 4 + size
+    size = struct.unpack(">I", payload[at : at + 4])[0]
+    if not payload[at + 4 :].startswith(b"compose-certificate") or len(payload) != at + 4 + size:
+        return "broken"
+    return sources
+
+
+def write(folder, name, text):
+    with open(os.path.join(folder, name), "w", encoding="utf-8") as file:
+        file.write(text)
+
+
+def update(program, folder, name, *options, **environment):
+    """The status of an update, and what it prints to standard output and standard error."""
+    command = [program, "update", "--state", "state", *options, name]
+    ran = subprocess.run(command, cwd=folder, env={"PATH": os.environ["PATH"], **environment}, capture_output=True, text=True, timeout=120)
+    return ran.returncode, ran.stdout, ran.stderr
+
+
+def prepare(folder):
+    for name, text in {"old": OLD, "follows": FOLLOWS, "other": OTHER, "starts": STARTS, "behind": OLD + 'include "more"\n', "more": BEHIND, "faulty": "<nosuch> : \"x\"\n"}.items():
+        write(folder, name, text)
+
+
+def try_decisions(program, tell):
+    """What takes the place of what."""
+    with tempfile.TemporaryDirectory() as folder:
+        prepare(folder)
+        tell.check("a table that is refused is not kept", update(program, folder, "faulty")[0], 2)
+        tell.check("nothing is kept yet", kept(folder), None)
+        tell.check("the first table is stored", update(program, folder, "old"), (0, "stored\n", ""))
+        tell.check("its source is kept", list((kept(folder) or {}).values()), [OLD])
+        different = (1, "keys Multi_key apostrophe e\nkind text\nold \"ⓔ\"\nnew \"ê\"\n", "")
+        tell.check("another text is refused", update(program, folder, "other"), different)
+        tell.check("a new start is refused", update(program, folder, "starts")[0], 1)
+        tell.check("the first table is still kept", list((kept(folder) or {}).values()), [OLD])
+        tell.check("a follower is stored", update(program, folder, "follows"), (0, "stored\n", ""))
+        tell.check("its source is kept then", list((kept(folder) or {}).values()), [FOLLOWS])
+        tell.check("the table before it is refused", update(program, folder, "old")[0], 1)
+        write(folder, "repertoire", "keys 0x20 0x7e\nU+2260\n")
+        unreachable = (1, "unreachable U+2260\n", "")
+        tell.check("a character that can't be typed", update(program, folder, "follows", "--repertoire", "repertoire"), unreachable)
+        tell.check("what is kept is no bundle", (write(os.path.join(folder, "state"), "table", "x"), update(program, folder, "old")[0])[1], 2)
+
+
+def try_fresh(program, tell):
+    """New starts that are allowed, and includes."""
+    with tempfile.TemporaryDirectory() as folder:
+        prepare(folder)
+        update(program, folder, "old")
+        tell.check("a fresh keysym may begin a sequence", update(program, folder, "starts", "--fresh", "dead_caron"), (0, "stored\n", ""))
+        tell.check("a name that is none", update(program, folder, "starts", "--fresh", "nosuch")[0], 2)
+    with tempfile.TemporaryDirectory() as folder:
+        prepare(folder)
+        tell.check("a table with an include", update(program, folder, "behind"), (0, "stored\n", ""))
+        tell.check("both files are kept", sorted((kept(folder) or {}).values()), sorted([OLD + 'include "more"\n', BEHIND]))
+
+
+def try_places(program, tell):
+    """Where the table in use is kept, if no option says it."""
+    for name, environment in {"state": "XDG_STATE_HOME", "home": "HOME"}.items():
+        with tempfile.TemporaryDirectory() as folder:
+            prepare(folder)
+            given = {"PATH": os.environ["PATH"], environment: os.path.join(folder, name)}
+            ran = subprocess.run([program, "update", "old"], cwd=folder, env=given, capture_output=True, text=True, timeout=120)
+            path = "composecheck" if name == "state" else ".local/state/composecheck"
+            tell.check(f"by {environment}", (ran.returncode, os.path.exists(os.path.join(folder, name, path, "table"))), (0, True))
+    with tempfile.TemporaryDirectory() as folder:
+        prepare(folder)
+        ran = subprocess.run([program, "update", "old"], cwd=folder, env={"PATH": os.environ["PATH"]}, capture_output=True, text=True, timeout=120)
+        tell.check("by nothing", (ran.returncode, ran.stderr), (2, "refused: state: neither XDG_STATE_HOME nor HOME is set\n"))
+
+
+def compile_library(folder):
+    library = os.path.join(folder, "cut.so")
+    subprocess.run(["cc", "-shared", "-fPIC", "-o", library, os.path.join(TESTS, "cut.c"), "-ldl"], check=True)
+    return library
+
+
+def count_calls(program, library, folder):
+    """How many calls of an update change files."""
+    with tempfile.TemporaryFile() as count:
+        os.set_inheritable(count.fileno(), True)
+        given = {"PATH": os.environ["PATH"], "LD_PRELOAD": library, "COUNT_TO": str(count.fileno())}
+        subprocess.run([program, "update", "--state", "state", "follows"], cwd=folder, env=given, pass_fds=[count.fileno()], capture_output=True, timeout=120)
+        count.seek(0)
+        return struct.unpack("l", count.read(8) or bytes(8))[0]
+
+
+def try_cuts(program, tell):
+    """An update that is cut off before each of its calls."""
+    with tempfile.TemporaryDirectory() as room:
+        library = compile_library(room)
+        with tempfile.TemporaryDirectory() as folder:
+            prepare(folder)
+            update(program, folder, "old")
+            calls = count_calls(program, library, folder)
+        tell.check("an update changes files", calls > 3, True)
+        for number in range(1, calls + 1):
+            with tempfile.TemporaryDirectory() as folder:
+                prepare(folder)
+                update(program, folder, "old")
+                status, _, _ = update(program, folder, "follows", LD_PRELOAD=library, CUT=str(number))
+                sources = list((kept(folder) or {}).values())
+                tell.check(f"cut before call {number} of {calls}", (status, sources in ([OLD], [FOLLOWS])), (137, True))
+                tell.check(f"updated after it was cut before call {number}", update(program, folder, "follows"), (0, "stored\n", ""))
+
+
+def main():
+    program = os.path.abspath(sys.argv[1])
+    tell = Failures()
+    for part in (try_decisions, try_fresh, try_places, try_cuts):
+        part(program, tell)
+    print(f"{tell.passed} passed, {tell.failed} failed")
+    return 1 if tell.failed else 0
+
+
+if __name__ == "__main__":
+    sys.exit(main())
