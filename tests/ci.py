@@ -276,6 +276,31 @@ def check_headings(program, results):
         results.expect("the same table six times, without an include", "that include it" in printed, False)
 
 
+# A program that finds lost texts in one locale, and what others give otherwise.
+FINDING = """#!/bin/sh
+[ $1 = diff ] || exit 1
+echo 'removed: <a> <b> "x" OLD:1 now: <b> <a> NEW:1'
+case $* in *fi_FI*) printf '%s\\n' 'changed: <a> <d> "z" "q" OLD:3 NEW:3 now: none' 'added: <a> <c> "y" NEW:2' ;; esac
+echo 'diff: 5 kept, 1 new start, 2 texts lost'
+exit 1
+"""
+
+
+def check_order(_, results):
+    """Lost texts come first, then what is typed otherwise, then the rest; each count of the program has its column."""
+    both = {it: ENGLISH for it in ("en_US.UTF-8", "fi_FI.UTF-8")}
+    with Trees(both, both, {}) as trees:
+        trees.write("finding", FINDING)
+        os.chmod(os.path.join(trees.room, "finding"), 0o755)
+        printed, said, status = trees.compare("./finding")
+        lost = '\nNo sequence gives these texts any more:\n\n    changed: <a> <d> "z" "q" OLD:3 NEW:3 now: none\n'
+        rest = '\nThe rest:\n\n    added: <a> <c> "y" NEW:2\n'
+        otherwise = '\nOther keys give these texts now:\n\n    removed: <a> <b> "x" OLD:1 now: <b> <a> NEW:1\n'
+        wanted = f"{HEADING}\n## fi_FI.UTF-8\n{lost}{rest}\n## en_US.UTF-8, fi_FI.UTF-8\n{otherwise}{TWO}"
+        results.expect("the order of lines", (parted(printed)[0], said, status), (wanted, "", 1))
+        results.expect("other counts", parted(printed)[1]["all"], {"kept": 10, "new starts": 2, "texts lost": 4})
+
+
 def check_tables_of_locales(program, results):
     """A locale that gets another table by compose.dir and locale.alias has a line, which may be intended."""
     lines = ["C.UTF-8: en_US.UTF-8/Compose, now none", "de_DE.UTF-8: en_US.UTF-8/Compose, now C/Compose", "fi: fi_FI.UTF-8/Compose, now en_US.UTF-8/Compose"]
@@ -340,7 +365,7 @@ def check_sources(program, results):
 
 def main():
     program, results = os.path.abspath(sys.argv[1]), Results()
-    checks = [check_reports, check_refused_tables, check_folders, check_program, check_output, check_lists, check_copied, check_counts, check_headings, check_tables_of_locales]
+    checks = [check_reports, check_refused_tables, check_folders, check_program, check_output, check_lists, check_copied, check_counts, check_headings, check_order, check_tables_of_locales]
     if shutil.which("cpp"):
         checks.append(check_sources)
     for check in checks:

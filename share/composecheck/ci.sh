@@ -323,7 +323,7 @@ print_includes() {
 }
 
 # Prints each line of the files ./LOCALE once, below the locales that have it, as headings of a level, and says whether there is one. The line that
-# counts is left out.
+# counts is left out. Lost texts (`now: none`) come first, then what is typed otherwise (`now:` and keys), then the rest.
 print_lines() {
     level=$1
     shift
@@ -348,14 +348,25 @@ print_lines() {
             }
             return group
         }
+        # What a group has of a kind, below the words for it, if it has some.
+        function block(group, kind, words) {
+            if (!((group, kind) in below)) return ""
+            return (kind < 3 || (group, 1) in below || (group, 2) in below ? "\n" words "\n" : "") "\n" below[group, kind]
+        }
         END {
-            for (n = 1; n <= count; n++) {
-                group = locales[lines[n]]
-                if (!(group in below)) groups[++number] = group
-                below[group] = below[group] "    " lines[n] "\n"
+            for (kind = 1; kind <= 3; kind++)
+                for (n = 1; n <= count; n++) {
+                    group = locales[lines[n]]
+                    if (kind != (lines[n] ~ / now: none$/ ? 1 : lines[n] ~ / now: </ ? 2 : 3)) continue
+                    if (!(group in seen)) { seen[group]; groups[++number] = group }
+                    below[group, kind] = below[group, kind] "    " lines[n] "\n"
+                }
+            for (n = 1; n <= number; n++) {
+                printf "\n%s %s\n", level, heading(groups[n])
+                printf "%s%s", block(groups[n], 1, "No sequence gives these texts any more:"), block(groups[n], 2, "Other keys give these texts now:")
+                printf "%s", block(groups[n], 3, "The rest:")
             }
-            for (n = 1; n <= number; n++) printf "\n%s %s\n\n%s", level, heading(groups[n]), below[groups[n]]
-            exit number == 0
+            exit (number == 0)
         }' "$room/includes" "$@"
 }
 
