@@ -111,7 +111,7 @@ class CertificateRefused(Refused):
 
 
 class VerdictNo(Refused):
-    """Load: the certificate does not show that the new table follows the current one."""
+    """Load: the certificate is not valid for the current table and the new one, or lists fresh keysyms that the service doesn't allow."""
 
     code = 8
 

@@ -1,5 +1,5 @@
 -- Keysyms are read from bytes, four for each.
-use Rattle.std.proofs.Common.{◌≡◌, ℕ, ◌+◌, ◌-◌, ◌*◌, ◌<◌, ◌≤◌, List, [], ◌∷◌, ◌++◌, length, take, drop, get_or, refl, sym, ◌∙◌, ap, subst, arith, length-drop}
+use Rattle.std.proofs.Common.{◌≡◌, ℕ, suc, ◌+◌, ◌-◌, ◌*◌, ◌<◌, ◌≤◌, List, [], ◌∷◌, ◌++◌, length, take, drop, get_or, refl, sym, ◌∙◌, ap, subst, arith, length-drop}
 use Rattle.std.proofs.lemmas.List.{take_all}
 use Rattle.compose_wire.specs.Messages.{Answer, opened, fed, was_reset, closed, loaded, state, refused}
 use Rattle.compose_wire.specs.Frames.{answer_kind, answer_payload}
@@ -28,6 +28,11 @@ no_keysyms (a ∷ b ∷ c ∷ d ∷ rest) l = absurd (omega arith)
 pub one_more : (ks : List ℕ) (k : ℕ) → AreKeysyms ks → k ≤ 0x1fffffff → AreKeysyms (ks ++ k ∷ [])
 one_more [] k a l = (l, tt)
 one_more (j ∷ ks) k a l = (a.0, one_more ks k a.1 l)
+
+-- where each number is a keysym's, they are keysyms
+pub each_is_keysym : (ks : List ℕ) → ((k : ℕ) → k < length ks → get_or ks k 0 ≤ 0x1fffffff) → AreKeysyms ks
+each_is_keysym [] f = tt
+each_is_keysym (j ∷ ks) f = (f 0 (omega arith), each_is_keysym ks (λ k h. f (suc k) (omega arith)))
 
 -- behind some numbers, one that is a keysym's
 pub is_keysym : (ks : List ℕ) (k : ℕ) (more : List ℕ) → AreKeysyms (ks ++ k ∷ more) → k ≤ 0x1fffffff

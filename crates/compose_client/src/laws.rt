@@ -1,18 +1,23 @@
 //! The laws of the frames of replies.
 ghost use Rattle.std.specs.Prelude.{◌≡◌, ◌+◌, ◌≤◌, ◌++◌, List, ℕ, length, Some, None};
-ghost use Rattle.compose_wire.specs.Messages.{Reply};
+ghost use Rattle.compose_wire.specs.Messages as words;
+ghost use Rattle.compose_wire.specs.Messages.{Reply as ReplyValue};
+ghost use Rattle.compose_wire.specs.Replies.{SaysAnswer, SaysReply};
 ghost use Rattle.compose_wire.specs.Frames.{reply_bytes, Fault, size_said};
-ghost use Rattle.compose_client.specs.Replies.{ReplyFits, BeginsWithReply, head_fault, HasBadPayload};
+ghost use Rattle.compose_client.specs.Replies.{AreKeysyms, AnswerFits, ReplyFits, BeginsWithReply, head_fault, HasBadPayload};
+
+use compose_wire::{Answer, Reply};
+use keysym_core::Keysym;
 
 /// No reply's frame is a prefix of another one, so bytes begin with this reply and no other.
 pub fn law_one_reply()
-    ensures { (r s : Reply) (x y : List ℕ) → ReplyFits r → ReplyFits s
+    ensures { (r s : ReplyValue) (x y : List ℕ) → ReplyFits r → ReplyFits s
         → reply_bytes r ++ x ≡ reply_bytes s ++ y → (r ≡ s) × (x ≡ y) }
 {}
 
 /// A reply begins with no fault and stands whole; a fault stays, and so no reply can come of bytes that begin with one, whatever follows.
 pub fn law_reply_fault()
-    ensures no_fault { (r : Reply) (x : List ℕ) → ReplyFits r
+    ensures no_fault { (r : ReplyValue) (x : List ℕ) → ReplyFits r
         → head_fault (reply_bytes r ++ x) ≡ None }
     ensures whole { (bytes : List ℕ) → BeginsWithReply bytes → 9 + size_said bytes ≤ length bytes }
     ensures stays { (bytes more : List ℕ) (fault : Fault) → head_fault bytes ≡ Some fault
@@ -22,3 +27,36 @@ pub fn law_reply_fault()
     ensures payload_stays { (bytes more : List ℕ) → HasBadPayload bytes
         → HasBadPayload (bytes ++ more) }
 {}
+
+/// Whatever a reply says fits a frame: so what `put_reply` writes of it is given out by `next_reply`. O(pending keysyms).
+pub fn law_replies_fit(reply: &Reply)
+    ensures { (value : ReplyValue) → SaysReply reply.now value → ReplyFits value }
+{
+    let _session = reply.session;
+    answer_fits(&reply.answer);
+}
+
+/// Whatever an answer says fits a frame.
+fn answer_fits(answer: &Answer)
+    ensures { (value : words.Answer) → SaysAnswer answer.now value → AnswerFits value }
+{
+    match answer {
+        Answer::Fed(_, _, text) => {
+            let _text = text.as_str();
+        }
+        Answer::Loaded(count) => {
+            let _count = *count;
+        }
+        Answer::State(_, pending) => are_keysyms(pending.as_slice()),
+        _ => {}
+    }
+}
+
+/// The numbers of keysyms are those of keysyms.
+fn are_keysyms(keysyms: &[Keysym])
+    ensures { AreKeysyms keysyms.now }
+{
+    for keysym in keysyms {
+        let _value = keysym.value();
+    }
+}

@@ -18,5 +18,5 @@ mod request;
 
 pub use fault::{ReplyFault, RequestFault};
 pub use feeder::ReplyFeeder;
-pub use laws::{law_one_reply, law_reply_fault};
+pub use laws::{law_one_reply, law_replies_fit, law_reply_fault};
 pub use request::put_request;

@@ -11,6 +11,6 @@ refusal_words code =
     if code == 5 then codes "the load is no bundle" else
     if code == 6 then codes "the table is refused" else
     if code == 7 then codes "the certificate can't be read" else
-    if code == 8 then codes "the certificate does not show that the new table follows the one in use" else
+    if code == 8 then codes "the certificate is not valid: the new table does not follow the one in use, more keys may be pending than its bound, its typings are not those of the repertoire, or its fresh keys may not be fresh" else
     if code == 9 then codes "the service is out of memory" else
     if code == 10 then codes "the request is malformed" else codes "for a reason that is not known"

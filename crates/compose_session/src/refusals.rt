@@ -14,7 +14,8 @@ pub fn refusal_words(code: u16) -> &'static str
         5 => "the load is no bundle",
         6 => "the table is refused",
         7 => "the certificate can't be read",
-        8 => "the certificate does not show that the new table follows the one in use",
+        8 =>
+            "the certificate is not valid: the new table does not follow the one in use, more keys may be pending than its bound, its typings are not those of the repertoire, or its fresh keys may not be fresh",
         9 => "the service is out of memory",
         10 => "the request is malformed",
         _ => "for a reason that is not known",
