@@ -1,3 +1,4 @@
 pub mod Sent
 pub mod OneVerdict
 pub mod TypedOnce
+pub mod Runs

@@ -33,7 +33,7 @@ happened c e o es end verdicts h g = record {
   told = ap (λ (x : Outcome). told_in x.action ++ told_at x.client es) h ∙ ap (λ (v : List Verdict). told_in o.action ++ v) g.told;
 }
 
-heard_here : (c : Client) (a : Answer) → answered c (record { session = c.session; answer = a }) ≡ answered_at c.stage c a
+pub heard_here : (c : Client) (a : Answer) → answered c (record { session = c.session; answer = a }) ≡ answered_at c.stage c a
 heard_here c a = rw (eq-eqb c.session c.session refl) refl
 
 goes_on : (c : Client) (a : Answer) (o : Outcome) (es : List Event) (end : Client) (verdicts : List Verdict) → answered_at c.stage c a ≡ o → Goes o.client es end verdicts
@@ -41,14 +41,14 @@ goes_on : (c : Client) (a : Answer) (o : Outcome) (es : List Event) (end : Clien
 goes_on c a o es end verdicts e g = happened c (reply (record { session = c.session; answer = a })) o es end verdicts (heard_here c a ∙ e) g
 
 -- the client while so many replies are passed over
-abbrev feeding : Client → Waiting → ℕ → Client
+abbrev pub feeding : Client → Waiting → ℕ → Client
 feeding c w n = record c { is_stale = true; stage = Feeding w n }
 
-fed_next : (c : Client) (w : Waiting) (n : ℕ) (status : Status) (accepted : Bool) (text : List ℕ)
+pub fed_next : (c : Client) (w : Waiting) (n : ℕ) (status : Status) (accepted : Bool) (text : List ℕ)
     → fed_at (feeding c w (suc n)) w (suc n) (fed status accepted text) ≡ does (feeding c w n) Wait
 fed_next c w n status accepted text = rw (eqb-suc-zero n) (rw (sub-one (suc n)) refl)
 
-reset_next : (c : Client) (w : Waiting) (n : ℕ) → fed_at (feeding c w (suc n)) w (suc n) was_reset ≡ does (feeding c w n) Wait
+pub reset_next : (c : Client) (w : Waiting) (n : ℕ) → fed_at (feeding c w (suc n)) w (suc n) was_reset ≡ does (feeding c w n) Wait
 reset_next c w n = rw (eqb-suc-zero n) (rw (sub-one (suc n)) refl)
 
 -- the replies to keys that are typed anew are passed over

@@ -15,6 +15,7 @@
 #![tactic(auto)]
 
 ghost use Rattle.compose_typing.specs.Laws.{OneVerdict};
+ghost use Rattle.compose_typing.specs.Runs.{TypesRun};
 ghost use Rattle.compose_typing.specs.Service.{AskedOnce, LostOnce, PendingAgain};
 
 mod action;
@@ -38,4 +39,10 @@ pub fn law_key_once()
     ensures asked { AskedOnce }
     ensures lost { LostOnce }
     ensures again { PendingAgain }
+{}
+
+/// Over all keys the verdicts of a client are those of the table's run over these keys, so that what is committed is what the table
+/// commits: with a service that types over one table, in a session that is open, whichever connections are lost on the way.
+pub fn law_types_run()
+    ensures { TypesRun }
 {}
