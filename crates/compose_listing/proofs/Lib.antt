@@ -1,0 +1,4 @@
+pub mod Lines
+pub mod Said
+pub mod Again
+pub mod Table

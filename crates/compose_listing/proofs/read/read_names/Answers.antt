@@ -1,0 +1,11 @@
+use Rattle.std.proofs.Common.{sym, subst, [], List, ℕ}
+use Rattle.compose_migration.specs.Migration.{named}
+use Rattle.compose_answer.specs.Refused.{IsRefused}
+use Rattle.compose_answer.specs.declared.refusal.Refusal.{Refusal}
+use Rattle.compose_answer.proofs.Refusals.{migration_refused, unmoved}
+use Rattle.compose_listing.proofs.read.read_names.Goals as goal
+
+pub returns-in-Err : goal.returns-in-Err
+returns-in-Err c =
+    let said = named c.args.header.now [] in
+    subst (λ (r : Refusal). IsRefused r (unmoved said)) (sym c.from.ensures) (migration_refused c.in-Err.fault said c.in-Err.ensures)

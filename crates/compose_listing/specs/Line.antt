@@ -1,0 +1,21 @@
+-- The line of a sequence in the form of a Compose file (Compose(5), "FILE DESCRIPTION"), with its place as a comment.
+use Rattle.std.specs.Prelude.{ℕ, ◌==◌, if◌then◌else◌, List, ◌++◌, length, flat_map, codes}
+use Rattle.std.specs.Fmt.{decimal}
+use Rattle.compose_lex.specs.Escape.{quote}
+use Rattle.compose_shown.specs.Shown.{shown_text}
+
+-- each key between `<` and `>`, and a blank after it
+abbrev pub keys_text : List (List ℕ) → List ℕ
+keys_text keys = flat_map (λ key. codes "<" ++ (key ++ codes "> ")) keys
+
+-- the text in quotes; where it is empty, the name of the keysym without a text (no string of a Compose file is empty)
+abbrev pub result_text : List ℕ → List ℕ
+result_text text = if length text == 0 then codes "VoidSymbol" else quote text
+
+-- the path, made harmless for a terminal, and the line, as a comment
+abbrev pub place_comment : List ℕ → ℕ → List ℕ
+place_comment path line = codes "  # " ++ (shown_text path ++ (codes ":" ++ decimal line))
+
+-- as `<Multi_key> <e> : "é"  # en_US.UTF-8/Compose:123`
+abbrev pub listed_line : List (List ℕ) → List ℕ → List ℕ → ℕ → List ℕ
+listed_line keys text path line = keys_text keys ++ (codes ": " ++ (result_text text ++ place_comment path line))

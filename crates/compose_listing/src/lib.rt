@@ -1,0 +1,45 @@
+//! The sequences of a table as lines of a Compose file: those that give a text, and all of them.
+//!
+//! [`how_to_type`] gives the lines of the sequences that give a text, the shortest first, and [`list_table`] those of all sequences of a table, as
+//! they count. What it gives is a Compose file without includes, which is read as the same table ([`law_listing`]).
+//!
+//! ```text
+//! how_to_type::<PackedTable>(alloc, names, &table, &paths, &["≠"], true)?.lines
+//! <Multi_key> <equal> <slash> : "≠"  # /usr/share/X11/locale/en_US.UTF-8/Compose:123
+//! ```
+#![tactic(auto)]
+
+ghost use Rattle.std.specs.Prelude.{◌≡◌, ℕ, List, [], ◌∷◌, Ok, map, IsTrue};
+ghost use Rattle.std.specs.Str.{is_utf8};
+ghost use Rattle.keysym_core.specs.Names.{KeysymNames};
+ghost use Rattle.compose_model.specs.Table.{Definition};
+ghost use Rattle.compose_model.specs.Nodes.{leaves};
+ghost use Rattle.compose_model.specs.declared.Rule as rules;
+ghost use Rattle.compose_read.specs.Lines.{Visit};
+ghost use Rattle.compose_tree.specs.TableGives.{table_of};
+ghost use Rattle.compose_places.specs.Counting.{counting_line, AreLines};
+ghost use Rattle.compose_listing.specs.Held.{IsBuilt, are_writable};
+ghost use Rattle.compose_listing.specs.Listing.{listing};
+
+mod how;
+mod line;
+mod list;
+mod listed;
+mod read;
+mod wanted;
+
+pub use how::{Ways, how_to_type};
+pub use list::list_table;
+pub use wanted::wanted_text;
+
+/// What is listed of a table is read as the same table, by either rule of overlaps and under any name: of a table that is built, of which each
+/// sequence has a line that counts, as it has in a table that is read, and whose texts are such as the string of a Compose file can write. What
+/// is printed is a text, as a `String` always is.
+pub fn law_listing()
+    ensures { (names : KeysymNames) (lines : List Visit) (paths : List (List ℕ))
+        (table : List Definition) (root : List ℕ) (rule : rules.Rule) → IsBuilt table
+        → AreLines names table (map (counting_line names lines) (leaves table))
+        → IsTrue (are_writable table) → IsTrue (is_utf8 (listing names lines paths table))
+        → table_of names
+        (record { name = root; bytes = listing names lines paths table } ∷ []) root rule ≡ Ok table }
+{}

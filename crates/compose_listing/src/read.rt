@@ -1,0 +1,72 @@
+//! Names and a table with the lines that count, read in this order.
+ghost use Rattle.std.specs.Prelude.{◌≡◌, [], map, IfOk};
+ghost use Rattle.compose_model.specs.Nodes.{leaves};
+ghost use Rattle.compose_places.specs.Counting.{counting_line, read_lines};
+ghost use Rattle.compose_tree.specs.TableGives.{TableGives, first_table};
+ghost use Rattle.compose_migration.specs.Migration.{or_because};
+ghost use Rattle.compose_migration.specs.MigrationGives.{named_parts};
+ghost use Rattle.compose_answer.specs.Parts.{given_key_names, no_only_table};
+ghost use Rattle.compose_answer.specs.Refused.{Gives};
+ghost use Rattle.compose_listing.specs.Answers.{root_of};
+
+use compose_answer::Refusal;
+use compose_migration::{Named, TableInput};
+use compose_model::Rule;
+use compose_places::{PlacedTable, read_placed_table};
+use compose_read::{ReadFault, Sources};
+use compose_tree::{ComposeTable, TableFault};
+use keysym_core::Names;
+use std::alloc::Global;
+
+/// The names of a header.
+pub(crate) fn read_names(alloc: Global, header: &[u8]) -> Result<Named, Refusal>
+    ensures { Gives (λ said read. said ≡ named_parts read) result (given_key_names header.now []) }
+{
+    match Named::read(alloc, header, &[]) {
+        Ok(named) => Ok(named),
+        Err(fault) => Err(Refusal::from(fault)),
+    }
+}
+
+/// The one table that is given, and the lines that count for its sequences.
+pub(crate) fn read_placed<'a, T: ComposeTable>(
+    alloc: Global,
+    names: &Names,
+    input: &TableInput<'a>,
+) -> Result<PlacedTable<'a, T>, Refusal>
+    ensures table { Gives (λ said placed. said ≡ T.definitions placed.table) result
+        (or_because no_only_table
+        (first_table names.now input.now.sources.now input.now.rule)) }
+    ensures lines { IfOk result
+        (λ placed. placed.lines.items
+        ≡ map
+        (counting_line names.now
+        (read_lines input.now.sources.now (root_of input.now.sources.now)))
+        (leaves (T.definitions placed.table))) }
+{
+    match read_first(alloc, names, input.sources, input.rule) {
+        Ok(placed) => Ok(placed),
+        Err(TableFault::NoMemory) => Err(Refusal::NoMemory),
+        Err(fault) => Err(Refusal::Table(fault)),
+    }
+}
+
+/// The table whose root is the first source, and the lines that count for its sequences. Without a source, the root is missing.
+fn read_first<'a, T: ComposeTable>(
+    alloc: Global,
+    names: &Names,
+    sources: &'a Sources,
+    rule: Rule,
+) -> Result<PlacedTable<'a, T>, TableFault>
+    ensures table { TableGives (λ placed. T.definitions placed.table) result
+        (first_table names.now sources.now rule) }
+    ensures lines { IfOk result
+        (λ placed. placed.lines.items
+        ≡ map (counting_line names.now (read_lines sources.now (root_of sources.now)))
+        (leaves (T.definitions placed.table))) }
+{
+    let Some(root) = sources.name(0) else {
+        return Err(TableFault::Read(ReadFault::MissingRoot));
+    };
+    read_placed_table(alloc, names, sources, root, rule)
+}
