@@ -53,7 +53,7 @@ def check_without_kit(results):
         results.expect("a program that is built needs no kit", tree.make(), ("make: Nothing to be done for 'all'.\n", "", 0))
     with open(os.path.join(TOP, "README.md"), encoding="utf-8") as file:
         install = file.read().split("\n## Install\n", 1)[1].split("\n## ", 1)[0]
-    results.expect("README's section Install names the kit", "`rt` on the path" in install, True)
+    results.expect("README's section Install names the kit", "`rt` on the path" in " ".join(install.split()), True)
 
 
 def check_build(results):

@@ -348,24 +348,15 @@ print_lines() {
             }
             return group
         }
-        # What a group has of a kind, below the words for it, if it has some.
-        function block(group, kind, words) {
-            if (!((group, kind) in below)) return ""
-            return (kind < 3 || (group, 1) in below || (group, 2) in below ? "\n" words "\n" : "") "\n" below[group, kind]
-        }
         END {
             for (kind = 1; kind <= 3; kind++)
                 for (n = 1; n <= count; n++) {
                     group = locales[lines[n]]
                     if (kind != (lines[n] ~ / now: none$/ ? 1 : lines[n] ~ / now: </ ? 2 : 3)) continue
                     if (!(group in seen)) { seen[group]; groups[++number] = group }
-                    below[group, kind] = below[group, kind] "    " lines[n] "\n"
+                    below[group] = below[group] "    " lines[n] "\n"
                 }
-            for (n = 1; n <= number; n++) {
-                printf "\n%s %s\n", level, heading(groups[n])
-                printf "%s%s", block(groups[n], 1, "No sequence gives these texts any more:"), block(groups[n], 2, "Other keys give these texts now:")
-                printf "%s", block(groups[n], 3, "The rest:")
-            }
+            for (n = 1; n <= number; n++) printf "\n%s %s\n\n%s", level, heading(groups[n]), below[groups[n]]
             exit (number == 0)
         }' "$room/includes" "$@"
 }
@@ -411,6 +402,7 @@ print_counts() (
                 match(parts[n], /^[0-9]+ /)
                 word = substr(parts[n], RLENGTH + 1)
                 if (word == "new start") word = "new starts"
+                if (word == "text lost") word = "texts lost"
                 if (!(word in sums)) words[++columns] = word
                 counts[number, word] = parts[n] + 0
                 sums[word] += parts[n]
