@@ -4,8 +4,11 @@ here, or with a second reading of sessions. The last line is `N passed, M failed
 import array
 import contextlib
 import fcntl
+import multiprocessing
 import os
 import random
+import resource
+import signal
 import socket
 import sys
 import termios
@@ -23,6 +26,9 @@ LARGE_AT_ONCE, LARGE = 8, 100_000
 LOADS = 40
 # A client that reads nothing sends so many requests; their replies are more than sockets hold.
 UNREAD = 200_000
+# So many keys are timed; beside a client that sends keys without a pause the 99th of them takes no longer than this, in seconds, and beside
+# clients that send loads no longer than one load of each and this, on a machine that does nothing else.
+TIMED_KEYS, BESIDE_KEYS, BESIDE_LOADS = 100, 0.050, 0.005
 TABLE = {(GRAVE, ACUTE, E): b"x", (ACUTE, E): b"x"}
 NOTHING, COMPOSING, COMPOSED, CANCELLED = range(4)
 
@@ -231,10 +237,10 @@ class Sessions:
         return frame(0x80 + kind, session)
 
 
-def stream_of(chance, first):
-    """A random stream over two sessions of its own, and the replies to it."""
+def stream_of(chance, first, requests=400):
+    """A random stream of so many requests over two sessions of its own, and the replies to it."""
     sessions, sent, wanted = Sessions(), bytearray(), bytearray()
-    for _ in range(400):
+    for _ in range(requests):
         kind, session = chance.choice((1, 2, 2, 2, 2, 2, 2, 3, 4, 6)), first + chance.randrange(2)
         keysym = chance.choice((GRAVE, ACUTE, E, X))
         sent += key(session, keysym) if kind == 2 else frame(kind, session)
@@ -264,11 +270,92 @@ def check_many(program, results, unsent):
         results.expect("their ends", (sorted(printed.splitlines()), complained, status), (sorted(["listening", *(f"connection {it}: ended" for it in range(1, CLIENTS + 2))]), "", 0))
 
 
+# ---- what a service runs out of
+
+def check_few_descriptors(program, results, options):
+    """Where no descriptor is left a client waits, and is served once there is one."""
+    with Serving(program, connections=2, options=options) as service:
+        process = service.process.pid
+        results.expect(f"a client before, {options}", service.exchange(OPEN_7), OPENED_7)
+        _, most = resource.prlimit(process, resource.RLIMIT_NOFILE)
+        resource.prlimit(process, resource.RLIMIT_NOFILE, (len(os.listdir(f"/proc/{process}/fd")), most))
+        with Peer(service) as waiting:
+            waiting.send(frame(6, 7))
+            results.expect(f"a client waits for a descriptor, {options}", waiting.waits(1.5), True)
+            resource.prlimit(process, resource.RLIMIT_NOFILE, (most, most))
+            results.expect(f"it is served once there is one, {options}", waiting.read(len(state(7, 0))), state(7, 0))
+            results.expect(f"its end, {options}", waiting.finish(), b"")
+        results.expect(f"what is printed then, {options}", service.ended(), ("listening\nconnection 1: ended\nconnection 2: ended\n", "", 0))
+
+
+# ---- a key beside others
+
+def send_keys(service, session):
+    """Sends keys without a pause, until it is stopped."""
+    with Peer(service) as peer:
+        peer.ask(frame(1, session), frame(0x81, session))
+        sent, wanted = key(session, X) * 500, fed(session, NOTHING, b"x") * 500
+        while True:
+            peer.ask(sent, wanted)
+
+
+def send_loads(service, _):
+    """Sends small loads without a pause, until it is stopped."""
+    with Peer(service) as peer:
+        sent, size = load(OLD, ITSELF), len(loaded(1))
+        while True:
+            peer.send(sent)
+            peer.read(size)
+
+
+@contextlib.contextmanager
+def beside(clients, service, work):
+    """So many processes do this work meanwhile."""
+    processes = [multiprocessing.get_context("fork").Process(target=work, args=(service, 100 + it), daemon=True) for it in range(clients)]
+    for it in processes:
+        it.start()
+    time.sleep(0.3)
+    try:
+        yield
+    finally:
+        for it in processes:
+            os.kill(it.pid, signal.SIGKILL)
+            it.join()
+
+
+def times_of(peer, sent, size, count):
+    """How long each of so many answers takes, in order of length."""
+    times = []
+    for _ in range(count):
+        start = time.perf_counter()
+        peer.send(sent)
+        peer.read(size)
+        times.append(time.perf_counter() - start)
+        time.sleep(0.002)
+    return sorted(times)
+
+
+def check_keys_beside(program, results, clients, work):
+    """A key waits little for clients that send without a pause; where the machine is busy with other things, longer."""
+    with Serving(program, connections=clients + 2, options=at_once(clients + 2)) as service, Peer(service) as typing, Peer(service) as loading:
+        typing.ask(OPEN_7, OPENED_7)
+        one_load = times_of(loading, load(OLD, ITSELF), len(loaded(1)), 20)[10]
+        most = BESIDE_KEYS if work is send_keys else clients * one_load + BESIDE_LOADS
+        busy = max(1, 4 * os.getloadavg()[0] / os.cpu_count())
+        with beside(clients, service, work):
+            times = times_of(typing, key(7, X), len(fed(7, NOTHING, b"x")), TIMED_KEYS)
+        waited = times[TIMED_KEYS * 99 // 100 - 1]
+        results.expect(f"a key beside {clients} of {work.__name__}: {waited:.4f} of {most * busy:.4f} seconds", waited <= most * busy, True)
+
+
 def main():
     program, results = os.path.abspath(sys.argv[1]), Results()
     assert OLD.count(b"\n") == len(TABLE)
     for check in (check_worked, check_load_beside, check_faults_beside, check_waiting, check_large_loads):
         check(program, results)
+    check_few_descriptors(program, results, at_once(4))
+    for clients, work in ((1, send_keys), (1, send_loads), (8, send_loads)):
+        check_keys_beside(program, results, clients, work)
     for unsent in (65_536, 1):
         check_unread(program, results, unsent)
         check_many(program, results, unsent)

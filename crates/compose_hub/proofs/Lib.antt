@@ -4,3 +4,4 @@ pub mod Serving
 pub mod Longest
 pub mod Rooms
 pub mod Rounding
+pub mod Trying

@@ -37,7 +37,7 @@ turns_from most unsent reading turn old mid new number streams between streams' 
 )
 
 module _ (unsent : ℕ) (reading : Reading) where
-  -- a round behind which nothing happens
+  -- a round after which nothing happens
   pub round_stays : (clients : List Client) (old mid new : ServiceState) (streams between streams' : ℕ → StreamState) → AreRound unsent reading old mid streams between clients → new ≡ mid → AllStay between streams'
       → AreRound unsent reading old new streams streams' clients
   round_stays [] old mid new streams between streams' r same stay = (same ∙ r.0, λ c. stay c ∙ r.1 c)

@@ -336,7 +336,7 @@ goes_on_as c after state stream now ended same none stands =
     subst (λ (e : Option (ℕ × ConnectionEnd)). GoesOnOrEnds c after stream now e) (sym none)
     (subst (λ (s : ConnectionState). StandsAs c.number s now) same stands)
 
--- a slot behind turns goes on with its connection as they left it, or its connection ended
+-- a slot after turns goes on with its connection as they left it, or its connection ended
 slot_follows : (turn : Turn) (c : Client) (after state : ConnectionState) (stream stream' : StreamState) (now : Option Client) (ended : Option (ℕ × ConnectionEnd)) → stream'.left ≡ stream.left
     → LeavesSo turn after state stream → SlotFollows turn c state now ended → GoesOnOrEnds c after stream' now ended
 slot_follows GoesOn c after state stream stream' now ended same leaves h = goes_on_as c after state stream' now ended leaves h.0 h.1

@@ -17,9 +17,9 @@ use Rattle.compose_hub.specs.declared.client.Client.{Client}
 use Rattle.compose_hub.specs.Sockets.{KeepsBytes}
 use Rattle.compose_hub.specs.Turns.{AreTurns, TurnsSo, WasHad}
 
-none_behind : (es fs : List Event) → es ++ fs ≡ [] → fs ≡ []
-none_behind [] fs none = none
-none_behind (e ∷ es) fs none = absurd (cc)
+none_after : (es fs : List Event) → es ++ fs ≡ [] → fs ≡ []
+none_after [] fs none = none
+none_after (e ∷ es) fs none = absurd (cc)
 
 -- so many turns after which the connection goes on, and in which no load was answered
 pub record WentOn (turns unsent : ℕ) (reading : Reading) (old new : ServiceState) (number : ℕ) (streams streams' : ℕ → StreamState) (before now : ConnectionState) : Type 0 where
@@ -74,8 +74,8 @@ module _ (turns unsent : ℕ) (reading : Reading) (old mid new : ServiceState) (
   no_load_both fs = loads-both so_far.events fs ∙ ap (λ n. n + loads fs) so_far.no_load ∙ zero-add (loads fs)
 
   some_both : (turn : Turn) (fs : List Event) (after : ConnectionState) (stream : StreamState) → WasHad turn fs after stream → WasHad turn (so_far.events ++ fs) after stream
-  some_both GoesOn fs after stream h = λ none. h (none_behind so_far.events fs none)
-  some_both Loaded fs after stream h = λ none. h (none_behind so_far.events fs none)
+  some_both GoesOn fs after stream h = λ none. h (none_after so_far.events fs none)
+  some_both Loaded fs after stream h = λ none. h (none_after so_far.events fs none)
   some_both Waits fs after stream h = h
   some_both NeedsRoom fs after stream h = h
   some_both (Ends end) fs after stream h = h

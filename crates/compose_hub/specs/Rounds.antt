@@ -105,7 +105,7 @@ MarksReady ready before now = (key : ℕ) → get_or now key None ≡ (let slot 
 
 -- ---- room
 
--- so many connections have room for more than their share
+-- the most connections that have room for more than their share
 abbrev pub max_rooms : ℕ
 max_rooms = 8
 

@@ -73,7 +73,7 @@ AllAreStill before now = (key : ℕ) → SlotIsStill (get_or before key None) (g
 abbrev pub AcceptsSo : ℕ → ℕ → Option Client → Option Client → Type 0
 AcceptsSo accepted accepted' before now = ((accepted' ≡ accepted) × (now ≡ before)) ⊎ ((accepted' ≡ accepted + 1) × StandsAs accepted' new_connection now)
 
--- up to so many turns of a client are turns of its connection; it keeps its room, and holds no more than its share where it did
+-- up to this number of turns of a client are turns of its connection
 abbrev pub ClientTurnsSo : ℕ → ℕ → Reading → Turn → ServiceState → ServiceState → (ℕ → StreamState) → (ℕ → StreamState) → Client → Client → Type 0
 ClientTurnsSo most unsent reading turn old new streams streams' before now =
     TurnsSo most unsent reading turn old new before.number streams streams' before.connection now.connection × (now.number ≡ before.number)
@@ -90,13 +90,13 @@ SlotGoesOn unsent reading old new streams streams' before now ended =
     ⊎ ((c : Client) × (before ≡ Some c) × (events : List Event) × (after : ConnectionState)
     × AreTurns unsent reading old new c.number streams streams' c.connection after events × GoesOnOrEnds c after (streams' c.number) now ended)
 
--- what a connection waits for behind its turns
+-- what a connection waits for after its turns
 abbrev pub waits_after : Turn → WaitsFor
 waits_after Waits = ForStream
 waits_after NeedsRoom = ForRoom
 waits_after _ = ForTurn
 
--- the slot of a connection behind its turns: it goes on as they leave it and waits as the last one says, or it ended, and its end is said
+-- the slot of a connection after its turns: it goes on as they leave it and waits as the last one demands, or it ended, and its end is the result
 abbrev pub SlotFollows : Turn → Client → ConnectionState → Option Client → Option (ℕ × ConnectionEnd) → Type 0
 SlotFollows (Ends end) c state now ended = (now ≡ None) × (ended ≡ Some (c.number, Served end))
 SlotFollows turn c state now ended = (ended ≡ None) × StandsAs c.number state now × ((d : Client) → now ≡ Some d → d.waits_for ≡ waits_after turn)

@@ -1,5 +1,5 @@
 -- What accepting, waiting and closing leave of the streams.
-use Rattle.std.specs.Prelude.{◌≡◌, ℕ}
+use Rattle.std.specs.Prelude.{◌≡◌, ℕ, ◌+◌, ◌<◌, Option, Some, None}
 use Rattle.compose_many.specs.Numbered.{StreamState, OthersStay}
 
 -- every stream is as before
@@ -15,3 +15,14 @@ pub record KeepsBytes (number : ℕ) (before now : ℕ → StreamState) : Type 0
   pub left : (now number).left ≡ (before number).left
   pub written : (now number).written ≡ (before number).written
   pub others : OthersStay number before now
+
+-- ---- attempts to accept, where they are counted
+
+abbrev pub one_more : Option ℕ → Option ℕ
+one_more None = None
+one_more (Some n) = Some (n + 1)
+
+-- at least one more
+abbrev pub IsMore : Option ℕ → Option ℕ → Type 0
+IsMore None now = now ≡ None
+IsMore (Some n) now = (m : ℕ) × (now ≡ Some m) × (n < m)

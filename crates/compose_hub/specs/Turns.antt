@@ -39,8 +39,8 @@ pub record AreTurns (unsent : ℕ) (reading : Reading) (old new : ServiceState) 
   pub turn : IsTurn (max unsent 1) reading old new before after (streams number).left (streams' number).left (streams number).written (streams' number).written events
   pub others : OthersStay number streams streams'
 
--- up to so many turns of a connection are events of it, in which little comes, one load is answered where that is told and else none, and the last
--- turn was had
+-- up to this number of turns of a connection are events of it, in which little comes; one load is answered where the result is Loaded, and else
+-- none; and the last turn was had
 abbrev pub TurnsSo : ℕ → ℕ → Reading → Turn → ServiceState → ServiceState → ℕ → (ℕ → StreamState) → (ℕ → StreamState) → ConnectionState → ConnectionState → Type 0
 TurnsSo most unsent reading turn old new number streams streams' before now =
     (events : List Event) × (after : ConnectionState) × AreTurns unsent reading old new number streams streams' before after events

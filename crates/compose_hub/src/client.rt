@@ -74,7 +74,7 @@ impl Client {
         self.number
     }
 
-    /// So many bytes it may hold before it needs room.
+    /// How many bytes it may hold before it needs room.
     fn most_held(&self) -> usize
         ensures { result ≡ (if self.now.has_room then usize.MAX else max_held) }
     {

@@ -147,6 +147,8 @@ impl Streams for PolledSockets {
 }
 
 impl Sockets for PolledSockets {
+    ghost attempts = { λ s. None };
+
     /// One attempt to accept. A number that a connection has is given up, and so is one that can't be registered.
     fn accept(&mut self, number: u64, key: usize) -> Accepted {
         if self.streams.contains_key(&number) {

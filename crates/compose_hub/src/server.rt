@@ -1,11 +1,11 @@
 //! The connections of a service, and their turns.
-ghost use Rattle.std.specs.Prelude.{◌≡◌, ◌≤◌, ◌==◌, ◌&&◌, [], ◌∷◌, ℕ, Bool, Option, List, ◌+◌, ◌<◌, ◌^◌, max, length, get_or, slice_set, vec_len, count_by, None, IfOk, OnOk};
+ghost use Rattle.std.specs.Prelude.{◌≡◌, ◌≤◌, ◌==◌, ◌&&◌, [], ◌∷◌, ℕ, Bool, Option, List, ◌+◌, ◌<◌, ◌^◌, max, length, get_or, slice_set, vec_len, count_by, true, None, IfOk, OnOk};
 ghost use Rattle.compose_machine.specs.Machine.{ServiceState, Reading};
 ghost use Rattle.compose_many.specs.Connection.{new_connection};
-ghost use Rattle.compose_hub.specs.Sockets.{KeepsBytes};
+ghost use Rattle.compose_hub.specs.Sockets.{KeepsBytes, one_more, IsMore};
 ghost use Rattle.compose_hub.specs.Ends.{ToldEnd};
 ghost use Rattle.compose_hub.specs.Serving.{world, ServesMany, ServesAll, HasServed, GoesOnServing, AcceptsSo, AllAreStill, HasNone, SlotIsStill, SlotTurnsSo, AreRound, with_turn};
-ghost use Rattle.compose_hub.specs.Rounds.{queue_after, retried, is_wanted, is_done, has_turns, waits_for_room, has_slot, longest_wait, longer, WaitsLongest, SlotGivesUp, queue_with, MarksReady, KeepsRooms, KeepsRoom};
+ghost use Rattle.compose_hub.specs.Rounds.{queue_after, retried, is_waits, is_wanted, is_done, has_turns, waits_for_room, has_slot, longest_wait, longer, WaitsLongest, SlotGivesUp, queue_with, MarksReady, KeepsRooms, KeepsRoom};
 ghost use Rattle.compose_hub.specs.Slots.{slot_uses_room, slot_has_room, waits_since, given_turn, given_room};
 ghost use Rattle.std.specs.Option.{option_map, is_none};
 ghost use Rattle.std.specs.List.{list_any, list_all};
@@ -180,13 +180,16 @@ impl Server {
         self.time = self.time.saturating_add(micros.max(ROUND));
     }
 
-    /// Accepts the connections that wait, while there is a slot for them.
+    /// Accepts the connections that wait, while there is a slot for them; where the last attempt failed it is tried again.
     fn accept_all<N: Sockets>(&mut self, alloc: Global, sockets: &mut N, limits: Limits)
         ensures goes_on { (reading : Reading) (state : ServiceState) (told : Option (List ToldEnd))
             → GoesOnServing limits reading (world state (N.stream sockets.old) told)
             (world state (N.stream sockets.new) told) self.old.accepted
             self.new.accepted self.old.slots.items self.new.slots.items }
         ensures rooms { KeepsRooms self.old.slots.items self.new.slots.items }
+        ensures tries { is_waits (retried self.old.queue) ≡ true
+            → has_slot limits self.old.accepted self.old.slots.items ≡ true
+            → IsMore (N.attempts sockets.old) (N.attempts sockets.new) }
     {
         self.queue = retried(self.queue);
         'slots: for (key, slot) in self.slots.iter_mut().enumerate() {
@@ -462,6 +465,7 @@ fn accept_into<N: Sockets>(
     ensures accepts { AcceptsSo accepted.old accepted.new slot.old slot.new }
     ensures room { KeepsRoom slot.old slot.new }
     ensures stay { KeepsBytes (accepted.old + 1) (N.stream sockets.old) (N.stream sockets.new) }
+    ensures attempt { N.attempts sockets.new ≡ one_more (N.attempts sockets.old) }
 {
     let number = *accepted + 1;
     let came = sockets.accept(u64::from(number), key);

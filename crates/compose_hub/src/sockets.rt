@@ -1,5 +1,6 @@
 //! The sockets of a service: where its connections come from, and their streams.
-ghost use Rattle.compose_hub.specs.Sockets.{AllStay, KeepsBytes};
+ghost use Rattle.std.specs.Prelude.{◌≡◌, ℕ, Option};
+ghost use Rattle.compose_hub.specs.Sockets.{AllStay, KeepsBytes, one_more};
 
 use compose_many::Streams;
 use std::io;
@@ -31,9 +32,13 @@ pub enum Ready {
 ///
 /// A stream is there from the start, with what its client will send; a connection that is accepted is given the number of its stream.
 pub trait Sockets: Streams {
+    /// How often it was attempted to accept a connection, where that is counted.
+    ghost attempts: { Self → Option ℕ };
+
     /// Accepts the next connection under this number, if one waits. From now on it is reported as ready by this key.
     fn accept(&mut self, number: u64, key: usize) -> Accepted
-        ensures { KeepsBytes number (Self.stream self.old) (Self.stream self.new) };
+        ensures bytes { KeepsBytes number (Self.stream self.old) (Self.stream self.new) }
+        ensures attempt { attempts self.new ≡ one_more (attempts self.old) };
 
     /// Waits until something is ready, and no longer than this; puts what is ready there, in place of what was there.
     ///

@@ -1,9 +1,8 @@
 use Rattle.std.proofs.Common.{◌≡◌, ◌∙◌, true, refl, sym, ap, inr, subst, rules}
-use Rattle.std.specs.Prelude.{ℕ, Option, Some, None, Result}
+use Rattle.std.specs.Prelude.{ℕ, Option, Some, Result}
 use Rattle.compose_serve.specs.declared.ends.Ended.{Ended}
 use Rattle.compose_serve.specs.declared.ends.ServeFault.{ServeFault}
-use Rattle.compose_many.specs.Numbered.{StreamState}
-use Rattle.compose_many.specs.declared.turn.Turn.TheVariants.{GoesOn, Loaded, Waits, NeedsRoom, Ends}
+use Rattle.compose_many.specs.declared.turn.Turn.TheVariants.{GoesOn, Loaded, NeedsRoom, Ends}
 use Rattle.compose_hub.specs.Sockets.{KeepsBytes}
 use Rattle.compose_hub.specs.Slots.{slot_has_turn}
 use Rattle.compose_hub.specs.declared.client.Client.{Client}

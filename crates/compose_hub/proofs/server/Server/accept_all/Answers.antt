@@ -1,10 +1,12 @@
-use Rattle.std.proofs.Common.{◌≡◌, ◌<◌, ◌+◌, ◌∙◌, List, true, length, get_or, refl, sym, subst, arith}
+use Rattle.std.proofs.Common.{◌≡◌, ◌<◌, ◌≤◌, ◌+◌, ◌∙◌, ℕ, List, true, false, inr, length, get_or, get_or-set_other, refl, sym, ap, subst, arith}
 use Rattle.std.proofs.lemmas.Bool.{ltb-true}
-use Rattle.std.proofs.lemmas.List.{get_or_default, set-get_or, take_at}
-use Rattle.std.specs.Prelude.{Option, Some, None, nat_lt}
+use Rattle.std.proofs.lemmas.List.{get_or_default, set-get_or, take_at, take_all}
+use Rattle.std.specs.Prelude.{◌&&◌, Option, Some, None, nat_lt}
+use Rattle.std.specs.List.{list_any}
 use Rattle.std.specs.Option.{is_none}
-use Rattle.compose_hub.specs.Rounds.{is_waits, is_wanted, KeepsRooms}
+use Rattle.compose_hub.specs.Rounds.{is_waits, is_wanted, AreWithinRooms, KeepsRooms}
 use Rattle.compose_hub.proofs.Rooms.{rooms_set}
+use Rattle.compose_hub.proofs.Trying.{tried_now, tried_not, tried_all}
 use Rattle.compose_hub.specs.Serving.{world, ServedSoFar}
 use Rattle.compose_hub.specs.declared.client.Client.{Client}
 use Rattle.compose_hub.proofs.Serving.{both_hold, keeps, slot_accepted}
@@ -14,13 +16,33 @@ free_is : (o : Option Client) → is_none o ≡ true → o ≡ None
 free_is None e = refl
 free_is (Some c) e = absurd (cc)
 
+pub slots-init : goal.slots-init
+slots-init g c =
+    let is : c.deref_mut-slot-items.result.now ≡ c.args.self.now.slots.items = c.deref_mut-slot-items.ensures.value in
+    record {
+      goes_on = λ reading state told first s. subst (λ (now : List (Option Client)). ServedSoFar c.args.limits reading first (world state (g.N.Streams.stream c.args.sockets.now) told) c.args.self.now.accepted now) (sym is) s;
+      rooms = λ all. subst (λ (now : List (Option Client)). AreWithinRooms now) (sym is) all;
+      ahead = λ key le. ap (λ (now : List (Option Client)). get_or now key None) is;
+      tried = λ waits below. inr (record { attempts = refl; queue = c.retried-self.ensures; accepted = refl; none_free = refl });
+    }
+
 pub slots-preserved-then-not-is_wanted : goal.slots-preserved-then-not-is_wanted
 slots-preserved-then-not-is_wanted g c =
+    let lt : c.slots.key < length c.slots.slot-items = omega arith in
+    let here : get_or c.slots.slot-items c.slots.key c.slot-item.result ≡ get_or c.args.self.now.slots.items c.slots.key None =
+    get_or_default c.slots.slot-items c.slots.key c.slot-item.result None lt ∙ c.slots.invariant.ahead c.slots.key (omega arith)
+    in
+    let unwanted : (is_none (get_or c.args.self.now.slots.items c.slots.key None) && is_wanted c.slots.self.1.1.1.0 c.slots.self.1.1.0 c.args.limits) ≡ false =
+    subst (λ (o : Option Client). (is_none o && is_wanted c.slots.self.1.1.1.0 c.slots.self.1.1.0 c.args.limits) ≡ false) here (sym c.is_wanted.ensures ∙ c.if-not-is_wanted.true)
+    in
     let same = sym (set-get_or c.slots.slot-items c.slots.key c.slot-item.result) in
     record {
       goes_on = λ reading state told first s. subst (λ (now : List (Option Client)). ServedSoFar c.args.limits reading first (world state (g.N.Streams.stream c.slots.sockets) told) c.slots.self.1.1.0 now)
           same (c.slots.invariant.goes_on reading state told first s);
       rooms = subst (λ (now : List (Option Client)). KeepsRooms c.args.self.now.slots.items now) same c.slots.invariant.rooms;
+      ahead = subst (λ (now : List (Option Client)). (key : ℕ) → c.slots.key + 1 ≤ key → get_or now key None ≡ get_or c.args.self.now.slots.items key None) same
+          (λ key le. c.slots.invariant.ahead key (omega (arith, le)));
+      tried = λ waits below. tried_not c.args.limits _ _ _ _ _ _ c.slots.key c.args.self.now.slots.items waits below (omega arith) unwanted (c.slots.invariant.tried waits below);
     }
 
 pub slots-preserved : goal.slots-preserved
@@ -35,6 +57,8 @@ slots-preserved g c =
           (ltb-true c.slots.self.1.1.0 c.args.limits.connections some.1) (free_is slot wanted.0) (get_or_default c.slots.slot-items c.slots.key c.slot-item.result slot lt)
           (keeps (c.slots.self.1.1.0 + 1) (g.N.Streams.stream c.slots.sockets) (g.N.Streams.stream c.accept_into-self.new.sockets) c.accept_into-self.ensures.stay) c.accept_into-self.ensures.accepts;
       rooms = λ all. rooms_set c.slots.slot-items c.slots.key c.accept_into-self.new.slot lt c.slot-item.result (c.slots.invariant.rooms all) c.accept_into-self.ensures.room;
+      ahead = λ key le. get_or-set_other c.slots.slot-items c.slots.key key c.accept_into-self.new.slot None (λ same. absurd (omega (arith, same, le))) ∙ c.slots.invariant.ahead key (omega (arith, le));
+      tried = λ waits below. tried_now _ _ _ _ _ _ _ _ _ c.slots.key _ _ c.accept_into-self.ensures.attempt (c.slots.invariant.tried waits below);
     }
 
 pub returns-clause-goes_on : goal.returns-clause-goes_on
@@ -47,3 +71,8 @@ pub returns-clause-rooms : goal.returns-clause-rooms
 returns-clause-rooms g c =
     let len : length c.slots.slot-items ≡ c.args.self.now.slots.len = omega arith in
     subst (λ (now : List (Option Client)). KeepsRooms c.args.self.now.slots.items now) (sym (take_at _ _ _ len)) c.slots.invariant.rooms
+
+pub returns-clause-tries : goal.returns-clause-tries
+returns-clause-tries g c waits has =
+    let slot = both_hold (nat_lt c.args.self.now.accepted c.args.limits.connections) (list_any is_none c.args.self.now.slots.items) has in
+    tried_all _ _ _ _ _ _ c.slots.key c.args.self.now.slots.items (take_all c.slots.key c.args.self.now.slots.items (omega arith)) slot.1 (c.slots.invariant.tried waits slot.0)

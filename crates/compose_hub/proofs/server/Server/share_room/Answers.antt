@@ -1,4 +1,4 @@
-use Rattle.std.proofs.Common.{◌≡◌, ◌+◌, ◌<◌, ◌∙◌, length, arith, List, set, get_or, sym, subst, rules}
+use Rattle.std.proofs.Common.{◌+◌, ◌<◌, ◌∙◌, length, List, get_or, sym, subst, rules}
 use Rattle.std.specs.Prelude.{Option, None}
 use Rattle.compose_hub.specs.Slots.{given_room}
 use Rattle.compose_hub.specs.declared.client.Client.{Client}
