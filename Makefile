@@ -9,7 +9,7 @@
 # make install-fcitx5 builds the addon of fcitx5 and installs it, likewise
 # make uninstall      takes away what `make install` put there
 # make dist           packs the proved program for others into packages/, as an archive
-# make deb            the same, as a Debian package, and one each for the engine of IBus and the addon of fcitx5
+# make deb            the same, as a Debian package, and one each for the engine of IBus and the addon of fcitx5, and two for the C library
 # make test-packages  looks at what the packages hold
 # make desk           types into windows through IBus and fcitx5, on displays that nobody sees (docs/TYPING.md)
 # make names          writes the built-in names anew from HEADER (/usr/include/X11/keysymdef.h), and prints what changed
@@ -122,8 +122,9 @@ uninstall:
 dist: composecheck
 	python3 packaging/package.py dist ./composecheck packages
 
-deb: composecheck
+deb: composecheck $(LIBRARY)
 	python3 packaging/package.py deb ./composecheck packages
+	python3 packaging/package.py library ./composecheck packages
 	python3 packaging/package.py ibus ./composecheck packages
 	python3 packaging/package.py fcitx5 ./composecheck packages
 

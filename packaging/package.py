@@ -6,6 +6,8 @@
   package.py ibus PROGRAM FOLDER    composecheck-ibus_VERSION_all.deb: the engine of IBus
   package.py fcitx5 PROGRAM FOLDER  fcitx5-composecheck_VERSION_ARCH.deb: the addon of fcitx5, built by cmake where its headers are installed; else
                                     it says that it isn't made
+  package.py library PROGRAM FOLDER  libcomposecheck1_VERSION_ARCH.deb and libcomposecheck-dev_VERSION_ARCH.deb: the C library, and what programs
+                                    are built with (the proved static library has to be there: `make lib`)
 
 The first two hold the same files in the same places, the first below a prefix of one's own (the files name /usr/local), the second below
 /usr. All are the same to the byte when they are made from the same program and sources. Their files are as old as the last commit, or as
@@ -16,6 +18,7 @@ import hashlib
 import io
 import os
 import platform
+import re
 import shutil
 import subprocess
 import sys
@@ -43,6 +46,8 @@ IBUS_FILES = {
     f"share/glib-2.0/schemas/{IBUS_ID}.gschema.xml": f"{IBUS_ID}.gschema.xml",
     f"share/metainfo/{IBUS_ID}.metainfo.xml": f"{IBUS_ID}.metainfo.xml",
 }
+# Which files of the C library programs are built with; the others are needed where they run.
+DEVELOPMENT = (".a", ".h", ".pc", "/libcomposecheck.so")
 PROGRAMS = ("bin/composecheck", "/ci.sh", "/ibus-engine-composecheck", "/ibus-setup-composecheck")
 
 
@@ -60,6 +65,15 @@ THE_PROGRAM = Package("composecheck", "x11", "any", "libc6", """checks migration
  composecheck lists what a new Compose table changes for people who type with
  the old one, shows the shortest keys on which two tables differ, and serves
  typing sessions over a Unix socket. Its promises are proved.
+""")
+LIBRARY = Package("libcomposecheck1", "libs", "any", "libc6", """Compose tables and compose states for programs
+ libcomposecheck reads Compose tables, types with them, and takes a new table
+ in the middle of a sequence. libcomposecheck-xkb.so has the functions of
+ libxkbcommon's Compose over it, for LD_PRELOAD. Its promises are proved.
+""")
+LIBRARY_DEV = Package("libcomposecheck-dev", "libdevel", "any", "libcomposecheck1 (= VERSION)", """Compose tables and compose states for programs, development files
+ The header, the static library and the pkg-config file of libcomposecheck, its
+ guide and two examples.
 """)
 IBUS = Package("composecheck-ibus", "utils", "all", "composecheck (= VERSION), gir1.2-gtk-3.0, gir1.2-ibus-1.0, ibus, python3 (>= 3.9), python3-gi", """Compose sequences of a composecheck service, for IBus
  An engine of IBus that types by the Compose table of a running service. The
@@ -139,6 +153,28 @@ def fcitx5_files(version):
     return files
 
 
+def library_files():
+    """The same for the C library, which is built: those that programs are built with, and the others. A link is what it leads to, as text."""
+    sys.path.insert(0, f"{TOP}/lib")
+    import install_library
+
+    folder = f"lib/{platform.machine()}-linux-gnu"
+    with tempfile.TemporaryDirectory() as room:
+        install_library.install(room, "/usr")
+        places = [os.path.relpath(os.path.join(at, name), room) for at, _, names in os.walk(room) for name in names]
+        built = {it: os.readlink(f"{room}/{it}") if os.path.islink(f"{room}/{it}") else read(f"{room}/{it}") for it in places}
+    files = {re.sub("^lib", folder, place): content for place, content in built.items()}
+    settings = f"{folder}/pkgconfig/composecheck.pc"
+    files[settings] = files[settings].replace(b"${prefix}/lib", f"${{prefix}}/{folder}".encode())
+    parts = [{place: it for place, it in files.items() if place.endswith(DEVELOPMENT) == is_dev} for is_dev in (False, True)]
+    for package, part in zip((LIBRARY, LIBRARY_DEV), parts):
+        part[f"share/doc/{package.name}/LICENSE"] = read(f"{TOP}/LICENSE")
+    parts[1][f"share/doc/{LIBRARY_DEV.name}/LIBRARY.md"] = read(f"{TOP}/docs/LIBRARY.md")
+    for name in ("type.c", "live.c"):
+        parts[1][f"share/doc/{LIBRARY_DEV.name}/examples/{name}"] = read(f"{TOP}/lib/examples/{name}")
+    return parts
+
+
 def mode_of(path):
     return 0o755 if path.endswith(PROGRAMS) else 0o644
 
@@ -187,6 +223,9 @@ def make_deb(package, files, version, time, folder):
         for path, content in files.items():
             place = f"{room}/usr/{path}"
             os.makedirs(os.path.dirname(place), mode=0o755, exist_ok=True)
+            if isinstance(content, str):
+                os.symlink(content, place)
+                continue
             with open(place, "wb") as file:
                 file.write(content)
             os.chmod(place, mode_of(path))
@@ -194,10 +233,10 @@ def make_deb(package, files, version, time, folder):
         with open(f"{room}/DEBIAN/control", "w", encoding="utf-8") as file:
             file.write(control_of(package, files, version))
         with open(f"{room}/DEBIAN/md5sums", "w", encoding="utf-8") as file:
-            file.writelines(f"{hashlib.md5(content).hexdigest()}  usr/{path}\n" for path, content in sorted(files.items()))
+            file.writelines(f"{hashlib.md5(it).hexdigest()}  usr/{path}\n" for path, it in sorted(files.items()) if isinstance(it, bytes))
         for at, _, names in os.walk(room, topdown=False):
             for name in [*names, "."]:
-                os.utime(f"{at}/{name}", (time, time))
+                os.utime(f"{at}/{name}", (time, time), follow_symlinks=False)
         environment = {**os.environ, "SOURCE_DATE_EPOCH": str(time)}
         subprocess.run(["dpkg-deb", "--build", "--root-owner-group", room, made], check=True, stdout=subprocess.DEVNULL, env=environment)
     return made
@@ -215,6 +254,9 @@ def main():
         print(make_deb(THE_PROGRAM, files_of(program, "/usr"), version, time, folder))
     elif kind == "ibus":
         print(make_deb(IBUS, ibus_files(version), version, time, folder))
+    elif kind == "library":
+        for package, files in zip((LIBRARY, LIBRARY_DEV), library_files()):
+            print(make_deb(package, files, version, time, folder))
     elif not has_fcitx5():
         print(f"{FCITX5.name} is not made: it needs cmake, c++, pkg-config and the headers of fcitx5 (in Debian libfcitx5core-dev)")
     else:
