@@ -5,3 +5,7 @@ pub mod Refusals
 pub mod Files
 pub mod Sides
 pub mod Pairs
+pub mod Input
+pub mod Given
+pub mod Answers
+pub mod FaultyPairs

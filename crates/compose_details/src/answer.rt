@@ -1,4 +1,7 @@
-//! What is told of an answer.
+//! What is printed below an answer.
+ghost use Rattle.std.specs.Prelude.{◌≡◌, ◌++◌, OnOk, IfOk, string_bytes};
+ghost use Rattle.compose_details.specs.Answers.{IsAnswerDetails, unpromised_line, yes_lines};
+
 use crate::definitions::PlacedTable;
 use crate::faulty::root_of;
 use crate::given::{Given, GivenTable};
@@ -15,14 +18,17 @@ use compose_walk::{MakeFault, differences};
 use keysym_core::{Keysym, Names};
 use std::alloc::{AllocError, Global};
 
-/// What `-v` tells of an answer, in lines: where the tables differ, the definitions that count in both, and a hint where a key begins
+/// What `-v` adds to an answer, in lines: where the tables differ, the definitions that count in both, and a hint where a key begins
 /// a sequence that began none; of a fresh keysym that is not allowed, its name. At the cost of reading the tables once more and of
 /// `differences`.
 pub fn answer_details<T: ComposeTable>(
     alloc: Global,
     given: &Given<'_>,
     answer: &Answer,
-) -> Result<String, AllocError> {
+) -> Result<String, AllocError>
+    ensures { IfOk result
+        (λ text. IsAnswerDetails given.now answer.now (string_bytes text)) }
+{
     let mut text = String::new(alloc);
     match answer {
         Answer::No(_) => push_moved::<T>(alloc, &mut text, given, None)?,
@@ -31,34 +37,45 @@ pub fn answer_details<T: ComposeTable>(
                 push_moved::<T>(alloc, &mut text, given, Some(pair))?;
             }
         }
-        Answer::FreshNotAllowed(keysym) => push_keysyms(
-            alloc,
-            &mut text,
-            given.header,
-            "nothing is promised for",
-            &[*keysym],
-        )?,
+        Answer::FreshNotAllowed(keysym) => push_unpromised(alloc, &mut text, given, &[*keysym])?,
         Answer::Yes(_) => push_fresh(alloc, &mut text, given)?,
     }
     Ok(text)
 }
 
 /// Adds the fresh keysyms of a certificate, for which nothing is promised, where no argument allows them.
-fn push_fresh(alloc: Global, text: &mut String, given: &Given<'_>) -> Result<(), AllocError> {
+fn push_fresh(alloc: Global, text: &mut String, given: &Given<'_>) -> Result<(), AllocError>
+    ensures { OnOk result
+        (string_bytes text.new ≡ string_bytes text.old ++ yes_lines given.now) }
+{
     if given.certificate_text.is_empty() || !given.arguments.is_empty() {
         return Ok(());
     }
     match Certificate::read(alloc, given.certificate_text) {
-        Ok(certificate) => push_keysyms(
-            alloc,
-            text,
-            given.header,
-            "nothing is promised for",
-            certificate.fresh_keys(),
-        ),
+        Ok(certificate) => push_unpromised(alloc, text, given, certificate.fresh_keys()),
         Err(CertFault::NoMemory) => Err(AllocError),
         Err(_) => Ok(()),
     }
+}
+
+/// Adds keysyms for which nothing is promised.
+fn push_unpromised(
+    alloc: Global,
+    text: &mut String,
+    given: &Given<'_>,
+    keysyms: &[Keysym],
+) -> Result<(), AllocError>
+    ensures { OnOk result
+        (string_bytes text.new
+        ≡ string_bytes text.old ++ unpromised_line given.now keysyms.now) }
+{
+    push_keysyms(
+        alloc,
+        text,
+        given.header,
+        "nothing is promised for",
+        keysyms,
+    )
 }
 
 /// Adds the lines of the pair, or of the differences, of the two tables that were given.

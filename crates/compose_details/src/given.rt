@@ -1,5 +1,7 @@
 //! What a command was given.
-ghost use Rattle.std.specs.Prelude.{◌≡◌, string_bytes};
+ghost use Rattle.std.specs.Prelude.{List, map};
+ghost use Rattle.compose_details.specs.Given.{AreGivenTables, IsGiven, IsGivenTable, parts_of};
+ghost use Rattle.compose_input.specs.declared.tables.TableFiles.{TableFiles};
 
 use compose_input::{Header, NameFiles, TableFiles};
 use compose_migration::TableInput;
@@ -39,10 +41,7 @@ pub struct Given<'a> {
 impl<'a> GivenTable<'a> {
     /// A table by its files.
     pub fn of(files: &'a TableFiles) -> GivenTable<'a>
-        ensures path { result.manifest.now ≡ string_bytes files.now.path }
-        ensures paths { result.paths.now ≡ files.now.paths.items }
-        ensures sources { result.input.sources.now ≡ files.now.sources }
-        ensures rule { result.input.rule ≡ files.now.rule }
+        ensures { IsGivenTable files.now result }
     {
         GivenTable {
             manifest: &files.path,
@@ -62,10 +61,9 @@ impl<'a> Given<'a> {
         arguments: &'a [&'a str],
         tables: &'a [GivenTable<'a>],
     ) -> Given<'a>
-        ensures headers { result.headers.now ≡ names.now.files.items }
-        ensures lines { result.header.now ≡ names.now.lines.items }
-        ensures arguments { result.arguments.now ≡ arguments.now }
-        ensures tables { result.tables.now ≡ tables.now }
+        ensures { (files : List TableFiles) → AreGivenTables files tables.now
+            → IsGiven (parts_of names.now (map (λ argument. argument.now) arguments.now) files)
+            result }
     {
         Given {
             headers: &names.files,

@@ -1,97 +1,128 @@
 //! Why what a command was given can't be read, in lines.
+ghost use Rattle.std.specs.Prelude.{◌≡◌, ◌++◌, ℕ, List, flat_map, IfOk, OnOk, string_bytes};
+ghost use Rattle.compose_details.specs.Input as words;
+
 use crate::files::{find_message, manifest_details};
+use crate::lines::push_line;
 use compose_find::FindFault;
 use compose_input::{Fault, Unopened};
-use compose_messages::{FileMessage, Message, open_words, source_words};
+use compose_messages::{Message, open_words, source_words};
 use compose_shown::Shown;
 use std::alloc::{AllocError, Global};
+use std::fmt::Write;
 
-/// The lines that tell why what a command was given can't be read: the refusal, and with `verbose` below it where the fault is, and
+/// The lines that say why what a command was given can't be read: the refusal, and with `verbose` below it where the fault is, and
 /// why. O(bytes of a refused manifest).
-pub fn fault_text(alloc: Global, verbose: bool, fault: &Fault) -> Result<String, AllocError> {
-    let mut text = refusal(alloc, fault)?;
+pub fn fault_text(alloc: Global, verbose: bool, fault: &Fault) -> Result<String, AllocError>
+    ensures { IfOk result
+        (λ text. (own : List ℕ) × (string_bytes text ≡ words.fault_lines own verbose fault.now)) }
+{
+    let own = own_text(alloc, fault)?;
+    fault_lines(alloc, verbose, fault, &own)
+}
+
+/// What the fault of a manifest, of a source or of a search is printed as; nothing of another fault.
+fn own_text(alloc: Global, fault: &Fault) -> Result<String, AllocError> {
+    match fault {
+        Fault::Manifest { fault, .. } => format!(in alloc; "{fault}"),
+        Fault::Source { fault, .. } => format!(in alloc; "{fault}"),
+        Fault::Find { fault, .. } => format!(in alloc; "{fault}"),
+        _ => Ok(String::new(alloc)),
+    }
+}
+
+/// The same lines, by what the fault is printed as.
+fn fault_lines(alloc: Global, verbose: bool, fault: &Fault, own: &str) -> Result<String, AllocError>
+    ensures { IfOk result
+        (λ text. string_bytes text ≡ words.fault_lines own.now verbose fault.now) }
+{
+    let mut text = refusal_line(alloc, fault, own)?;
     if verbose {
         push_details(alloc, &mut text, fault)?;
     }
     Ok(text)
 }
 
-/// The line that refuses the input. A path may come from a stranger's file.
-fn refusal(alloc: Global, fault: &Fault) -> Result<String, AllocError> {
-    let line = match fault {
+/// The line that refuses what was given. A path may come from a stranger's file.
+fn refusal_line(alloc: Global, fault: &Fault, own: &str) -> Result<String, AllocError>
+    ensures { IfOk result (λ text. string_bytes text ≡ words.refusal_line own.now fault.now) }
+{
+    match fault {
         Fault::Unread(Unopened { path, .. }) => {
             format!(in alloc; "refused: file: {path}\n", path = Shown(path))
         }
-        Fault::Manifest { fault, .. } => format!(in alloc; "refused: manifest: {fault}\n"),
-        Fault::Source { part, fault, .. } => format!(in alloc; "refused: {part}: {fault}\n"),
-        Fault::Find { fault, .. } => return find_refusal(alloc, fault),
-        Fault::Word => format!(in alloc; "refused: word: not UTF-8\n"),
-        Fault::NoMemory => format!(in alloc; "out of memory\n"),
-    };
-    line.map_err(|_| AllocError)
+        Fault::Manifest { .. } => format!(in alloc; "refused: manifest: {own}\n"),
+        Fault::Source { part, .. } => format!(in alloc; "refused: {part}: {own}\n"),
+        Fault::Find { .. } => format!(in alloc; "refused: find: {own}\n", own = Shown(own)),
+        Fault::Refused { part, text } => {
+            format!(in alloc; "refused: {part}: {text}\n", text = Shown(text))
+        }
+        Fault::Word => String::from_str(alloc, "refused: word: not UTF-8\n"),
+        Fault::NoMemory => String::from_str(alloc, "out of memory\n"),
+    }
 }
 
 /// Adds where the fault is, and why.
-fn push_details(alloc: Global, text: &mut String, fault: &Fault) -> Result<(), AllocError> {
+fn push_details(alloc: Global, text: &mut String, fault: &Fault) -> Result<(), AllocError>
+    ensures { OnOk result
+        (string_bytes text.new ≡ string_bytes text.old ++ words.fault_details fault.now) }
+{
     match fault {
-        Fault::Unread(unopened) => push_unopened(alloc, text, unopened),
+        Fault::Unread(unopened) => push_unopened(text, unopened),
         Fault::Manifest { path, bytes, fault } => {
             text.push_str(&manifest_details(alloc, path, bytes, fault)?)
         }
-        Fault::Source { path, fault, .. } => { push_about(alloc, text, path, source_words(*fault)) }
-        Fault::Find { fault, tried } => push_search(alloc, text, fault, tried),
-        Fault::Word | Fault::NoMemory => Ok(()),
+        Fault::Source { path, fault, .. } => {
+            push_line(text, path, None, &Message::Plain(source_words(*fault)))
+        }
+        Fault::Find { fault, tried } => push_search(text, fault, tried),
+        Fault::Refused { .. } | Fault::Word | Fault::NoMemory => Ok(()),
     }
-}
-
-/// The line for files that are not all found.
-fn find_refusal(alloc: Global, fault: &FindFault) -> Result<String, AllocError> {
-    let said = format!(in alloc; "{fault}").map_err(|_| AllocError)?;
-    format!(in alloc; "refused: find: {said}\n", said = Shown(&said)).map_err(|_| AllocError)
 }
 
 /// Adds which include leads to no file, and why nothing is read where it was looked for.
-fn push_search(
-    alloc: Global,
-    text: &mut String,
-    fault: &FindFault,
-    tried: &[Unopened],
-) -> Result<(), AllocError> {
+fn push_search(text: &mut String, fault: &FindFault, tried: &[Unopened]) -> Result<(), AllocError>
+    ensures { OnOk result
+        (string_bytes text.new
+        ≡ string_bytes text.old
+        ++ (words.include_line fault.now ++ flat_map words.unopened_line tried.now)) }
+{
+    push_include(text, fault)?;
+    push_tried(text, tried)
+}
+
+/// Adds which include leads to no file, if the fault is one of an include.
+fn push_include(text: &mut String, fault: &FindFault) -> Result<(), AllocError>
+    ensures { OnOk result
+        (string_bytes text.new ≡ string_bytes text.old ++ words.include_line fault.now) }
+{
     if let Some(message) = find_message(fault) {
-        push_message(alloc, text, &message)?;
+        writeln!(text, "{message}")?;
     }
+    Ok(())
+}
+
+/// Adds why nothing is read at each of these paths.
+fn push_tried(text: &mut String, tried: &[Unopened]) -> Result<(), AllocError>
+    ensures { OnOk result
+        (string_bytes text.new
+        ≡ string_bytes text.old ++ flat_map words.unopened_line tried.now) }
+{
     for unopened in tried {
-        push_unopened(alloc, text, unopened)?;
+        push_unopened(text, unopened)?;
     }
     Ok(())
 }
 
 /// Adds why nothing is read at a path.
-fn push_unopened(alloc: Global, text: &mut String, unopened: &Unopened) -> Result<(), AllocError> {
-    push_about(alloc, text, &unopened.path, open_words(unopened.kind))
-}
-
-/// Adds what is wrong with a whole file.
-fn push_about(
-    alloc: Global,
-    text: &mut String,
-    path: &str,
-    words: &'static str,
-) -> Result<(), AllocError> {
-    let message = FileMessage {
-        path,
-        position: None,
-        message: Message::Plain(words),
-    };
-    push_message(alloc, text, &message)
-}
-
-/// Adds the line of a message.
-fn push_message(
-    alloc: Global,
-    text: &mut String,
-    message: &FileMessage<'_>,
-) -> Result<(), AllocError> {
-    let line = format!(in alloc; "{message}\n").map_err(|_| AllocError)?;
-    text.push_str(&line)
+fn push_unopened(text: &mut String, unopened: &Unopened) -> Result<(), AllocError>
+    ensures { OnOk result
+        (string_bytes text.new ≡ string_bytes text.old ++ words.unopened_line unopened.now) }
+{
+    push_line(
+        text,
+        &unopened.path,
+        None,
+        &Message::Plain(open_words(unopened.kind)),
+    )
 }

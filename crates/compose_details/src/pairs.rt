@@ -2,6 +2,9 @@
 ghost use Rattle.std.specs.Prelude.{◌≡◌, ◌++◌, ◌∷◌, [], ◌≤◌, OnOk, IfOk, IfSome, length, take, string_bytes};
 ghost use Rattle.compose_model.specs.Nodes.{node as node_at};
 ghost use Rattle.compose_read.specs.Settle.{IsSettled};
+ghost use Rattle.std.specs.Option.{option_map};
+ghost use Rattle.compose_cert.specs.Reading.{certificate_of};
+ghost use Rattle.compose_details.specs.FaultyPairs as faulty;
 ghost use Rattle.compose_details.specs.Pairs as words;
 
 use compose_cert::{CertFault, Certificate};
@@ -20,38 +23,53 @@ pub(crate) struct FaultyPair {
     pub keysym: Keysym,
 }
 
-/// The pair at which a condition on the certificate of this text is not met: the roots for a new start, none where it is about no pair.
+/// The pair of the certificate of this text that a fault names, and the key: the roots for a new start, none where the fault is about no
+/// pair.
 pub(crate) fn faulty_pair(
     alloc: Global,
     text: &[u8],
     fault: &CheckFault,
-) -> Result<Option<FaultyPair>, AllocError> {
-    let (index, keysym) = match fault {
-        CheckFault::NewStart { keysym } => {
-            return Ok(Some(FaultyPair {
-                old: 0,
-                new: 0,
-                keysym: *keysym,
-            }));
-        }
+) -> Result<Option<FaultyPair>, AllocError>
+    ensures { IfOk result
+        (λ pair. option_map faulty.shown pair ≡ faulty.faulty_pair text.now fault.now) }
+{
+    match fault {
+        CheckFault::NewStart { keysym } => Ok(Some(FaultyPair {
+            old: 0,
+            new: 0,
+            keysym: *keysym,
+        })),
         CheckFault::Cancels { pair, keysym }
         | CheckFault::TextDiffers { pair, keysym }
-        | CheckFault::PairMissing { pair, keysym } => (*pair, *keysym),
-        _ => return Ok(None),
-    };
-    let certificate = match Certificate::read(alloc, text) {
-        Ok(certificate) => certificate,
-        Err(CertFault::NoMemory) => return Err(AllocError),
-        Err(_) => return Ok(None),
-    };
-    match certificate.pairs().get(index) {
-        Some((old, new)) => Ok(Some(FaultyPair {
-            old: *old,
-            new: *new,
-            keysym,
-        })),
-        None => Ok(None),
+        | CheckFault::PairMissing { pair, keysym } => pair_at(alloc, text, *pair, *keysym),
+        _ => Ok(None),
     }
+}
+
+/// The pair with this index of the certificate of this text, if there is one, and the key.
+fn pair_at(
+    alloc: Global,
+    text: &[u8],
+    index: usize,
+    keysym: Keysym,
+) -> Result<Option<FaultyPair>, AllocError>
+    ensures { IfOk result
+        (λ pair. option_map faulty.shown pair
+        ≡ faulty.pair_at (certificate_of text.now) index keysym) }
+{
+    match Certificate::read(alloc, text) {
+        Ok(certificate) => Ok(pair_with(certificate.pairs(), index, keysym)),
+        Err(CertFault::NoMemory) => Err(AllocError),
+        Err(_) => Ok(None),
+    }
+}
+
+/// The pair with this index, if there is one, and the key.
+fn pair_with(pairs: &[(u32, u32)], index: usize, keysym: Keysym) -> Option<FaultyPair>
+    ensures { option_map faulty.shown result ≡ faulty.pair_with pairs.now index keysym }
+{
+    let (old, new) = *pairs.get(index)?;
+    Some(FaultyPair { old, new, keysym })
 }
 
 /// Adds after which keys of each table a pair of nodes stands.

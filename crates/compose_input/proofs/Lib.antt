@@ -1,1 +1,3 @@
 pub mod Listed
+pub mod NamesRead
+pub mod Trees

@@ -1,10 +1,15 @@
 -- The files of a Compose file as it lies on a system, read of a folder (this project's profile).
-use Rattle.std.specs.Prelude.{◌≡◌, ℕ, not, ◌&&◌, if◌then◌else◌, List, [], ◌∷◌, map, Option, Ok, All, bytes_eq, codes}
+use Rattle.std.specs.Prelude.{◌≡◌, ℕ, not, ◌&&◌, if◌then◌else◌, List, [], ◌∷◌, map, Option, Some, None, Ok, All, option_copied, bytes_eq, codes}
+use Rattle.std.specs.Option.{option_map_or}
 use Rattle.compose_folder.specs.Content.{Entry}
 use Rattle.compose_find.specs.Expand.{Words}
-use Rattle.compose_find.specs.Found.{TriedFile, found, held}
+use Rattle.compose_find.specs.Found.{FoundSource, TriedFile, found, held}
+use Rattle.compose_find.specs.Trees.{IsTableOf}
 use Rattle.compose_find.specs.declared.table.FoundTable.{FoundTable}
+use Rattle.compose_manifest.specs.Outside.{outside_text}
 use Rattle.compose_input.specs.Texts.{IsFound}
+use Rattle.compose_input.specs.Places.{words_with, IsLocaleTable}
+use Rattle.compose_input.specs.declared.places.Places.{Places}
 
 -- what is opened for a path: a hyphen (code 45) is standard input where it was given as the root, and else a file's name
 abbrev pub opened : List ℕ → List ℕ → List ℕ
@@ -20,3 +25,21 @@ pub record IsTable (folder : Option (List Entry)) (words : Words) (root : List �
   pub looked : AreLooked folder root files
   pub found : found files words root ≡ Ok table.files.items
   pub held : table.sources ≡ map (held files) table.files.items
+
+-- the table whose root is the file at this path, as it lies on the system
+pub record IsSystemTable (folder : Option (List Entry)) (places : Places) (path : List ℕ) (table : FoundTable) : Type 0 where
+  pub locale : Option (List ℕ)
+  pub listed : IsLocaleTable folder places locale
+  pub is : IsTable folder (words_with places locale) path table
+
+-- ---- what is noted of where the files lie
+
+-- the tree of tables: the folder that was given, or else the one in which the path is that of a locale's table
+abbrev pub IsTree : Option (List ℕ) → List ℕ → Option (List ℕ) → Type 0
+IsTree (Some given) path tree = tree ≡ Some given
+IsTree None path (Some tree) = IsTableOf tree path
+IsTree None path None = (tree : List ℕ) → ¬ (IsTableOf tree path)
+
+-- the lines about those files that lie outside of the tree
+abbrev pub IsNote : Places → List ℕ → List FoundSource → List ℕ → Type 0
+IsNote places path found note = (tree : Option (List ℕ)) × IsTree (option_copied places.tree) path tree × (note ≡ option_map_or (λ t. outside_text t (option_copied places.root) found) tree [])

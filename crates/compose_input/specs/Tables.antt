@@ -1,10 +1,17 @@
 -- The files of a table, as a manifest lists them, read of a folder (this project's profile).
-use Rattle.std.specs.Prelude.{◌≡◌, ℕ, List, [], ◌∷◌, ◌++◌, Option, Ok}
+use Rattle.std.specs.Prelude.{◌≡◌, ℕ, List, [], ◌∷◌, ◌++◌, map, Option, Ok, unwrap_or, string_bytes}
+use Rattle.compose_model.specs.declared.Rule.{Rule}
+use Rattle.compose_model.specs.declared.Rule.TheVariants.{Refuse}
 use Rattle.compose_read.specs.Lines.{Source}
 use Rattle.compose_folder.specs.Content.{Entry as FolderEntry, File, IsHeld}
 use Rattle.compose_manifest.specs.Manifest.{Listing, Entry, listing_of}
 use Rattle.compose_manifest.specs.Text.{file_path}
+use Rattle.compose_find.specs.declared.table.FoundTable.{FoundTable}
+use Rattle.compose_migration.specs.Migration.{TableSources}
 use Rattle.compose_input.specs.Texts.{named}
+use Rattle.compose_input.specs.Search.{IsSystemTable, IsNote}
+use Rattle.compose_input.specs.declared.places.Places.{Places}
+use Rattle.compose_input.specs.declared.tables.TableFiles.{TableFiles}
 
 -- the file at this path is a manifest that lists this
 abbrev pub IsManifest : Option (List FolderEntry) → List ℕ → Listing → Type 0
@@ -25,3 +32,26 @@ AreEntries folder listing at entries paths sources = ⊥
 abbrev pub IsEntryRead : Option (List FolderEntry) → Listing → List ℕ → Entry → List (List ℕ) → List (List ℕ) → List Source → List Source → Type 0
 IsEntryRead folder listing at entry paths paths' sources sources' =
     (source : Source) × (paths' ≡ paths ++ file_path listing at entry.path ∷ []) × (sources' ≡ sources ++ source ∷ []) × IsSourceOf folder entry (file_path listing at entry.path) source
+
+-- the sources, and what is done with their overlaps
+abbrev pub sources_of : TableFiles → TableSources
+sources_of table = record { sources = table.sources; rule = table.rule }
+
+-- the table is the one of the manifest at this path
+pub record IsListed (folder : Option (List FolderEntry)) (path : List ℕ) (table : TableFiles) : Type 0 where
+  pub listing : Listing
+  pub manifest : IsManifest folder path listing
+  pub entries : AreEntries folder listing path listing.entries (map string_bytes table.paths.items) table.sources
+  pub rule : table.rule ≡ unwrap_or listing.rule Refuse
+  pub at : string_bytes table.path ≡ path
+  pub note : string_bytes table.note ≡ []
+
+-- the table is the one of the Compose file at this path, as it lies on the system, under this rule
+pub record IsFoundOnSystem (folder : Option (List FolderEntry)) (places : Places) (path : List ℕ) (rule : Rule) (table : TableFiles) : Type 0 where
+  pub found : FoundTable
+  pub is : IsSystemTable folder places path found
+  pub paths : map string_bytes table.paths.items ≡ map (λ source. source.path) found.files.items
+  pub sources : table.sources ≡ found.sources
+  pub ruled : table.rule ≡ rule
+  pub at : string_bytes table.path ≡ path
+  pub note : IsNote places path found.files.items (string_bytes table.note)

@@ -2,6 +2,8 @@
 use Rattle.std.specs.Prelude.{◌≡◌, ℕ, if◌then◌else◌, List, [], ◌∷◌, Option, Some, None, Result, Ok, Err, string_bytes, codes, bytes_eq}
 use Rattle.std.specs.declared.alloc.Global.{Global}
 use Rattle.std.specs.declared.io.ErrorKind.{ErrorKind}
+use Rattle.std.specs.declared.alloc.AllocError.{AllocError}
+use Rattle.std.specs.declared.string.String.{String}
 use Rattle.std.specs.declared.vec.Vec.{Vec}
 use Rattle.compose_folder.specs.Content.{Entry, File, Unreadable, IsHeld}
 use Rattle.compose_input.specs.declared.fault.Fault.{Fault}
@@ -29,3 +31,9 @@ abbrev pub IsFound : Option (List Entry) → List ℕ → Option (List ℕ) → 
 IsFound folder path (Some bytes) = IsHeld folder path (File bytes)
 IsFound None path None = Unit {0}
 IsFound (Some entries) path None = (kind : ErrorKind) × IsHeld (Some entries) path (Unreadable kind)
+
+-- the fault says that this part is refused, and why, unless memory ran out for saying so
+abbrev pub IsRefused : List ℕ → Result (String Global) AllocError → Fault → Type 0
+IsRefused part said (faults.Refused p text) = (p.now ≡ part) × (said ≡ Ok text)
+IsRefused part said faults.NoMemory = (error : AllocError) × (said ≡ Err error)
+IsRefused part said fault = ⊥

@@ -42,10 +42,31 @@ pub enum Fault {
         /// The paths at which the file of an include was looked for, where none is there.
         tried: Vec<Unopened>,
     },
+    /// Another part of what a command was given is refused.
+    Refused {
+        /// Which part it is: `socket`, `load` or `connection`.
+        part: &'static str,
+        /// What is refused, or why.
+        text: String,
+    },
     /// A word of the environment is not UTF-8.
     Word,
     /// Memory was refused.
     NoMemory,
+}
+
+impl Fault {
+    ghost use Rattle.compose_input.specs.Texts.{IsRefused};
+
+    /// That this part of what a command was given is refused, and why; or that memory was, for saying so. O(1).
+    pub fn refused(part: &'static str, text: Result<String, AllocError>) -> Fault
+        ensures { IsRefused part.now text result }
+    {
+        match text {
+            Ok(text) => Fault::Refused { part, text },
+            Err(_) => Fault::NoMemory,
+        }
+    }
 }
 
 impl From<AllocError> for Fault {

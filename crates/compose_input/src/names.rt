@@ -1,4 +1,7 @@
 //! The files of names.
+ghost use Rattle.std.specs.Prelude.{◌≡◌, map, IfOk, OnOk};
+ghost use Rattle.compose_input.specs.Names.{AreNames, AddsNames, IsNamedText};
+
 use crate::fault::Fault;
 use crate::headers::{add_names, line_count};
 use crate::texts::read_text;
@@ -30,27 +33,47 @@ impl<'n> NameFiles<'n> {
         files: &mut ReadOnce<F>,
         alloc: Global,
         names: &[&'n str],
-    ) -> Result<NameFiles<'n>, Fault> {
+    ) -> Result<NameFiles<'n>, Fault>
+        ensures kept { files.new.holds ≡ files.old.holds }
+        ensures read { IfOk result
+            (λ read. AreNames files.old.holds (map (λ name. name.now) names.now) read) }
+    {
         let mut header = NameFiles {
             lines: Vec::new(alloc),
             files: Vec::new(alloc),
         };
         for name in names {
-            if *name == "builtin" {
-                header.add(name, builtin_names().as_bytes())?;
-            } else {
-                header.add(name, &read_text(files, alloc, name)?)?;
-            }
+            let text = name_text(files, alloc, name)?;
+            header.add(name, &text)?;
         }
         Ok(header)
     }
 
     /// Adds a file of names to those before it.
-    fn add(&mut self, path: &'n str, lines: &[u8]) -> Result<(), AllocError> {
+    fn add(&mut self, path: &'n str, lines: &[u8]) -> Result<(), AllocError>
+        ensures { OnOk result
+            (AddsNames (record { name = path.now; text = lines.now }) self.old self.new) }
+    {
         self.files.push(Header {
             path,
             lines: line_count(lines),
         })?;
         add_names(&mut self.lines, lines)
     }
+}
+
+/// What is read for a name that was given.
+fn name_text<F: Folder>(
+    files: &mut ReadOnce<F>,
+    alloc: Global,
+    name: &str,
+) -> Result<Vec<u8>, Fault>
+    ensures kept { files.new.holds ≡ files.old.holds }
+    ensures read { IfOk result
+        (λ text. IsNamedText files.old.holds (record { name = name.now; text = text.items })) }
+{
+    if name == "builtin" {
+        return Ok(Vec::from_slice(alloc, builtin_names().as_bytes())?);
+    }
+    read_text(files, alloc, name)
 }

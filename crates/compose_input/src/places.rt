@@ -25,7 +25,7 @@ pub struct Places<'a> {
 }
 
 impl<'a> Places<'a> {
-    ghost use Rattle.compose_input.specs.Places.{words_with};
+    ghost use Rattle.compose_input.specs.Places.{words_with, IsListing, IsLocaleTable};
 
     /// What `%S`, `%L` and `%H` stand for, where this is the locale's table.
     pub(crate) fn meanings(&self, locale: Option<&'a str>) -> Meanings<'a>
@@ -45,7 +45,9 @@ impl<'a> Places<'a> {
         files: &mut ReadOnce<F>,
         alloc: Global,
     ) -> Result<Option<String>, Fault>
-        ensures { files.new.holds ≡ files.old.holds }
+        ensures kept { files.new.holds ≡ files.old.holds }
+        ensures found { IfOk result
+            (λ table. IsLocaleTable files.old.holds self.now (option_map string_bytes table)) }
     {
         let Some(locale) = self.locale else {
             return Ok(None);
@@ -62,7 +64,9 @@ impl<'a> Places<'a> {
         alloc: Global,
         name: &str,
     ) -> Result<Vec<u8>, Fault>
-        ensures { files.new.holds ≡ files.old.holds }
+        ensures kept { files.new.holds ≡ files.old.holds }
+        ensures read { IfOk result
+            (λ bytes. IsListing files.old.holds self.now name.now bytes.items) }
     {
         let path = joined(alloc, self.system, name)?;
         if let Some(root) = self.root {

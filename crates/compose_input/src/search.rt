@@ -1,8 +1,7 @@
 //! The files of a Compose file as it lies on a system.
-ghost use Rattle.std.specs.Prelude.{◌≡◌, List, ℕ, Option, IfOk};
+ghost use Rattle.std.specs.Prelude.{◌≡◌, IfOk};
 ghost use Rattle.compose_find.specs.FindGives.{words};
-ghost use Rattle.compose_input.specs.Search.{IsTable, opened};
-ghost use Rattle.compose_input.specs.Places.{words_with};
+ghost use Rattle.compose_input.specs.Search.{IsTable, IsSystemTable, opened};
 
 use crate::fault::{Fault, Unopened};
 use crate::places::{Places, found, joined};
@@ -22,8 +21,7 @@ pub fn find_files<F: Folder>(
 ) -> Result<FoundTable, Fault>
     ensures kept { files.new.holds ≡ files.old.holds }
     ensures found { IfOk result
-        (λ table. (locale : Option (List ℕ))
-        × IsTable files.old.holds (words_with places.entry locale) file.now table) }
+        (λ table. IsSystemTable files.old.holds places.entry file.now table) }
 {
     let locale = places.locale_table(files, alloc)?;
     search(files, alloc, places.meanings(locale.as_deref()), file)

@@ -1,14 +1,13 @@
 //! The files of a table.
-ghost use Rattle.std.specs.Prelude.{◌≡◌, map, unwrap_or, IfOk, OnOk, string_bytes};
-ghost use Rattle.compose_model.specs.declared.Rule.TheVariants.{Refuse};
-ghost use Rattle.compose_manifest.specs.Manifest.{Listing};
+ghost use Rattle.std.specs.Prelude.{◌≡◌, map, IfOk, OnOk, string_bytes};
+ghost use Rattle.compose_input.specs.Search.{IsNote};
 ghost use Rattle.compose_input.specs.Tables.{IsManifest, AreEntries, IsEntryRead};
 
 use crate::fault::Fault;
 use crate::places::Places;
 use crate::search::find_files;
 use crate::texts::{read_named, read_text};
-use compose_find::{FoundSource, FoundTable, locale_tree};
+use compose_find::{FoundSource, locale_tree};
 use compose_folder::{Folder, ReadOnce};
 use compose_manifest::{Entry, Manifest, ManifestFault, file_path, outside_text, read_manifest};
 use compose_migration::TableInput;
@@ -30,6 +29,9 @@ pub struct TableFiles {
 }
 
 impl TableFiles {
+    ghost use Rattle.compose_input.specs.Tables.{IsListed, IsFoundOnSystem, sources_of};
+    ghost use Rattle.compose_migration.specs.MigrationGives.{table_given};
+
     /// Reads a manifest, and the files that it lists. A refusal of the sources is told of this part. O(bytes).
     pub fn listed<F: Folder>(
         files: &mut ReadOnce<F>,
@@ -38,11 +40,7 @@ impl TableFiles {
         path: &str,
     ) -> Result<TableFiles, Fault>
         ensures kept { files.new.holds ≡ files.old.holds }
-        ensures listed { IfOk result
-            (λ table. (listing : Listing) × IsManifest files.old.holds path.now listing
-            × AreEntries files.old.holds listing path.now listing.entries
-            (map string_bytes table.paths.items) table.sources
-            × (table.rule ≡ unwrap_or listing.rule Refuse)) }
+        ensures listed { IfOk result (λ table. IsListed files.old.holds path.now table) }
     {
         let manifest = read_listing(files, alloc, path)?;
         let read = read_entries(files, alloc, part, path, &manifest)?;
@@ -62,29 +60,36 @@ impl TableFiles {
         places: Places<'_>,
         path: &str,
         rule: Rule,
-    ) -> Result<TableFiles, Fault> {
-        let FoundTable {
-            files: found,
-            sources,
-        } = find_files(files, alloc, places, path)?;
-        let note = files_note(alloc, places, path, &found)?;
+    ) -> Result<TableFiles, Fault>
+        ensures kept { files.new.holds ≡ files.old.holds }
+        ensures found { IfOk result
+            (λ table. IsFoundOnSystem files.old.holds places.entry path.now rule table) }
+    {
+        let found = find_files(files, alloc, places, path)?;
+        let note = files_note(alloc, places, path, &found.files)?;
         Ok(TableFiles {
             path: String::from_str(alloc, path)?,
-            paths: paths_of(alloc, found)?,
-            sources,
+            paths: paths_of(alloc, found.files)?,
+            sources: found.sources,
             rule,
             note,
         })
     }
 
     /// The sources, and what is done with their overlaps.
-    pub fn into_parts(self) -> (Sources, Rule) {
+    pub fn into_parts(self) -> (Sources, Rule)
+        ensures sources { result.0 ≡ self.sources }
+        ensures rule { result.1 ≡ self.rule }
+    {
         let TableFiles { sources, rule, .. } = self;
         (sources, rule)
     }
 
     /// The path of each source. O(sources).
-    pub fn path_texts(&self, alloc: Global) -> Result<Vec<&str>, AllocError> {
+    pub fn path_texts(&self, alloc: Global) -> Result<Vec<&str>, AllocError>
+        ensures { IfOk result
+            (λ texts. map (λ text. text.now) texts.items ≡ map string_bytes self.now.paths.items) }
+    {
         let mut paths = Vec::new(alloc);
         for path in &self.paths {
             paths.push(path.as_str())?;
@@ -93,7 +98,9 @@ impl TableFiles {
     }
 
     /// The table that they are to give.
-    pub fn input(&self) -> TableInput<'_> {
+    pub fn input(&self) -> TableInput<'_>
+        ensures { table_given result ≡ sources_of self.now }
+    {
         TableInput {
             sources: &self.sources,
             rule: self.rule,
@@ -108,7 +115,10 @@ pub fn files_note(
     places: Places<'_>,
     path: &str,
     found: &[FoundSource],
-) -> Result<String, AllocError> {
+) -> Result<String, AllocError>
+    ensures { IfOk result
+        (λ note. IsNote places.entry path.now found.now (string_bytes note)) }
+{
     match places.tree.or(locale_tree(path)) {
         Some(tree) => outside_text(alloc, tree, places.root, found),
         None => Ok(String::new(alloc)),
@@ -116,7 +126,10 @@ pub fn files_note(
 }
 
 /// The paths of files that were found.
-fn paths_of(alloc: Global, found: Vec<FoundSource>) -> Result<Vec<String>, AllocError> {
+fn paths_of(alloc: Global, found: Vec<FoundSource>) -> Result<Vec<String>, AllocError>
+    ensures { IfOk result
+        (λ paths. map string_bytes paths.items ≡ map (λ source. source.path) found.items) }
+{
     let mut paths = Vec::new(alloc);
     for FoundSource { path, .. } in found {
         paths.push(path)?;

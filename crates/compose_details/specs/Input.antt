@@ -1,0 +1,41 @@
+-- Why what a command was given can't be read (this project's profile): a line that refuses it, and with `-v` below it where the fault is, and why.
+-- `own` is what the fault of a manifest, of a source or of a search is printed as: these texts are derived, and no contract speaks of them.
+use Rattle.std.specs.Prelude.{ℕ, Bool, if◌then◌else◌, List, [], ◌∷◌, ◌++◌, flat_map, None, string_bytes, codes}
+use Rattle.std.specs.Option.{option_map_or}
+use Rattle.compose_shown.specs.Shown.{shown_text}
+use Rattle.compose_find.specs.declared.found_source.FindFault.{FindFault}
+use Rattle.compose_messages.specs.Faults.{open_said, source_said}
+use Rattle.compose_input.specs.declared.fault.Unopened.{Unopened}
+use Rattle.compose_input.specs.declared.fault.Fault.{Fault}
+use Rattle.compose_input.specs.declared.fault.Fault.TheVariants.{Unread, Manifest, Source, Find, Refused, Word, NoMemory}
+use Rattle.compose_details.specs.Lines.{line}
+use Rattle.compose_details.specs.Files.{manifest_lines, find_said}
+
+-- the line that refuses what was given (code 10 ends it)
+abbrev pub refusal_line : List ℕ → Fault → List ℕ
+refusal_line own (Unread unopened) = codes "refused: file: " ++ (shown_text (string_bytes unopened.path) ++ 10 ∷ [])
+refusal_line own (Manifest path bytes fault) = codes "refused: manifest: " ++ (own ++ 10 ∷ [])
+refusal_line own (Source part path fault) = codes "refused: " ++ (part.now ++ (codes ": " ++ (own ++ 10 ∷ [])))
+refusal_line own (Find fault tried) = codes "refused: find: " ++ (shown_text own ++ 10 ∷ [])
+refusal_line own (Refused part text) = codes "refused: " ++ (part.now ++ (codes ": " ++ (shown_text (string_bytes text) ++ 10 ∷ [])))
+refusal_line own Word = codes "refused: word: not UTF-8\n"
+refusal_line own NoMemory = codes "out of memory\n"
+
+-- why nothing is read at a path
+abbrev pub unopened_line : Unopened → List ℕ
+unopened_line unopened = line (string_bytes unopened.path) None (open_said unopened.kind)
+
+-- which include leads to no file, if the fault is one of an include
+abbrev pub include_line : FindFault → List ℕ
+include_line fault = option_map_or (λ said. said ++ 10 ∷ []) (find_said fault) []
+
+-- where the fault is, and why
+abbrev pub fault_details : Fault → List ℕ
+fault_details (Unread unopened) = unopened_line unopened
+fault_details (Manifest path bytes fault) = manifest_lines (string_bytes path) bytes.items fault
+fault_details (Source part path fault) = line (string_bytes path) None (source_said fault)
+fault_details (Find fault tried) = include_line fault ++ flat_map unopened_line tried.items
+fault_details fault = []
+
+abbrev pub fault_lines : List ℕ → Bool → Fault → List ℕ
+fault_lines own verbose fault = refusal_line own fault ++ (if verbose then fault_details fault else [])
