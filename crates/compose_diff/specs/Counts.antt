@@ -1,5 +1,5 @@
 -- How often each thing happens, and the line that says so (this project's profile).
-use Rattle.std.specs.Prelude.{ℕ, Bool, true, false, List, ◌++◌, length, filter, codes}
+use Rattle.std.specs.Prelude.{ℕ, ◌==◌, Bool, true, false, if◌then◌else◌, List, ◌++◌, length, filter, codes}
 use Rattle.std.specs.Fmt.{decimal}
 use Rattle.std.specs.List.{list_all}
 use Rattle.compose_compare.specs.declared.Change.{Change}
@@ -33,11 +33,15 @@ counts_of rows accepted = record {
   accepted = accepted;
 }
 
+-- one is a new start
+abbrev pub starts_word : ℕ → List ℕ
+starts_word n = if n == 1 then codes " new start" else codes " new starts"
+
 -- as `diff: 5205 kept, 3 changed, 0 waiting, 298 removed, 0 new starts, 12 added, 2 accepted`
 abbrev pub counts_line : Counts → List ℕ
 counts_line counts =
     codes "diff: " ++ (decimal counts.kept ++ (codes " kept, " ++ (decimal counts.changed ++ (codes " changed, " ++ (decimal counts.waiting ++ (codes " waiting, " ++ (decimal counts.removed
-    ++ (codes " removed, " ++ (decimal counts.new_starts ++ (codes " new starts, " ++ (decimal counts.added ++ (codes " added, " ++ (decimal counts.accepted ++ codes " accepted\n")))))))))))))
+    ++ (codes " removed, " ++ (decimal counts.new_starts ++ (starts_word counts.new_starts ++ (codes ", " ++ (decimal counts.added ++ (codes " added, " ++ (decimal counts.accepted ++ codes " accepted\n"))))))))))))))
 
 -- nobody who types with the old table meets any of it
 abbrev pub loses_nothing : List DiffRow → Bool

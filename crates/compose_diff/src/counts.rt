@@ -55,10 +55,22 @@ impl fmt::Display for Counts {
             f,
             "diff: {kept} kept, {changed} changed, {waiting} waiting, {removed} removed, "
         )?;
+        let starts = starts_word(new_starts);
         write!(
             f,
-            "{new_starts} new starts, {added} added, {accepted} accepted\n"
+            "{new_starts}{starts}, {added} added, {accepted} accepted\n"
         )
+    }
+}
+
+/// The word after the number of new starts, after a blank.
+fn starts_word(count: usize) -> &'static str
+    ensures { result.now ≡ words.starts_word count }
+{
+    if count == 1 {
+        " new start"
+    } else {
+        " new starts"
     }
 }
 

@@ -1,0 +1,15 @@
+-- Sequences that people lose, and whose text no sequence of the new table gives any more (this project's profile).
+use Rattle.std.specs.Prelude.{Bool, not, ◌&&◌, if◌then◌else◌, List, filter, is_some}
+use Rattle.compose_diff.specs.declared.row.DiffRow.{DiffRow}
+use Rattle.compose_diff.specs.Line.{is_loss}
+
+abbrev pub is_lost : DiffRow → Bool
+is_lost row = is_loss row.change && not (is_some row.typing)
+
+-- the rows of these, in order
+abbrev pub lost_rows : List DiffRow → List DiffRow
+lost_rows rows = filter is_lost rows
+
+-- the rows that are printed: where that is asked for, those of the lost texts alone
+abbrev pub shown_rows : Bool → List DiffRow → List DiffRow
+shown_rows lost_alone rows = if lost_alone then lost_rows rows else rows
