@@ -27,12 +27,12 @@ UNCHANGED = "\nNothing changes for people, and nothing is added.\n"
 CHANGED = """
 ## en_US.UTF-8, fi_FI.UTF-8
 
-    removed: <Multi_key> <b> "y" old/en_US.UTF-8/Compose:2
+    removed: <Multi_key> <b> "y" old/en_US.UTF-8/Compose:2 now: none
 """
 ACCEPTED = """
 ## fi_FI.UTF-8
 
-    removed: <Multi_key> <b> "y" old/en_US.UTF-8/Compose:2
+    removed: <Multi_key> <b> "y" old/en_US.UTF-8/Compose:2 now: none
 """
 NEW_ONE = "\nsv_SE.UTF-8 is new.\n"
 READS_OUTSIDE = "\n**fi_FI.UTF-8 reads files outside of its tree:**\n\n    note: ROOM/elsewhere/Compose lies outside of new\n"

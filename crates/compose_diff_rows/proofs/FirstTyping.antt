@@ -36,12 +36,13 @@ module _ (p : List ℕ → Bool) where
 
   none_passes : (xs : List (List ℕ)) (x : List ℕ) → find p xs ≡ None → list_any (same x) xs ≡ true → p x ≡ true → ⊥
   none_passes [] x h i e = let clash : false ≡ true = i in cc
-  none_passes (y ∷ xs) x h i e = go (p y) refl h (or_cases (same x y) (list_any (same x) xs) i)
+  none_passes (y ∷ xs) x h i e = go (p y) refl h (or_cases (same x y) (list_any (same x) xs) i) (λ g m. none_passes xs x g m e)
     where
-      go : (b : Bool) → p y ≡ b → cond b (Some y) (find p xs) ≡ None → (same x y ≡ true) ⊎ (list_any (same x) xs ≡ true) → ⊥
-      go true c g w = cc
-      go false c g (inl m) = let clash : true ≡ false = sym e ∙ ap p (same_is x y m) ∙ c in cc
-      go false c g (inr m) = none_passes xs x g m e
+      go : (b : Bool) → p y ≡ b → cond b (Some y) (find p xs) ≡ None → (same x y ≡ true) ⊎ (list_any (same x) xs ≡ true)
+          → (find p xs ≡ None → list_any (same x) xs ≡ true → ⊥) → ⊥
+      go true c g w f = cc
+      go false c g (inl m) f = let clash : true ≡ false = sym e ∙ ap p (same_is x y m) ∙ c in cc
+      go false c g (inr m) f = f g m
 
   found_least : (xs : List (List ℕ)) (x y : List ℕ) → IsStrictlySortedBy (slice_cmp nat_cmp) xs → find p xs ≡ Some x → list_any (same y) xs ≡ true → p y ≡ true → comes_before y x ≡ false
   unfolding IsStrictlySortedBy
@@ -99,10 +100,11 @@ module _ (part : ℕ → List (List ℕ)) where
 
   first_part : (c a : ℕ) (s : List ℕ) → slice_get (flat_map part (range_with_len a c)) 0 ≡ Some s → FirstPart a c s
   first_part zero a s h = cc
-  first_part (suc c) a s h = go (part a) refl h
+  first_part (suc c) a s h = go (part a) refl h (first_part c (a + 1) s)
     where
-      go : (xs : List (List ℕ)) → part a ≡ xs → slice_get (xs ++ flat_map part (range_with_len (a + 1) c)) 0 ≡ Some s → FirstPart a (suc c) s
-      go [] e g = let later = first_part c (a + 1) s g in record {
+      go : (xs : List (List ℕ)) → part a ≡ xs → slice_get (xs ++ flat_map part (range_with_len (a + 1) c)) 0 ≡ Some s
+          → (slice_get (flat_map part (range_with_len (a + 1) c)) 0 ≡ Some s → FirstPart (a + 1) c s) → FirstPart a (suc c) s
+      go [] e g f = let later = f g in record {
         n = later.n;
         from = omega (arith, later.from);
         first = later.first;
@@ -112,7 +114,7 @@ module _ (part : ℕ → List (List ℕ)) where
           at : (m : ℕ) → a ≤ m → (later : FirstPart (a + 1) c s) → m < later.n → (b : Bool) → nat_lt a m ≡ b → slice_get (part m) 0 ≡ None
           at m low later below false t = let is : m ≡ a = omega (arith, low, ltb-false a m t) in ap (λ k. slice_get (part k) 0) is ∙ ap (λ xs. slice_get xs 0) e
           at m low later below true t = later.before m (omega (arith, ltb-true a m t)) below
-      go (x ∷ xs) e g = record {
+      go (x ∷ xs) e g f = record {
         n = a;
         from = omega arith;
         first = ap (λ ys. slice_get ys 0) e ∙ g;
@@ -121,15 +123,16 @@ module _ (part : ℕ → List (List ℕ)) where
 
   no_part : (c a : ℕ) → slice_get (flat_map part (range_with_len a c)) 0 ≡ None → (m : ℕ) → a ≤ m → m < a + c → slice_get (part m) 0 ≡ None
   no_part zero a h m low below = absurd (omega (arith, low, below))
-  no_part (suc c) a h m low below = go (part a) refl h
+  no_part (suc c) a h m low below = go (part a) refl h (λ g. no_part c (a + 1) g m)
     where
-      go : (xs : List (List ℕ)) → part a ≡ xs → slice_get (xs ++ flat_map part (range_with_len (a + 1) c)) 0 ≡ None → slice_get (part m) 0 ≡ None
-      go [] e g = by (nat_lt a m) refl
+      go : (xs : List (List ℕ)) → part a ≡ xs → slice_get (xs ++ flat_map part (range_with_len (a + 1) c)) 0 ≡ None
+          → (slice_get (flat_map part (range_with_len (a + 1) c)) 0 ≡ None → a + 1 ≤ m → m < a + 1 + c → slice_get (part m) 0 ≡ None) → slice_get (part m) 0 ≡ None
+      go [] e g f = by (nat_lt a m) refl
         where
           by : (b : Bool) → nat_lt a m ≡ b → slice_get (part m) 0 ≡ None
           by false t = let is : m ≡ a = omega (arith, low, ltb-false a m t) in ap (λ k. slice_get (part k) 0) is ∙ ap (λ xs. slice_get xs 0) e
-          by true t = no_part c (a + 1) g m (omega (arith, ltb-true a m t)) (omega (arith, below))
-      go (x ∷ xs) e g = cc
+          by true t = f g (omega (arith, ltb-true a m t)) (omega (arith, below))
+      go (x ∷ xs) e g f = cc
 
 -- ---- the first typing
 
@@ -176,7 +179,7 @@ module _ (table : List Definition) (t_table : is_table table ≡ true) (text : L
       let at : find (fits found.n) (leaves table) ≡ Some s = sym (part_first found.n) ∙ found.first in
       let both = and_parts (gives table text s) (nat_eq (length s) found.n) (found_passes (fits found.n) (leaves table) s at) in
       let count : length s ≡ found.n = eqb-true (length s) found.n both.1 in record {
-        gives = both.0;
+        typed = both.0;
         shortest = λ t g. at_most found count t g (nat_less (length t) found.n);
         first = λ t g as_long.
             ap not (found_least (fits found.n) (leaves table) s t rise at (at_leaf t g) (and_from (gives table text t) (nat_eq (length t) found.n) g (eq-eqb (length t) found.n (as_long ∙ count))));

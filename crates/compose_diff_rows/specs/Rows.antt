@@ -27,19 +27,19 @@ pub record ToldEntry : Type 0 where
   pub path : List ℕ
   pub line : ℕ
 
--- what happens to a sequence, the names of its keys, and what each table has for it
+-- a sequence of the new table as it is written: the names of its keys, and its place
+pub record WrittenSequence : Type 0 where
+  pub keys : List (List ℕ)
+  pub path : List ℕ
+  pub line : ℕ
+
+-- what happens to a sequence, the names of its keys, what each table has for it, and how its text is typed now
 pub record ToldRow : Type 0 where
   pub change : Change
   pub keys : List (List ℕ)
   pub old : Option ToldEntry
   pub new : Option ToldEntry
   pub typing : Option WrittenSequence
-
--- a sequence of the new table as it is written: the names of its keys, and its place
-pub record WrittenSequence : Type 0 where
-  pub keys : List (List ℕ)
-  pub path : List ℕ
-  pub line : ℕ
 
 abbrev pub told_entry : Entry → ToldEntry
 told_entry entry = record { text = entry.text.now; source = entry.source; path = entry.path.now; line = entry.line }
@@ -91,8 +91,8 @@ first_typing table text = slice_get (shortest_first (giving table text)) 0
 
 -- where people lose a sequence for which the old table has this, how its text is typed with the new one
 abbrev pub now_of : Written → Change → Option ToldEntry → Option WrittenSequence
-now_of new change None = None
-now_of new change (Some entry) = if is_loss change then option_and_then (sequence_in new) (first_typing new.table entry.text) else None
+now_of new c None = None
+now_of new c (Some entry) = if is_loss c then option_and_then (sequence_in new) (first_typing new.table entry.text) else None
 
 -- ---- the rows
 

@@ -1,5 +1,5 @@
 //! How the text of a lost sequence is typed with the new table.
-ghost use Rattle.std.specs.Prelude.{◌≡◌, ◌<◌, length, get_or};
+ghost use Rattle.std.specs.Prelude.{◌≡◌, ◌<◌, [], length, get_or};
 ghost use Rattle.std.specs.Option.{option_map, option_and_then};
 ghost use Rattle.compose_model.specs.Nodes.{leaves};
 ghost use Rattle.compose_lookup.specs.TextIndex.{IsTextIndex};
