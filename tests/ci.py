@@ -30,12 +30,12 @@ INTENDED = "\nNothing changes but what is intended.\n"
 CHANGED = """
 ## en_US.UTF-8, fi_FI.UTF-8
 
-    removed: <Multi_key> <b> "y" old/en_US.UTF-8/Compose:2
+    removed: <Multi_key> <b> "y" old/en_US.UTF-8/Compose:2 now: none
 """
 ACCEPTED = """
 ## fi_FI.UTF-8
 
-    removed: <Multi_key> <b> "y" old/en_US.UTF-8/Compose:2
+    removed: <Multi_key> <b> "y" old/en_US.UTF-8/Compose:2 now: none
 
 ## Intended
 

@@ -12,10 +12,12 @@ import sys
 import tempfile
 
 SEED = 27
-# The keysyms of these tables: how they are written, and the text of each.
+# The keysyms of these tables: how they are written, their numbers, and the text of each.
 WRITTEN = {"a": ["a", "U0061", "0x61"], "b": ["b", "U0062"], "D": ["dead_acute", "0xfe51"], "E": ["dead_grave"]}
+NUMBER = {"a": 0x61, "b": 0x62, "D": 0xFE51, "E": 0xFE50}
 OWN_TEXT = {"a": "a", "b": "b", "D": "", "E": ""}
 TEXTS = ["x", "y", "\u00e9", "a", "b", 'q"q', "\\"]
+LOSSES = ["changed", "waiting", "removed"]
 GROUPS = ["changed", "waiting", "removed", "new start", "added"]
 
 
@@ -100,6 +102,12 @@ def random_pair(chance):
     return old, new, fresh
 
 
+def typed_now(old, new, sequence):
+    """Of the new table's sequences that give the old text, the shortest, and of these the first."""
+    giving = [it for it, text in new.texts.items() if text == old.texts[sequence]]
+    return min(giving, key=lambda it: (len(it), [NUMBER[key] for key in it]), default=None)
+
+
 def told(old, new, fresh):
     """What `--format json` says of each sequence of either table."""
     found = []
@@ -107,6 +115,7 @@ def told(old, new, fresh):
         what = change(old.texts, new.texts, fresh, sequence)
         written = old.keys.get(sequence) or new.keys[sequence]
         is_in = [sequence in it.texts for it in (old, new)]
+        now = typed_now(old, new, sequence) if what in LOSSES else None
         found.append({
             "change": what,
             "keys": written,
@@ -116,6 +125,9 @@ def told(old, new, fresh):
             "old_line": old.places.get(sequence),
             "new_file": "new" if is_in[1] else None,
             "new_line": new.places.get(sequence),
+            "now": new.keys.get(now),
+            "now_file": None if now is None else "new",
+            "now_line": new.places.get(now),
         })
     return found
 
@@ -135,6 +147,9 @@ def line_of(row, with_places=True):
         parts.append(f"old:{row['old_line']}")
     if with_places and row["change"] in ("changed", "new start", "added"):
         parts.append(f"new:{row['new_line']}")
+    if with_places and row["change"] in LOSSES:
+        typing = [f"<{it}>" for it in row["now"]] + [f"new:{row['now_line']}"] if row["now"] else ["none"]
+        parts += ["now:", *typing]
     return " ".join(parts)
 
 
@@ -145,10 +160,11 @@ def rows_in_order(rows):
 
 
 def counts_of(rows, accepted=0):
-    """The last line. Accepted ones are counted apart."""
+    """The last line. Accepted ones are counted apart, and each lost text once."""
+    lost = len({it["old"] for it in rows if it["change"] in LOSSES and it["now"] is None})
     count = lambda what: sum(1 for it in rows if it["change"] == what)
     starts = count("new start")
-    return f"diff: {count('kept')} kept, {count('changed')} changed, {count('waiting')} waiting, {count('removed')} removed, {starts} new starts, {count('added')} added, {accepted} accepted"
+    return f"diff: {count('kept')} kept, {count('changed')} changed, {count('waiting')} waiting, {count('removed')} removed, {starts} new start{'' if starts == 1 else 's'}, {count('added')} added, {accepted} accepted, {lost} text{'' if lost == 1 else 's'} lost"
 
 
 class Trial:
@@ -183,6 +199,10 @@ class Trial:
             self.expect(f"{number}: status", 1 if losses else 0, ran.returncode)
             ran = self.run(folder, "--no-fold", *options)
             self.expect(f"{number}: lines", [*map(line_of, rows_in_order(rows)), counts_of(rows)], ran.stdout.splitlines())
+            lost = [it for it in rows if it["change"] in LOSSES and it["now"] is None]
+            ran = self.run(folder, "--no-fold", "--lost", *options)
+            self.expect(f"{number}: lost ones", [*map(line_of, rows_in_order(lost)), counts_of(rows)], ran.stdout.splitlines())
+            self.expect(f"{number}: status with --lost", 1 if losses else 0, ran.returncode)
             ran = self.run(folder, "--write-accept", *options)
             self.expect(f"{number}: accepted ones", [line_of(it, False) for it in rows_in_order(losses)], ran.stdout.splitlines())
             with open(os.path.join(folder, "accepted"), "w", encoding="utf-8") as file:

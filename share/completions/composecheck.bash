@@ -11,7 +11,7 @@ _composecheck() {
         -o | --output | --accept) COMPREPLY=($(compgen -f -- "$word")); return ;;
         --fresh | --at-once | --unsent | --locale) return ;;
         --system|--root) COMPREPLY=($(compgen -d -- "$word")); return ;;
-        --overlap) COMPREPLY=($(compgen -W "refuse longest" -- "$word")); return ;;
+        --overlap) COMPREPLY=($(compgen -W "longest refuse" -- "$word")); return ;;
         --format) COMPREPLY=($(compgen -W "text json" -- "$word")); return ;;
         --color) COMPREPLY=($(compgen -W "auto always never" -- "$word")); return ;;
         --mode) COMPREPLY=($(compgen -W "600 660 666" -- "$word")); return ;;
@@ -21,7 +21,7 @@ _composecheck() {
         check) options="--names --fresh --verbose --help" ;;
         explain) options="--names --fresh --all --verbose --help" ;;
         make) options="--names --fresh --all --output --verbose --help" ;;
-        diff) options="--names --fresh --overlap --accept --write-accept --no-fold --format --color --system --locale --root --help" ;;
+        diff) options="--verbose --names --fresh --overlap --accept --write-accept --no-fold --lost --format --color --system --locale --root --help" ;;
         manifest) options="--system --locale --root --verbose --help" ;;
         serve) options="--names --at-once --unsent --mode --replace --unlink --verbose --help" ;;
         load) options="--verbose --help" ;;

@@ -164,6 +164,7 @@ static DIFF: CommandRow = CommandRow {
     about: "Tell of each sequence that a new Compose file changes, removes, makes wait or adds",
     after_help: "Names are those of keysymdef.h, unless --names gives others.\nExit status: 0 nothing changes for people who type, 1 something does, 2 input refused, 3 out of memory\nExample: composecheck diff /usr/share/X11/locale/en_US.UTF-8/Compose ~/.XCompose",
     options: &[
+        VERBOSE,
         NAMES,
         FRESH,
         OptionRow {
@@ -171,10 +172,10 @@ static DIFF: CommandRow = CommandRow {
             letter: None,
             takes: Takes::OneOf {
                 name: "RULE",
-                values: &["refuse", "longest"],
-                default: "refuse",
+                values: &["longest", "refuse"],
+                default: "longest",
             },
-            help: "Of a sequence that another one begins with: refuse the table, or take the longest",
+            help: "Of a sequence that another one begins with: take the longest, as input methods do, or refuse the table",
         },
         OptionRow {
             name: "accept",
@@ -193,6 +194,12 @@ static DIFF: CommandRow = CommandRow {
             letter: None,
             takes: Takes::Nothing,
             help: "Print a line for each sequence",
+        },
+        OptionRow {
+            name: "lost",
+            letter: None,
+            takes: Takes::Nothing,
+            help: "Print only changes whose old text no sequence of NEW gives",
         },
         OptionRow {
             name: "format",

@@ -8,10 +8,12 @@ pub struct DiffArguments<'a> {
     pub old: &'a str,
     /// The path of the new one.
     pub new: &'a str,
-    /// Whether the longest of overlapping sequences is taken, where they are refused else.
+    /// Whether the longest of overlapping sequences is taken; else they are refused.
     pub longest: bool,
     /// The path of the list of changes that are meant.
     pub accept: Option<&'a str>,
+    /// Whether only changes are printed whose old text no sequence of the new table gives.
+    pub lost: bool,
     /// How the changes are told.
     pub form: DiffForm,
     /// When they are told in colours.
@@ -56,6 +58,7 @@ pub fn diff_arguments<'a>(given: &ArgMatches<'a>) -> Option<DiffArguments<'a>> {
         new: given.get_str("NEW")?,
         longest: given.get_str("overlap") == Some("longest"),
         accept: given.get_str("accept"),
+        lost: given.get_flag("lost"),
         form: form_of(given),
         color: color_of(given),
         system: given.get_str("system"),

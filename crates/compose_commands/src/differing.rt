@@ -133,6 +133,7 @@ fn diff_answer<T: ComposeTable>(
         old_paths: &old_paths,
         new_paths: &new_paths,
         accepted: &files.accepted,
+        lost_alone: arguments.lost,
         form: form_of(arguments.form),
     };
     diff_migration::<T>(alloc, &input)

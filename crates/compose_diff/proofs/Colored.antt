@@ -1,5 +1,5 @@
 -- An answer is lines without controls, so that colours can be put round them and taken away again.
-use Rattle.std.proofs.Common.{◌≡◌, ℕ, zero, suc, ◌-◌, ◌<◌, Bool, true, false, List, [], ◌∷◌, ◌++◌, length, take, flat_map, refl, sym, ◌∙◌, ap, ap₂, arith, leb-true}
+use Rattle.std.proofs.Common.{◌≡◌, ℕ, zero, suc, ◌-◌, ◌<◌, Bool, true, false, List, [], ◌∷◌, ◌++◌, length, take, map, flat_map, refl, sym, ◌∙◌, ap, ap₂, arith, leb-true}
 use Rattle.std.specs.Prelude.{◌==◌, nat_lt, if◌then◌else◌, Option, Some, None, codes, slice_index}
 use Rattle.std.specs.List.{list_all, list_any, slice_split}
 use Rattle.std.specs.Fmt.{decimal}
@@ -11,19 +11,23 @@ use Rattle.std.proofs.lemmas.List.Splits.{slice_split-cons_no, length-slice_spli
 use Rattle.std.proofs.lemmas.List.Folds.{list_all-append}
 use Rattle.std.proofs.lemmas.Grind.{flat_map-append}
 use Rattle.compose_shown.specs.Shown.{shown_text}
+use Rattle.compose_compare.specs.declared.Change.{Change}
 use Rattle.compose_compare.specs.declared.Change.TheVariants.{Changed, Waiting, Removed, Added, NewStart}
 use Rattle.compose_diff.specs.declared.row.Entry.{Entry}
 use Rattle.compose_diff.specs.declared.row.DiffRow.{DiffRow}
 use Rattle.compose_diff.specs.declared.counts.Counts.{Counts}
-use Rattle.compose_diff.specs.Line.{keys_text, text_part, place_part, places_text, row_text, row_line}
-use Rattle.compose_diff.specs.Counts.{counts_of, counts_line}
+use Rattle.compose_diff.specs.declared.row.NewSequence.{NewSequence}
+use Rattle.compose_diff.specs.Line.{keys_text, keys_part, text_part, path_part, place_part, places_text, sequence_part, is_loss, typed_part, now_part, row_end, row_text, row_line}
+use Rattle.compose_diff.specs.Counts.{counts_of, starts_word, texts_word, counts_line}
 use Rattle.compose_diff.specs.Runs.{fold_keys, runs_by}
 use Rattle.compose_diff.specs.Causes.{cause_line}
 use Rattle.compose_diff.specs.Folds.{texts_part, fold_line, row_lines, run_lines, told, Telling, run, cause, telling_lines, part_tellings, part_lines}
 use Rattle.compose_diff.specs.declared.runs.Division.TheVariants.{Sources}
+use Rattle.compose_diff.specs.Lost.{shown_rows, lost_text_count}
 use Rattle.compose_diff.specs.Told.{lines_text, answer_text}
+use Rattle.compose_diff.specs.declared.answer.Printed.{Printed}
 use Rattle.compose_diff.specs.Colors.{begins_with_word, colored_lines, uncolored_from, uncolored}
-use Rattle.compose_diff.proofs.Plain.{is_plain, ArePlain, both_plain, all_plain, decimal_plain, shown_plain, keys_plain, text_plain, row_text_plain}
+use Rattle.compose_diff.proofs.Plain.{is_plain, ArePlain, both_plain, all_plain, decimal_plain, shown_plain, names_plain, keys_plain, text_plain, row_text_plain}
 
 -- ---- lines without controls
 
@@ -74,17 +78,38 @@ all_lined f (x ∷ xs) each = both_lined (f x) (flat_map f xs) (each x) (all_lin
 
 -- ---- the lines of an answer
 
+path_plain : (path : List ℕ) (line : ℕ) → ArePlain (path_part path line)
+path_plain path line =
+    both_plain (codes " ") (shown_text path ++ (codes ":" ++ decimal line)) refl
+    (both_plain (shown_text path) (codes ":" ++ decimal line) (shown_plain path) (both_plain (codes ":") (decimal line) refl (decimal_plain line)))
+
 place_plain : (entry : Option Entry) → ArePlain (place_part entry)
 place_plain None = refl
-place_plain (Some entry) =
-    both_plain (codes " ") (shown_text entry.path.now ++ (codes ":" ++ decimal entry.line)) refl
-    (both_plain (shown_text entry.path.now) (codes ":" ++ decimal entry.line) (shown_plain entry.path.now) (both_plain (codes ":") (decimal entry.line) refl (decimal_plain entry.line)))
+place_plain (Some entry) = path_plain entry.path.now entry.line
 
 places_plain : (row : DiffRow) → ArePlain (places_text row)
 places_plain row = both_plain (place_part row.old) (place_part row.new) (place_plain row.old) (place_plain row.new)
 
+sequence_plain : (s : NewSequence) → ArePlain (sequence_part s)
+sequence_plain s =
+    both_plain (keys_part (map (λ key. key.now) s.keys.now)) (path_part s.path.now s.line) (names_plain (map (λ key. key.now) s.keys.now)) (path_plain s.path.now s.line)
+
+typed_plain : (now : Option NewSequence) → ArePlain (typed_part now)
+typed_plain None = refl
+typed_plain (Some s) = sequence_plain s
+
+now_plain : (change : Change) (now : Option NewSequence) → ArePlain (now_part change now)
+now_plain change now = by (is_loss change)
+  where
+    by : (t : Bool) → ArePlain (if t then codes " now:" ++ typed_part now else [])
+    by true = both_plain (codes " now:") (typed_part now) refl (typed_plain now)
+    by false = refl
+
+end_plain : (row : DiffRow) → ArePlain (row_end row)
+end_plain row = both_plain (places_text row) (now_part row.change row.typing) (places_plain row) (now_plain row.change row.typing)
+
 row_lined : (row : DiffRow) → Lined (row_line row)
-row_lined row = one_lined (row_line row) (behind (row_text row) _ (row_text_plain row) (behind (places_text row) (10 ∷ []) (places_plain row) newline))
+row_lined row = one_lined (row_line row) (behind (row_text row) _ (row_text_plain row) (behind (row_end row) (10 ∷ []) (end_plain row) newline))
 
 fold_lined : (rows : List DiffRow) → Lined (fold_line rows)
 fold_lined [] = none_lined
@@ -120,6 +145,20 @@ telling_lined (cause entry rows) = cause_lined entry (length rows)
 number : (word : List ℕ) → ArePlain word → (n : ℕ) (text : List ℕ) → OneLine text → OneLine (word ++ (decimal n ++ text))
 number word plain n text one = behind word (decimal n ++ text) plain (behind (decimal n) text (decimal_plain n) one)
 
+starts_plain : (n : ℕ) → ArePlain (starts_word n)
+starts_plain n = by (n == 1)
+  where
+    by : (t : Bool) → ArePlain (if t then codes " new start" else codes " new starts")
+    by true = refl
+    by false = refl
+
+texts_plain : (n : ℕ) → ArePlain (texts_word n)
+texts_plain n = by (n == 1)
+  where
+    by : (t : Bool) → ArePlain (if t then codes " text lost" else codes " texts lost")
+    by true = refl
+    by false = refl
+
 counts_lined : (counts : Counts) → Lined (counts_line counts)
 counts_lined counts =
     one_lined (counts_line counts)
@@ -128,14 +167,19 @@ counts_lined counts =
     (number (codes " changed, ") refl counts.waiting _
     (number (codes " waiting, ") refl counts.removed _
     (number (codes " removed, ") refl counts.new_starts _
-    (number (codes " new starts, ") refl counts.added _ (number (codes " added, ") refl counts.accepted _ (record { line = codes " accepted"; plain = refl; is = refl }))))))))
+    (behind (starts_word counts.new_starts) _ (starts_plain counts.new_starts)
+    (number (codes ", ") refl counts.added _ (number (codes " added, ") refl counts.accepted _
+    (number (codes " accepted, ") refl counts.lost _
+    (behind (texts_word counts.lost) _ (texts_plain counts.lost) newline))))))))))
 
-answer_lined : (folds : Bool) (rows left : List DiffRow) → Lined (answer_text folds rows left)
-answer_lined folds rows left = both_lined (lines_text folds rows left) _ (by folds) (counts_lined (counts_of left (length rows - length left)))
-  where
-    by : (t : Bool) → Lined (lines_text t rows left)
-    by true = all_lined (part_lines rows) (runs_by Sources (told left)) (λ part. all_lined telling_lines (part_tellings rows part) telling_lined)
-    by false = all_lined row_line (told left) row_lined
+rows_lined : (folds : Bool) (rows shown : List DiffRow) → Lined (lines_text folds rows shown)
+rows_lined true rows shown = all_lined (part_lines rows) (runs_by Sources (told shown)) (λ part. all_lined telling_lines (part_tellings rows part) telling_lined)
+rows_lined false rows shown = all_lined row_line (told shown) row_lined
+
+answer_lined : (printed : Printed) (rows left : List DiffRow) → Lined (answer_text printed rows left)
+answer_lined printed rows left =
+    both_lined (lines_text printed.folds rows (shown_rows printed.lost_alone left)) _ (rows_lined printed.folds rows (shown_rows printed.lost_alone left))
+    (counts_lined (counts_of left (length rows - length left) (lost_text_count left)))
 
 -- ---- divided into lines
 
@@ -192,7 +236,7 @@ all_off (part ∷ parts) plain =
     ∙ ap (λ rest. part ++ 10 ∷ rest) (all_off parts both.1) ∙ sym (append_assoc part (10 ∷ []) (joined parts))
 
 -- an answer in colours is the answer without its escape sequences
-pub answer_back : (folds : Bool) (rows left : List DiffRow) → uncolored (colored_lines (lines (answer_text folds rows left))) ≡ answer_text folds rows left
-answer_back folds rows left =
-    let lined = answer_lined folds rows left in
+pub answer_back : (printed : Printed) (rows left : List DiffRow) → uncolored (colored_lines (lines (answer_text printed rows left))) ≡ answer_text printed rows left
+answer_back printed rows left =
+    let lined = answer_lined printed rows left in
     ap (λ text. uncolored (colored_lines (lines text))) lined.is ∙ ap (λ ls. uncolored (colored_lines ls)) (lines_again lined.parts lined.plain) ∙ all_off lined.parts lined.plain ∙ sym lined.is

@@ -115,11 +115,13 @@ word_plain NewStart = refl
 key_plain : (key : List ℕ) → ArePlain (codes " <" ++ (shown_text key ++ codes ">"))
 key_plain key = both_plain (codes " <") (shown_text key ++ codes ">") refl (both_plain (shown_text key) (codes ">") (shown_plain key) refl)
 
+-- keys
+pub names_plain : (keys : List (List ℕ)) → ArePlain (keys_part keys)
+names_plain keys = all_plain (λ key. codes " <" ++ (shown_text key ++ codes ">")) keys key_plain
+
 -- the word and the keys
 pub keys_plain : (c : Change) (keys : List (List ℕ)) → ArePlain (keys_text c keys)
-keys_plain c keys =
-    both_plain (change_word c) (codes ":" ++ keys_part keys) (word_plain c)
-    (both_plain (codes ":") (keys_part keys) refl (all_plain (λ key. codes " <" ++ (shown_text key ++ codes ">")) keys key_plain))
+keys_plain c keys = both_plain (change_word c) (codes ":" ++ keys_part keys) (word_plain c) (both_plain (codes ":") (keys_part keys) refl (names_plain keys))
 
 -- the text of a sequence in quotes
 pub text_plain : (entry : Option Entry) → ArePlain (text_part entry)

@@ -1,5 +1,5 @@
 -- A sequence and what happens to it as a JSON object (RFC 8259), in one line.
-use Rattle.std.specs.Prelude.{ℕ, ◌==◌, ◌||◌, if◌then◌else◌, List, [], ◌∷◌, ◌++◌, flat_map, Option, Some, None, codes, false}
+use Rattle.std.specs.Prelude.{ℕ, ◌==◌, ◌||◌, if◌then◌else◌, List, [], ◌∷◌, ◌++◌, flat_map, Option, Some, None, codes, false, map}
 use Rattle.std.specs.Fmt.{decimal, digits}
 use Rattle.std.specs.Str.{chars}
 use Rattle.std.specs.Char.{encode_utf8}
@@ -7,6 +7,7 @@ use Rattle.compose_shown.specs.Shown.{is_unsafe}
 use Rattle.keysym_core.specs.Printed.{at_least_four}
 use Rattle.compose_diff.specs.declared.row.Entry.{Entry}
 use Rattle.compose_diff.specs.declared.row.DiffRow.{DiffRow}
+use Rattle.compose_diff.specs.declared.row.NewSequence.{NewSequence}
 use Rattle.compose_diff.specs.Line.{change_word, key_names}
 
 -- a quote (code 34) or a backslash (code 92) after a backslash, what may steer a terminal by its number, any other character itself
@@ -50,8 +51,19 @@ json_texts row = codes ",\"old\":" ++ (json_text row.old ++ (codes ",\"new\":" +
 abbrev pub json_places : DiffRow → List ℕ
 json_places row = json_place (codes "old") row.old ++ json_place (codes "new") row.new
 
+-- the keys, the file and the line of the sequence that gives the old text now, or null
+abbrev pub json_typing : Option NewSequence → List ℕ
+json_typing None = codes ",\"now\":null,\"now_file\":null,\"now_line\":null"
+json_typing (Some s) =
+    codes ",\"now\":" ++ (json_strings (map (λ key. key.now) s.keys.now)
+    ++ (codes ",\"now_file\":" ++ (json_string s.path.now ++ (codes ",\"now_line\":" ++ decimal s.line))))
+
+-- both places, and how the old text is typed now
+abbrev pub json_end : DiffRow → List ℕ
+json_end row = json_places row ++ json_typing row.typing
+
 abbrev pub json_row : DiffRow → List ℕ
-json_row row = json_keys row ++ (json_texts row ++ (json_places row ++ codes "}\n"))
+json_row row = json_keys row ++ (json_texts row ++ (json_end row ++ codes "}\n"))
 
 -- an object a line
 abbrev pub json_rows : List DiffRow → List ℕ

@@ -8,3 +8,4 @@ pub mod Causes
 pub mod Folds
 pub mod Order
 pub mod Told
+pub mod Lost

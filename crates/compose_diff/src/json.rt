@@ -4,12 +4,13 @@ ghost use Rattle.compose_shown.specs.Shown as shown;
 ghost use Rattle.compose_diff.specs.Json as words;
 
 use crate::line::change_word;
-use crate::row::{DiffRow, Entry};
+use crate::row::{DiffRow, Entry, NewSequence};
 use std::alloc::{AllocError, Global};
 use std::fmt::Write;
 
 /// An object a line for each row, the rows that are kept too: `change`, `keys`, the texts `old` and `new`, and the places `old_file`,
-/// `old_line`, `new_file` and `new_line`, each `null` where the table doesn't have the sequence. O(bytes).
+/// `old_line`, `new_file` and `new_line`, each `null` where the table doesn't have the sequence. Then the keys and the place of the
+/// sequence that gives the old text now (`now`, `now_file`, `now_line`), `null` if there is none. O(bytes).
 pub fn json_text(alloc: Global, rows: &[DiffRow]) -> Result<String, AllocError>
     ensures { IfOk result (λ text. string_bytes text ≡ words.json_rows rows.now) }
 {
@@ -27,8 +28,34 @@ fn push_object(text: &mut String, row: &DiffRow) -> Result<(), AllocError>
 {
     push_keys(text, row)?;
     push_texts(text, row)?;
-    push_places(text, row)?;
+    push_end(text, row)?;
     text.push_str("}\n")
+}
+
+/// Appends the members for both places and for how the old text is typed now to the text.
+fn push_end(text: &mut String, row: &DiffRow) -> Result<(), AllocError>
+    ensures { OnOk result
+        (string_bytes text.new ≡ string_bytes text.old ++ words.json_end row.now) }
+{
+    push_places(text, row)?;
+    push_typing(text, &row.typing)
+}
+
+/// Appends the members for the sequence that gives the old text now to the text.
+fn push_typing(text: &mut String, typing: &Option<NewSequence>) -> Result<(), AllocError>
+    ensures { OnOk result
+        (string_bytes text.new ≡ string_bytes text.old ++ words.json_typing typing.now) }
+{
+    let Some(sequence) = typing else {
+        return text.push_str(",\"now\":null,\"now_file\":null,\"now_line\":null");
+    };
+    let line = sequence.line;
+    text.push_str(",\"now\":")?;
+    push_strings(text, sequence.keys)?;
+    text.push_str(",\"now_file\":")?;
+    push_string(text, sequence.path)?;
+    write!(text, ",\"now_line\":{line}")?;
+    Ok(())
 }
 
 /// Appends the members for what happens and for the keys to the text.

@@ -4,7 +4,7 @@
 //! [`answer_diff`] gives the whole answer: a line for each ([`diff_text`], or [`folded_text`]) and the [`Counts`]. [`colored_text`] puts
 //! it in colours, and [`json_text`] tells the rows to programs. A line:
 //!
-//!     changed: <dead_hook> <o> "ở" "ờ" en_US.UTF-8/Compose:1234 fi_FI.UTF-8/Compose:361
+//!     changed: <dead_hook> <o> "ở" "ờ" OLD:1234 NEW:361 now: <dead_horn> <dead_hook> <o> NEW:340
 //!
 //! [`Accepted`] are the changes that are meant, as such lines, and [`accept_text`] writes those that accept all rows.
 #![tactic(auto)]
@@ -12,6 +12,7 @@
 ghost use Rattle.std.specs.Prelude.{◌≡◌, Bool, List, ◌∷◌, ◌++◌, filter, Some, IsTrue};
 ghost use Rattle.std.specs.List.{list_all};
 ghost use Rattle.std.specs.Str.Lines.{lines};
+ghost use Rattle.compose_diff.specs.declared.answer.Printed.{Printed};
 ghost use Rattle.compose_diff.specs.declared.row.DiffRow.{DiffRow};
 ghost use Rattle.compose_diff.specs.declared.row.Entry.{Entry};
 ghost use Rattle.compose_diff.specs.declared.runs.Division.{Division};
@@ -31,18 +32,21 @@ mod counts;
 mod fold;
 mod json;
 mod line;
+mod lost;
 mod order;
 mod row;
 mod runs;
 
 pub use accepted::{AcceptFault, Accepted, accept_text};
-pub use answer::answer_diff;
+pub use answer::{Printed, answer_diff};
 pub use color::colored_text;
 pub use counts::{Counts, loses_nothing};
 pub use fold::{diff_text, folded_text};
 pub use json::json_text;
+pub use line::is_loss;
+pub use lost::{is_lost, lost_rows, lost_text_count};
 pub use order::sort_rows;
-pub use row::{DiffRow, Entry};
+pub use row::{DiffRow, Entry, NewSequence};
 
 /// Each row is in one run, and in the order in which it was: a division leaves nothing out and doubles nothing.
 pub fn law_runs()
@@ -72,7 +76,7 @@ pub fn law_accept_text()
 
 /// An answer in colours ([`colored_text`]) is the same answer without its escape sequences.
 pub fn law_colors()
-    ensures { (folds : Bool) (rows left : List DiffRow)
-        → uncolored (colored_lines (lines (answer_text folds rows left)))
-        ≡ answer_text folds rows left }
+    ensures { (printed : Printed) (rows left : List DiffRow)
+        → uncolored (colored_lines (lines (answer_text printed rows left)))
+        ≡ answer_text printed rows left }
 {}

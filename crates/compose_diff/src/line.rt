@@ -2,7 +2,7 @@
 ghost use Rattle.std.specs.Prelude.{◌≡◌, ◌++◌, map, OnOk, string_bytes};
 ghost use Rattle.compose_diff.specs.Line as words;
 
-use crate::row::{DiffRow, Entry};
+use crate::row::{DiffRow, Entry, NewSequence};
 use compose_compare::Change;
 use compose_lex::quote;
 use compose_shown::Shown;
@@ -31,6 +31,15 @@ pub(crate) fn push_keys(text: &mut String, change: Change, keys: &[&str]) -> Res
 {
     text.push_str(change_word(change))?;
     text.push_str(":")?;
+    push_key_names(text, keys)
+}
+
+/// Appends each key in brackets, after a blank, to the text.
+fn push_key_names(text: &mut String, keys: &[&str]) -> Result<(), AllocError>
+    ensures { OnOk result
+        (string_bytes text.new
+        ≡ string_bytes text.old ++ words.keys_part (map (λ key. key.now) keys.now)) }
+{
     for key in keys {
         let shown = Shown(key);
         write!(text, " <{shown}>")?;
@@ -66,8 +75,15 @@ pub(crate) fn push_place(text: &mut String, entry: &Option<Entry>) -> Result<(),
     let Some(entry) = entry else {
         return Ok(());
     };
-    let path = Shown(entry.path);
-    let line = entry.line;
+    push_path(text, entry.path, entry.line)
+}
+
+/// Appends a path and a line in it, after a blank, to the text.
+fn push_path(text: &mut String, path: &str, line: usize) -> Result<(), AllocError>
+    ensures { OnOk result
+        (string_bytes text.new ≡ string_bytes text.old ++ words.path_part path.now line) }
+{
+    let path = Shown(path);
     write!(text, " {path}:{line}")?;
     Ok(())
 }
@@ -95,6 +111,50 @@ pub(crate) fn push_places(text: &mut String, row: &DiffRow) -> Result<(), AllocE
     push_place(text, &row.new)
 }
 
+/// Appends the keys of a sequence of the new table, and its place, to the text.
+fn push_sequence(text: &mut String, sequence: &NewSequence) -> Result<(), AllocError>
+    ensures { OnOk result
+        (string_bytes text.new ≡ string_bytes text.old ++ words.sequence_part sequence.now) }
+{
+    push_key_names(text, sequence.keys)?;
+    push_path(text, sequence.path, sequence.line)
+}
+
+/// Whether people lose the sequence to which this happens, so that the line says how its text is typed now.
+pub fn is_loss(change: Change) -> bool
+    ensures { result ≡ words.is_loss change }
+{
+    matches!(change, Change::Changed | Change::Waiting | Change::Removed)
+}
+
+/// Appends how the old text of a sequence to which this happens is typed now, or that it isn't, to the text.
+fn push_typing(
+    text: &mut String,
+    change: Change,
+    typing: &Option<NewSequence>,
+) -> Result<(), AllocError>
+    ensures { OnOk result
+        (string_bytes text.new ≡ string_bytes text.old ++ words.now_part change typing.now) }
+{
+    if !is_loss(change) {
+        return Ok(());
+    }
+    text.push_str(" now:")?;
+    match typing {
+        Some(sequence) => push_sequence(text, sequence),
+        None => text.push_str(" none"),
+    }
+}
+
+/// Appends both places, and how the old text is typed now, to the text.
+fn push_row_end(text: &mut String, row: &DiffRow) -> Result<(), AllocError>
+    ensures { OnOk result
+        (string_bytes text.new ≡ string_bytes text.old ++ words.row_end row.now) }
+{
+    push_places(text, row)?;
+    push_typing(text, row.change, &row.typing)
+}
+
 /// Appends the whole line to the text.
 pub(crate) fn push_row_line(
     alloc: Global,
@@ -105,6 +165,6 @@ pub(crate) fn push_row_line(
         (string_bytes text.new ≡ string_bytes text.old ++ words.row_line row.now) }
 {
     push_row_text(alloc, text, row)?;
-    push_places(text, row)?;
+    push_row_end(text, row)?;
     text.push_str("\n")
 }

@@ -14,6 +14,17 @@ pub struct Entry<'a> {
     pub line: usize,
 }
 
+/// A sequence of the new table, and where the definition is that counts.
+#[derive(Clone, Copy, Debug)]
+pub struct NewSequence<'a> {
+    /// The names of its keys, as the file has them.
+    pub keys: &'a [&'a str],
+    /// The path of the source.
+    pub path: &'a str,
+    /// The line in it, from 1.
+    pub line: usize,
+}
+
 /// A sequence and what happens to it.
 #[derive(Clone, Copy, Debug)]
 pub struct DiffRow<'a> {
@@ -24,4 +35,7 @@ pub struct DiffRow<'a> {
     pub old: Option<Entry<'a>>,
     /// What the new table has for it, if the new table has it.
     pub new: Option<Entry<'a>>,
+    /// Of a sequence that is changed, waiting or removed the first of the shortest ones with which
+    /// the new table gives its old text, if any does.
+    pub typing: Option<NewSequence<'a>>,
 }

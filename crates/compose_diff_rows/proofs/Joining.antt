@@ -100,7 +100,7 @@ module _ (asked : Asked) (e : Explainable) (is : compared_parts asked.migration 
 
   -- the answer on both tables, where the lines of the list are read
   pub told_of : (lines : List Line) → accepted_of asked.accepted ≡ Ok lines → (r : Result Answer DiffFault) → TellsDiff asked e lines r → AnswersDiff asked r
-  told_of lines read (Ok answer) h = let tells = h.2 in (e, is, record { lines = lines; rows = h.0; left = tells.0; read = read; are = h.1; leaves = tells.1; told = tells.2 })
+  told_of lines read (Ok answer) h = let tells = h.3 in (e, is, record { lines = lines; rows = h.0; left = tells.0; tables = h.1; read = read; are = h.2; leaves = tells.1; told = tells.2 })
   told_of lines read (Err (Input refusal)) h = subst (λ (x : Refusal). IsRefused x (compared_parts asked.migration)) (sym h) tt
   told_of lines read (Err (Accept (Stale n))) h = (e, is, record { lines = lines; rows = h.0; read = read; are = h.1; stale = h.2 })
   told_of lines read (Err (Accept (BadLine n))) h = absurd h.2

@@ -13,7 +13,7 @@ use Rattle.compose_tree.specs.Targets.{leaf_number}
 use Rattle.compose_places.specs.Counting.{WrittenLine, sequence_named, AreLines}
 use Rattle.compose_compare.specs.declared.Change.{Change}
 use Rattle.compose_compare.specs.Change.{change, old_changes, new_changes}
-use Rattle.compose_diff_rows.specs.Rows.{ToldEntry, ToldRow, Written, line_of, keys_of, entry_at, entry_of, row_of, told_of, new_told, old_row, new_row}
+use Rattle.compose_diff_rows.specs.Rows.{ToldEntry, ToldRow, Written, WrittenSequence, sequence_at, sequence_in, line_of, keys_of, entry_at, entry_of, now_of, row_of, told_of, new_told, old_row, new_row}
 use Rattle.compose_diff_rows.proofs.Leaves.{number_of_leaf, leaf_there, leaf_at_number, keys_there}
 
 -- ---- what a table has for a leaf
@@ -47,6 +47,7 @@ module _ (names : KeysymNames) (fresh : List ℕ) (old new : Written) where
     keys = (ap (λ b. keys_of (cond b old new) s) (sym h)) i;
     old = entry_of old s;
     new = (ap (option_and_then (entry_of new)) named) i;
+    typing = now_of new (change names fresh old.table new.table s) (entry_of old s);
   }
 
   -- of one that the new table alone has
@@ -56,6 +57,7 @@ module _ (names : KeysymNames) (fresh : List ℕ) (old new : Written) where
     keys = (ap (λ b. keys_of (cond b old new) s) (sym h)) i;
     old = (no_entry old s h) i;
     new = entry_of new s;
+    typing = (ap (now_of new (change names fresh old.table new.table s)) (no_entry old s h)) i;
   }
 
   -- of all that are told of the old table
@@ -108,6 +110,16 @@ module _ (w : Written) (i : ℕ) (below : i < length (leaves w.table)) where
   pub entry_with : (line : WrittenLine) (told : ToldEntry) → Some line ≡ get_or w.lines i None → told ≡ entry_at w (get_or (leaves w.table) i []) line
       → Some told ≡ entry_of w (get_or (leaves w.table) i [])
   entry_with line told h e = ap Some e ∙ ap (option_map (entry_at w (get_or (leaves w.table) i []))) h ∙ sym (entry_of_leaf w i below)
+
+  -- and the sequence as the line writes it
+  sequence_of_leaf : sequence_in w (get_or (leaves w.table) i []) ≡ option_map (sequence_at w) (get_or w.lines i None)
+  sequence_of_leaf = ap (λ n. option_map (sequence_at w) (get_or w.lines n None)) (number_of_leaf w.table i below)
+
+  pub sequence_without : None ≡ get_or w.lines i None → None ≡ sequence_in w (get_or (leaves w.table) i [])
+  sequence_without h = ap (option_map (sequence_at w)) h ∙ sym sequence_of_leaf
+
+  pub sequence_with : (line : WrittenLine) (named : WrittenSequence) → Some line ≡ get_or w.lines i None → named ≡ sequence_at w line → Some named ≡ sequence_in w (get_or (leaves w.table) i [])
+  sequence_with line named h e = ap Some e ∙ ap (option_map (sequence_at w)) h ∙ sym sequence_of_leaf
 
 -- what a table has for a sequence whose number is known
 pub entry_numbered : (w : Written) (s : List ℕ) (n : ℕ) (o : Option ToldEntry) → is_sequence w.table s ≡ true → leaf_number w.table s ≡ n

@@ -5,7 +5,7 @@ use Rattle.std.specs.Ordering.{nat_cmp}
 use Rattle.std.specs.List.Sorted.{IsPermutation}
 use Rattle.compose_text.specs.Results.{◌>>=◌}
 use Rattle.keysym_core.specs.Names.{KeysymNames}
-use Rattle.compose_model.specs.Table.{Definition}
+use Rattle.compose_model.specs.Table.{Definition, is_table}
 use Rattle.compose_model.specs.Nodes.{leaves, rising}
 use Rattle.compose_read.specs.Lines.{Source}
 use Rattle.compose_migration.specs.Migration.{GivenMigration, Parts}
@@ -21,6 +21,7 @@ use Rattle.compose_answer.specs.declared.answer.Answer.TheVariants.{Yes, No, Inv
 use Rattle.compose_diff.specs.Accepted.{Line, accepted_of, left_of, accept_lines}
 use Rattle.compose_diff.specs.Counts.{loses_nothing}
 use Rattle.compose_diff.specs.Json.{json_rows}
+use Rattle.compose_diff.specs.Lost.{shown_rows}
 use Rattle.compose_diff.specs.Order.{AreInOrder}
 use Rattle.compose_diff.specs.Told.{answer_text}
 use Rattle.compose_diff.specs.declared.accepted.AcceptFault.TheVariants.{Stale, BadLine, NoMemory}
@@ -40,6 +41,7 @@ pub record Asked : Type 0 where
   pub old_paths : List (List ℕ)
   pub new_paths : List (List ℕ)
   pub accepted : List ℕ
+  pub lost_alone : Bool
   pub form : Form
 
 abbrev pub asked : DiffInput → Asked
@@ -48,6 +50,7 @@ asked input = record {
   old_paths = map (λ path. path.now) input.old_paths.now;
   new_paths = map (λ path. path.now) input.new_paths.now;
   accepted = input.accepted.now;
+  lost_alone = input.lost_alone;
   form = input.form;
 }
 
@@ -61,6 +64,10 @@ abbrev pub compared_parts : GivenMigration → Result Explainable NoAnswer
 compared_parts given = do
   move ← migration_parts given
   compared move
+
+-- both lists of definitions are tables
+abbrev pub AreTables : Explainable → Type 0
+AreTables e = IsTrue (is_table e.move.old) × IsTrue (is_table e.move.new)
 
 -- ---- the rows
 
@@ -108,29 +115,30 @@ AreRows asked e rows = AreSorted (tells_kept asked.form) e.move.names e.fresh (o
 
 -- ---- the answer
 
--- what is told of all rows, some of which are left
-abbrev pub form_text : Form → List DiffRow → List DiffRow → List ℕ
-form_text Folded rows left = answer_text true rows left
-form_text Lines rows left = answer_text false rows left
-form_text Json rows left = json_rows left
-form_text AcceptList rows left = accept_lines left
+-- what is printed of all rows, some of which are left: of these all, or those of lost texts alone
+abbrev pub form_text : Form → Bool → List DiffRow → List DiffRow → List ℕ
+form_text Folded lost_alone rows left = answer_text (record { folds = true; lost_alone = lost_alone }) rows left
+form_text Lines lost_alone rows left = answer_text (record { folds = false; lost_alone = lost_alone }) rows left
+form_text Json lost_alone rows left = json_rows (shown_rows lost_alone left)
+form_text AcceptList lost_alone rows left = accept_lines (shown_rows lost_alone left)
 
 -- yes where nobody meets any of the rows that are left
-abbrev pub IsTold : Form → List DiffRow → List DiffRow → Answer → Type 0
-IsTold form rows left (Yes text) = IsTrue (loses_nothing left) × (string_bytes text ≡ form_text form rows left)
-IsTold form rows left (No text) = IsTrue (not (loses_nothing left)) × (string_bytes text ≡ form_text form rows left)
-IsTold form rows left (Invalid fault) = ⊥
-IsTold form rows left (FreshNotAllowed keysym) = ⊥
+abbrev pub IsTold : Form → Bool → List DiffRow → List DiffRow → Answer → Type 0
+IsTold form lost_alone rows left (Yes text) = IsTrue (loses_nothing left) × (string_bytes text ≡ form_text form lost_alone rows left)
+IsTold form lost_alone rows left (No text) = IsTrue (not (loses_nothing left)) × (string_bytes text ≡ form_text form lost_alone rows left)
+IsTold form lost_alone rows left (Invalid fault) = ⊥
+IsTold form lost_alone rows left (FreshNotAllowed keysym) = ⊥
 
 -- the answer on what is compared: of its rows those are left that no line accepts
 pub record IsDiff (asked : Asked) (e : Explainable) (answer : Answer) : Type 0 where
   pub lines : List Line
   pub rows : List DiffRow
   pub left : List DiffRow
+  pub tables : AreTables e
   pub read : accepted_of asked.accepted ≡ Ok lines
   pub are : AreRows asked e rows
   pub leaves : left_of lines rows ≡ Ok left
-  pub told : IsTold asked.form rows left answer
+  pub told : IsTold asked.form asked.lost_alone rows left answer
 
 -- a line of the list of meant changes tells none of the rows
 pub record IsStale (asked : Asked) (e : Explainable) (line : ℕ) : Type 0 where

@@ -1,5 +1,5 @@
 -- What is told of two tables: a row for each sequence of either.
-use Rattle.std.specs.Prelude.{ℕ, Bool, true, not, if◌then◌else◌, List, [], ◌++◌, map, filter, get_or, Option, None, unwrap_or}
+use Rattle.std.specs.Prelude.{ℕ, Bool, true, not, if◌then◌else◌, List, [], ◌++◌, map, filter, get_or, slice_get, Option, Some, None, unwrap_or}
 use Rattle.std.specs.Option.{option_map, option_map_or, option_and_then}
 use Rattle.keysym_core.specs.Names.{KeysymNames}
 use Rattle.compose_model.specs.Table.{Definition, is_sequence, text_at}
@@ -11,6 +11,10 @@ use Rattle.compose_compare.specs.declared.Change.TheVariants.{Kept}
 use Rattle.compose_compare.specs.Change.{change}
 use Rattle.compose_diff.specs.declared.row.Entry.{Entry}
 use Rattle.compose_diff.specs.declared.row.DiffRow.{DiffRow}
+use Rattle.compose_diff.specs.declared.row.NewSequence.{NewSequence}
+use Rattle.compose_diff.specs.Line.{is_loss}
+use Rattle.compose_lookup.specs.Lookup.{giving, shortest_first}
+use Rattle.compose_diff_rows.specs.declared.typing.NamedSequence.{NamedSequence}
 use Rattle.compose_diff_rows.specs.declared.told.ToldSequence.{ToldSequence}
 use Rattle.compose_diff_rows.specs.declared.written.WrittenTable.{WrittenTable}
 
@@ -23,18 +27,28 @@ pub record ToldEntry : Type 0 where
   pub path : List ℕ
   pub line : ℕ
 
--- what happens to a sequence, the names of its keys, and what each table has for it
+-- a sequence of the new table as it is written: the names of its keys, and its place
+pub record WrittenSequence : Type 0 where
+  pub keys : List (List ℕ)
+  pub path : List ℕ
+  pub line : ℕ
+
+-- what happens to a sequence, the names of its keys, what each table has for it, and how its text is typed now
 pub record ToldRow : Type 0 where
   pub change : Change
   pub keys : List (List ℕ)
   pub old : Option ToldEntry
   pub new : Option ToldEntry
+  pub typing : Option WrittenSequence
 
 abbrev pub told_entry : Entry → ToldEntry
 told_entry entry = record { text = entry.text.now; source = entry.source; path = entry.path.now; line = entry.line }
 
+abbrev pub new_sequence : NewSequence → WrittenSequence
+new_sequence s = record { keys = map (λ key. key.now) s.keys.now; path = s.path.now; line = s.line }
+
 abbrev pub told_row : DiffRow → ToldRow
-told_row row = record { change = row.change; keys = map (λ key. key.now) row.keys.now; old = option_map told_entry row.old; new = option_map told_entry row.new }
+told_row row = record { change = row.change; keys = map (λ key. key.now) row.keys.now; old = option_map told_entry row.old; new = option_map told_entry row.new; typing = option_map new_sequence row.typing }
 
 -- ---- a table as it is written
 
@@ -62,6 +76,24 @@ entry_at w s line = record { text = unwrap_or (text_at w.table s) []; source = l
 abbrev pub entry_of : Written → List ℕ → Option ToldEntry
 entry_of w s = if is_sequence w.table s then option_map (entry_at w s) (line_of w s) else None
 
+-- a sequence of it as the line that counts writes it, if there is one
+abbrev pub sequence_at : Written → WrittenLine → WrittenSequence
+sequence_at w line = record { keys = line.keys; path = get_or w.paths line.place.source []; line = line.place.line }
+
+abbrev pub sequence_in : Written → List ℕ → Option WrittenSequence
+sequence_in w s = option_map (sequence_at w) (line_of w s)
+
+-- ---- how people type a text now
+
+-- the first of the shortest sequences that give the text, if one does
+abbrev pub first_typing : List Definition → List ℕ → Option (List ℕ)
+first_typing table text = slice_get (shortest_first (giving table text)) 0
+
+-- where people lose a sequence for which the old table has this, how its text is typed with the new one
+abbrev pub now_of : Written → Change → Option ToldEntry → Option WrittenSequence
+now_of new c None = None
+now_of new c (Some entry) = if is_loss c then option_and_then (sequence_in new) (first_typing new.table entry.text) else None
+
 -- ---- the rows
 
 -- the keys are written as in the old table, or in the new one where that alone has the sequence
@@ -71,6 +103,7 @@ row_of names fresh old new s = record {
   keys = keys_of (if is_sequence old.table s then old else new) s;
   old = entry_of old s;
   new = entry_of new s;
+  typing = now_of new (change names fresh old.table new.table s) (entry_of old s);
 }
 
 -- ---- which are told
@@ -98,7 +131,7 @@ told_rows whole names fresh old new = map (row_of names fresh old new) (old_told
 
 -- of a kept sequence that is not told only what the old table has for it
 abbrev pub kept_row : Written → List ℕ → ToldRow
-kept_row old s = record { change = Kept; keys = []; old = entry_of old s; new = None }
+kept_row old s = record { change = Kept; keys = []; old = entry_of old s; new = None; typing = None }
 
 -- a row for each of these, in the order of the old table
 abbrev pub kept_rows : Bool → KeysymNames → List ℕ → Written → Written → List ToldRow
@@ -106,24 +139,33 @@ kept_rows whole names fresh old new = map (kept_row old) (filter (λ s. not (is_
 
 -- ---- in words for private functions
 
--- a sequence of one of the tables: what happens to it, the names of its keys, and what the table has for it
+-- a sequence of one of the tables: what happens to it, the names of its keys, what the table has for it, and how its text is typed now
 pub record Told : Type 0 where
   pub change : Change
   pub keys : List (List ℕ)
   pub entry : Option ToldEntry
+  pub typing : Option WrittenSequence
+
+abbrev pub named_sequence : NamedSequence → WrittenSequence
+named_sequence s = record { keys = map (λ key. key.now) s.keys.items; path = s.path.now; line = s.line }
 
 -- such a sequence as the code keeps it
 abbrev pub told_sequence : ToldSequence → Told
-told_sequence told = record { change = told.change; keys = map (λ key. key.now) told.keys.items; entry = option_map told_entry told.entry }
+told_sequence told = record { change = told.change; keys = map (λ key. key.now) told.keys.items; entry = option_map told_entry told.entry; typing = option_map named_sequence told.typing }
 
 -- the sequence s of w, which is one of the two tables
 abbrev pub told_of : KeysymNames → List ℕ → Written → Written → Written → List ℕ → Told
-told_of names fresh old new w s = record { change = change names fresh old.table new.table s; keys = keys_of w s; entry = entry_of w s }
+told_of names fresh old new w s = record {
+  change = change names fresh old.table new.table s;
+  keys = keys_of w s;
+  entry = entry_of w s;
+  typing = now_of new (change names fresh old.table new.table s) (entry_of old s);
+}
 
 -- the row of a sequence of the old table: what the new one has for it is found by the names of its keys
 abbrev pub old_row : KeysymNames → Written → Told → ToldRow
-old_row names new told = record { change = told.change; keys = told.keys; old = told.entry; new = option_and_then (entry_of new) (sequence_named names told.keys) }
+old_row names new told = record { change = told.change; keys = told.keys; old = told.entry; new = option_and_then (entry_of new) (sequence_named names told.keys); typing = told.typing }
 
 -- the row of a sequence that the new table alone has
 abbrev pub new_row : Told → ToldRow
-new_row told = record { change = told.change; keys = told.keys; old = None; new = told.entry }
+new_row told = record { change = told.change; keys = told.keys; old = None; new = told.entry; typing = None }

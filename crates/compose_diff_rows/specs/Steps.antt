@@ -1,5 +1,5 @@
 -- What the steps of `diff` give, beside memory that is refused.
-use Rattle.std.specs.Prelude.{◌≡◌, ℕ, List, Result, Ok, Err, IsTrue}
+use Rattle.std.specs.Prelude.{◌≡◌, ℕ, Bool, List, Result, Ok, Err, IsTrue}
 use Rattle.std.specs.declared.vec.Vec.{Vec}
 use Rattle.std.specs.declared.alloc.Global.{Global}
 use Rattle.compose_model.specs.Certificate.{keys_rise}
@@ -14,7 +14,7 @@ use Rattle.compose_diff.specs.Accepted.{Line, left_of}
 use Rattle.compose_diff.specs.declared.accepted.AcceptFault.{AcceptFault}
 use Rattle.compose_diff.specs.declared.accepted.AcceptFault.TheVariants.{Stale, BadLine, NoMemory}
 use Rattle.compose_diff.specs.declared.row.DiffRow.{DiffRow}
-use Rattle.compose_diff_rows.specs.Answers.{Asked, compared, lines_in, AreRows, IsTold}
+use Rattle.compose_diff_rows.specs.Answers.{Asked, AreTables, compared, lines_in, AreRows, IsTold}
 use Rattle.compose_diff_rows.specs.declared.asking.Form.{Form}
 use Rattle.compose_diff_rows.specs.declared.placed.PlacedMigration.{PlacedMigration}
 use Rattle.compose_diff_rows.specs.declared.asking.DiffInput.{DiffInput}
@@ -46,15 +46,15 @@ GivesFresh move (Err (Input refusal)) = IsRefused refusal (compared move)
 GivesFresh move (Err (Accept fault)) = ⊥
 
 -- what is told of the rows that no line accepts, or the first line that tells none of the rows
-abbrev pub TellsRows : Form → List Line → List DiffRow → Result Answer DiffFault → Type 0
-TellsRows form lines rows (Ok answer) = (left : List DiffRow) × (left_of lines rows ≡ Ok left) × IsTold form rows left answer
-TellsRows form lines rows (Err (Input refusal)) = refusal ≡ refusals.NoMemory
-TellsRows form lines rows (Err (Accept (Stale n))) = left_of lines rows ≡ Err (Stale n)
-TellsRows form lines rows (Err (Accept (BadLine n))) = ⊥
-TellsRows form lines rows (Err (Accept NoMemory)) = ⊥
+abbrev pub TellsRows : Form → Bool → List Line → List DiffRow → Result Answer DiffFault → Type 0
+TellsRows form lost_alone lines rows (Ok answer) = (left : List DiffRow) × (left_of lines rows ≡ Ok left) × IsTold form lost_alone rows left answer
+TellsRows form lost_alone lines rows (Err (Input refusal)) = refusal ≡ refusals.NoMemory
+TellsRows form lost_alone lines rows (Err (Accept (Stale n))) = left_of lines rows ≡ Err (Stale n)
+TellsRows form lost_alone lines rows (Err (Accept (BadLine n))) = ⊥
+TellsRows form lost_alone lines rows (Err (Accept NoMemory)) = ⊥
 
 -- the same of the rows of what is compared
 abbrev pub TellsDiff : Asked → Explainable → List Line → Result Answer DiffFault → Type 0
-TellsDiff asked e lines (Ok answer) = (rows : List DiffRow) × AreRows asked e rows × TellsRows asked.form lines rows (Ok answer)
+TellsDiff asked e lines (Ok answer) = (rows : List DiffRow) × AreTables e × AreRows asked e rows × TellsRows asked.form asked.lost_alone lines rows (Ok answer)
 TellsDiff asked e lines (Err (Input refusal)) = refusal ≡ refusals.NoMemory
-TellsDiff asked e lines (Err (Accept fault)) = (rows : List DiffRow) × AreRows asked e rows × TellsRows asked.form lines rows (Err (Accept fault))
+TellsDiff asked e lines (Err (Accept fault)) = (rows : List DiffRow) × AreRows asked e rows × TellsRows asked.form asked.lost_alone lines rows (Err (Accept fault))

@@ -29,6 +29,8 @@ pub struct DiffInput<'a, 'w> {
     pub new_paths: &'a [&'a str],
     /// The list of the changes that are meant.
     pub accepted: &'a [u8],
+    /// Whether the rows whose text no sequence of the new table gives are printed alone.
+    pub lost_alone: bool,
     /// How the others are told.
     pub form: Form,
 }

@@ -8,12 +8,47 @@
 //! ```
 #![tactic(auto)]
 
+ghost use Rattle.std.specs.Prelude.{◌≡◌, ◌↔◌, ℕ, List, [], Some, None, Ok, IsTrue};
+ghost use Rattle.compose_model.specs.Table.{Definition, is_table};
+ghost use Rattle.compose_lookup.specs.Lookup.{gives};
+ghost use Rattle.compose_diff_rows.specs.Rows.{first_typing};
+ghost use Rattle.compose_diff_rows.specs.Typings.{IsFirstTyping};
+ghost use Rattle.compose_model.specs.Follows.{Follows};
+ghost use Rattle.compose_answer.specs.Parts.{Explainable};
+ghost use Rattle.compose_answer.specs.declared.answer.Answer.{Answer};
+ghost use Rattle.compose_diff.specs.Accepted.{Line, accepted_of};
+ghost use Rattle.compose_diff_rows.specs.Answers.{Asked, IsDiff, compared_parts};
+ghost use Rattle.compose_diff_rows.specs.Following.{AreMeant, IsYes};
+
 mod asking;
 mod placed;
 mod rows;
 mod telling;
 mod told;
+mod typing;
 mod written;
 
 pub use asking::{DiffFault, DiffInput, Form};
 pub use telling::diff_migration;
+
+/// A row names the shortest sequence by which the new table types the old text, the first in order of several: no shorter sequence has
+/// that text, and none of its length comes before it. If none is named, no sequence has it.
+pub fn law_typing()
+    ensures found { (table : List Definition) (text s : List ℕ) → IsTrue (is_table table)
+        → first_typing table text ≡ Some s → IsFirstTyping table text s }
+    ensures none { (table : List Definition) (text : List ℕ) → IsTrue (is_table table)
+        → first_typing table text ≡ None → (t : List ℕ) → IsTrue (gives table text t) → ⊥ }
+{}
+
+/// What [`diff_migration`] answers on two tables says how people type with them. Where no change is accepted, it is yes exactly if
+/// the new table follows the old one, with the fresh keysyms as they are given. Where some are, it is yes exactly if each sequence
+/// of either table whose change is harmful is named by one of the accepted lines.
+pub fn law_answer()
+    ensures follows { (asked : Asked) (e : Explainable) (answer : Answer)
+        → compared_parts asked.migration ≡ Ok e → IsDiff asked e answer
+        → accepted_of asked.accepted ≡ Ok []
+        → IsYes answer ↔ Follows e.move.names e.fresh e.move.old e.move.new }
+    ensures meant { (asked : Asked) (e : Explainable) (answer : Answer) (lines : List Line)
+        → IsDiff asked e answer → accepted_of asked.accepted ≡ Ok lines
+        → IsYes answer ↔ AreMeant asked e lines }
+{}

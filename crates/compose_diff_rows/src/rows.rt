@@ -7,12 +7,13 @@ ghost use Rattle.compose_compare.specs.Change.{old_changes};
 ghost use Rattle.compose_diff.specs.declared.row.DiffRow.{DiffRow};
 ghost use Rattle.compose_places.specs.Counting.{sequence_named};
 ghost use Rattle.compose_diff_rows.specs.Rows as words;
-ghost use Rattle.compose_diff_rows.specs.Rows.{Written, told_entry, told_row, told_sequence, kept_rows};
+ghost use Rattle.compose_diff_rows.specs.Rows.{Written, named_sequence, new_sequence, told_entry, told_row, told_sequence, kept_rows};
 
 use crate::told::{ToldSequence, entry_at, is_told};
+use crate::typing::NamedSequence;
 use crate::written::WrittenTable;
 use compose_compare::Change;
-use compose_diff::{DiffRow, Entry};
+use compose_diff::{DiffRow, Entry, NewSequence};
 use compose_places::leaf_named;
 use compose_tree::{ComposeTable, LeafId};
 use keysym_core::Names;
@@ -56,6 +57,17 @@ fn old_row<'a, T: ComposeTable>(
         keys,
         old: told.entry,
         new: entry_named(names, keys, new),
+        typing: as_new(&told.typing),
+    }
+}
+
+/// How a lost text is typed now, as a row has it.
+fn as_new<'a>(typing: &'a Option<NamedSequence<'a>>) -> Option<NewSequence<'a>>
+    ensures { option_map new_sequence result ≡ option_map named_sequence typing.now }
+{
+    match typing {
+        Some(sequence) => Some(sequence.as_new()),
+        None => None,
     }
 }
 
@@ -89,6 +101,7 @@ fn add_new_rows<'a>(
             keys: sequence.keys.as_slice(),
             old: None,
             new: sequence.entry,
+                typing: None,
         })?;
     }
     Ok(())
@@ -131,5 +144,6 @@ fn kept_row<'a, T: ComposeTable>(leaf: LeafId, old: &WrittenTable<'a, T>) -> Dif
         keys: &[],
         old: entry_at(old, leaf),
         new: None,
+        typing: None,
     }
 }

@@ -1,5 +1,5 @@
 //! The answer of `diff`: both tables are read, and what happens to their sequences is told.
-ghost use Rattle.std.specs.Prelude.{◌≡◌, ◌++◌, List, map, IfOk, IsTrue, string_bytes};
+ghost use Rattle.std.specs.Prelude.{◌≡◌, ◌++◌, Bool, List, map, IfOk, IsTrue, string_bytes};
 ghost use Rattle.std.specs.List.Sorted.{IsPermutation};
 ghost use Rattle.compose_model.specs.Certificate.{keys_rise};
 ghost use Rattle.compose_diff_rows.specs.Answers as answers;
@@ -7,6 +7,7 @@ ghost use Rattle.compose_diff_rows.specs.Answers.{AnswersDiff, IsTold, asked, fo
 ghost use Rattle.compose_diff_rows.specs.Rows as words;
 ghost use Rattle.compose_diff_rows.specs.Steps.{GivesFresh, IsPlaced, TellsDiff, TellsRows, placed_parts};
 ghost use Rattle.compose_diff_rows.specs.declared.asking.Form.{Form};
+ghost use Rattle.compose_diff.specs.Lost as lost;
 ghost use Rattle.compose_diff.specs.Order.{AreInOrder};
 ghost use Rattle.compose_diff.specs.declared.row.DiffRow.{DiffRow};
 
@@ -18,9 +19,11 @@ use crate::written::WrittenTable;
 use compose_answer::{Answer, Refusal};
 use compose_compare::compare;
 use compose_diff::{
-    Accepted, DiffRow, accept_text, answer_diff, json_text, loses_nothing, sort_rows,
+    Accepted, DiffRow, Printed, accept_text, answer_diff, json_text, loses_nothing, lost_rows,
+    sort_rows,
 };
 use compose_fresh::check_fresh;
+use compose_lookup::TextIndex;
 use compose_tree::ComposeTable;
 use keysym_core::{Keysym, Names};
 use std::alloc::{AllocError, Global};
@@ -96,13 +99,17 @@ fn answer_tables<T: ComposeTable>(
         lines: &migration.new.lines,
         paths: input.new_paths,
     };
+    // The contracts of these calls say that both are tables.
+    let _ = old.table.node_count();
+    let _ = new.table.node_count();
     let whole = tells_kept(input.form);
     let comparison = compare(alloc, old.table, new.table, names, fresh)?;
-    let of_old = told_of_old(alloc, whole, comparison.old_changes(), &old)?;
+    let index = TextIndex::new(alloc, new.table)?;
+    let of_old = told_of_old(alloc, whole, comparison.old_changes(), &old, &new, &index)?;
     let of_new = told_of_new(alloc, comparison.new_changes(), &new)?;
     let mut rows = sorted_rows(alloc, names, &of_old, &of_new, &new)?;
     add_kept_rows(&mut rows, whole, comparison.old_changes(), &old)?;
-    answer_rows(alloc, &rows, accepted, input.form)
+    answer_rows(alloc, &rows, accepted, input.form, input.lost_alone)
 }
 
 /// Whether kept sequences are told too.
@@ -136,33 +143,63 @@ fn sorted_rows<'a, T: ComposeTable>(
     Ok(rows)
 }
 
-/// Tells the rows that are not accepted, in this form.
+/// Prints the rows that are not accepted in this form, or those of lost texts alone.
 fn answer_rows(
     alloc: Global,
     rows: &[DiffRow<'_>],
     accepted: &Accepted<'_>,
     form: Form,
+    lost_alone: bool,
 ) -> Result<Answer, DiffFault>
-    ensures { TellsRows form accepted.now rows.now result }
+    ensures { TellsRows form lost_alone accepted.now rows.now result }
 {
     match form {
-        Form::Folded => Ok(answer_diff(alloc, rows, accepted, true)?),
-        Form::Lines => Ok(answer_diff(alloc, rows, accepted, false)?),
+        Form::Folded => {
+            let printed = Printed {
+                folds: true,
+                lost_alone,
+            };
+            Ok(answer_diff(alloc, rows, accepted, printed)?)
+        }
+        Form::Lines => {
+            let printed = Printed {
+                folds: false,
+                lost_alone,
+            };
+            Ok(answer_diff(alloc, rows, accepted, printed)?)
+        }
         Form::Json => {
             let left = accepted.leave_out(alloc, rows)?;
-            Ok(answer_on(&left, json_text(alloc, &left)?))
+            let shown = shown_rows(alloc, &left, lost_alone)?;
+            Ok(answer_on(&left, json_text(alloc, &shown)?))
         }
         Form::AcceptList => {
             let left = accepted.leave_out(alloc, rows)?;
-            Ok(answer_on(&left, accept_text(alloc, &left)?))
+            let shown = shown_rows(alloc, &left, lost_alone)?;
+            Ok(answer_on(&left, accept_text(alloc, &shown)?))
         }
     }
 }
 
-/// The answer on rows that are told so: yes where nobody meets any of them.
+/// All of the rows, or those of lost texts alone.
+fn shown_rows<'r>(
+    alloc: Global,
+    rows: &[DiffRow<'r>],
+    lost_alone: bool,
+) -> Result<Vec<DiffRow<'r>>, AllocError>
+    ensures { IfOk result (λ shown. shown.items ≡ lost.shown_rows lost_alone rows.now) }
+{
+    if lost_alone {
+        return lost_rows(alloc, rows);
+    }
+    Vec::from_slice(alloc, rows)
+}
+
+/// The answer on rows that are left, of which this text is printed: yes if nobody meets any of them.
 fn answer_on(rows: &[DiffRow<'_>], text: String) -> Answer
-    ensures { (form : Form) (all : List DiffRow) → string_bytes text ≡ form_text form all rows.now
-        → IsTold form all rows.now result }
+    ensures { (form : Form) (lost_alone : Bool) (all : List DiffRow)
+        → string_bytes text ≡ form_text form lost_alone all rows.now
+        → IsTold form lost_alone all rows.now result }
 {
     if loses_nothing(rows) {
         return Answer::Yes(text);

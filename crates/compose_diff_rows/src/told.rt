@@ -5,12 +5,15 @@ ghost use Rattle.keysym_core.specs.Names.{KeysymNames};
 ghost use Rattle.compose_model.specs.Nodes.{leaves};
 ghost use Rattle.compose_compare.specs.Change.{old_changes, new_changes};
 ghost use Rattle.compose_diff_rows.specs.Rows as words;
-ghost use Rattle.compose_diff_rows.specs.Rows.{Written, told_entry, told_of, told_sequence, old_told, new_told};
+ghost use Rattle.compose_diff_rows.specs.Rows.{Written, named_sequence, told_entry, told_of, told_sequence, old_told, new_told};
+ghost use Rattle.compose_lookup.specs.TextIndex.{IsTextIndex};
 
+use crate::typing::{NamedSequence, typed_now};
 use crate::written::WrittenTable;
 use arrayvec::ArrayVec;
 use compose_compare::Change;
 use compose_diff::Entry;
+use compose_lookup::TextIndex;
 use compose_places::{CountingLine, Events};
 use compose_tree::{ComposeTable, LeafId};
 use std::alloc::{AllocError, Global};
@@ -24,6 +27,8 @@ pub(crate) struct ToldSequence<'a> {
     pub(crate) keys: Events<'a>,
     /// What the table has for it.
     pub(crate) entry: Option<Entry<'a>>,
+    /// How its text is typed with the new table, where people lose it.
+    pub(crate) typing: Option<NamedSequence<'a>>,
 }
 
 /// Whether a row is told of a sequence of the old table to which this happens: of a kept one only where all rows are asked for.
@@ -38,28 +43,35 @@ pub(crate) fn is_told(whole: bool, change: Change) -> bool
     }
 }
 
-/// The sequences of the old table of which a row is told, in its order, where these things happen to all of them. At the cost of lexing their lines.
+/// The sequences of the old table of which a row is told, in its order, where these things happen to all of them. At the cost of lexing their lines, and
+/// of looking for the texts of those that people lose.
 pub(crate) fn told_of_old<'a, T: ComposeTable>(
     alloc: Global,
     whole: bool,
     changes: &[Change],
     old: &WrittenTable<'a, T>,
+    new: &WrittenTable<'a, T>,
+    index: &TextIndex,
 ) -> Result<Vec<ToldSequence<'a>>, AllocError>
     requires fits { length changes.now ≡ length (leaves (T.definitions old.now.table.now)) }
-    ensures { (names : KeysymNames) (fresh : List ℕ) (new : Written)
-        → changes.now ≡ old_changes names fresh (T.definitions old.now.table.now) new.table
+    requires indexed { IsTextIndex (T.definitions new.now.table.now) index.now }
+    ensures { (names : KeysymNames) (fresh : List ℕ)
+        → changes.now
+        ≡ old_changes names fresh (T.definitions old.now.table.now)
+        (T.definitions new.now.table.now)
         → IfOk result
         (λ told. map told_sequence told.items
         ≡ map
-        (told_of names fresh (words.written T.definitions old.now) new
-        (words.written T.definitions old.now))
-        (old_told whole names fresh (T.definitions old.now.table.now) new.table)) }
+        (told_of names fresh (words.written T.definitions old.now)
+        (words.written T.definitions new.now) (words.written T.definitions old.now))
+        (old_told whole names fresh (T.definitions old.now.table.now)
+        (T.definitions new.now.table.now))) }
 {
     let mut told = Vec::new(alloc);
     for leaf in 0..old.table.leaf_count() {
         let change = changes[leaf as usize];
         if is_told(whole, change) {
-            told.push(told_at(LeafId(leaf), change, old))?;
+            told.push(lost_at(LeafId(leaf), change, old, new, index))?;
         }
     }
     Ok(told)
@@ -91,7 +103,39 @@ pub(crate) fn told_of_new<'a, T: ComposeTable>(
     Ok(told)
 }
 
-/// What is told of the sequence of this leaf, to which this happens.
+/// What is told of the sequence of this leaf of the old table, to which this happens.
+fn lost_at<'a, T: ComposeTable>(
+    leaf: LeafId,
+    change: Change,
+    old: &WrittenTable<'a, T>,
+    new: &WrittenTable<'a, T>,
+    index: &TextIndex,
+) -> ToldSequence<'a>
+    requires in_table { leaf.0 < length (leaves (T.definitions old.now.table.now)) }
+    requires indexed { IsTextIndex (T.definitions new.now.table.now) index.now }
+    ensures change { result.change ≡ change }
+    ensures keys { map (λ key. key.now) result.keys.items
+        ≡ words.keys_of (words.written T.definitions old.now)
+        (get_or (leaves (T.definitions old.now.table.now)) leaf.0 []) }
+    ensures entry { option_map told_entry result.entry
+        ≡ words.entry_of (words.written T.definitions old.now)
+        (get_or (leaves (T.definitions old.now.table.now)) leaf.0 []) }
+    ensures typing { option_map named_sequence result.typing
+        ≡ words.now_of (words.written T.definitions new.now) change
+        (words.entry_of (words.written T.definitions old.now)
+        (get_or (leaves (T.definitions old.now.table.now)) leaf.0 [])) }
+{
+    let entry = entry_at(old, leaf);
+    let typing = typed_now(change, &entry, new, index);
+    ToldSequence {
+        change,
+        keys: keys_at(old, leaf),
+        entry,
+        typing,
+    }
+}
+
+/// What is told of the sequence of this leaf of the new table, to which this happens.
 fn told_at<'a, T: ComposeTable>(
     leaf: LeafId,
     change: Change,
@@ -105,11 +149,13 @@ fn told_at<'a, T: ComposeTable>(
     ensures entry { option_map told_entry result.entry
         ≡ words.entry_of (words.written T.definitions written.now)
         (get_or (leaves (T.definitions written.now.table.now)) leaf.0 []) }
+    ensures typing { result.typing ≡ None }
 {
     ToldSequence {
         change,
         keys: keys_at(written, leaf),
         entry: entry_at(written, leaf),
+        typing: None,
     }
 }
 
@@ -145,7 +191,7 @@ pub(crate) fn entry_at<'a, T: ComposeTable>(
 }
 
 /// The line that counts for this leaf, if there is one.
-fn line_at<'a, T: ComposeTable>(
+pub(crate) fn line_at<'a, T: ComposeTable>(
     written: &WrittenTable<'a, T>,
     leaf: LeafId,
 ) -> Option<&'a CountingLine<'a>>
@@ -155,7 +201,7 @@ fn line_at<'a, T: ComposeTable>(
 }
 
 /// The path at this index, if there is one, and else an empty one.
-fn path_at<'a>(paths: &[&'a str], index: usize) -> &'a str
+pub(crate) fn path_at<'a>(paths: &[&'a str], index: usize) -> &'a str
     ensures { result.now ≡ get_or (map (λ path. path.now) paths.now) index [] }
 {
     match paths.get(index) {

@@ -2,8 +2,9 @@
 use compose_answer::Answer;
 use compose_compare::Change;
 use compose_diff::{
-    AcceptFault, Accepted, Counts, DiffRow, Entry, accept_text, answer_diff, colored_text,
-    diff_text, folded_text, json_text, loses_nothing, sort_rows,
+    AcceptFault, Accepted, Counts, DiffRow, Entry, NewSequence, Printed, accept_text, answer_diff,
+    colored_text, diff_text, folded_text, is_loss, is_lost, json_text, loses_nothing, lost_rows,
+    lost_text_count, sort_rows,
 };
 use std::alloc::Global;
 use std::test::Fail;
@@ -30,6 +31,7 @@ fn old_row(
         keys,
         old: entry(text, "OLD", line),
         new: None,
+        typing: None,
     }
 }
 
@@ -45,6 +47,7 @@ fn new_row(
         keys,
         old: None,
         new: entry(text, "NEW", line),
+        typing: None,
     }
 }
 
@@ -56,6 +59,7 @@ fn each() -> [DiffRow<'static>; 6] {
             keys: &["dead_acute", "e"],
             old: entry("é", "OLD", 1),
             new: entry("é", "NEW", 5),
+            typing: None,
         },
         new_row(Change::Added, &["Multi_key", "a", "b"], "x", 8),
         new_row(Change::NewStart, &["F13"], "x", 7),
@@ -66,6 +70,11 @@ fn each() -> [DiffRow<'static>; 6] {
             keys: &["dead_hook", "o"],
             old: entry("ở", "en/Compose", 1234),
             new: entry("ờ", "fi/Compose", 361),
+            typing: Some(NewSequence {
+                keys: &["dead_horn", "dead_hook", "o"],
+                path: "fi/Compose",
+                line: 340,
+            }),
         },
     ]
 }
@@ -86,7 +95,7 @@ fn run() -> [DiffRow<'static>; 8] {
 
 /// The lines of the rows of each change, in the order in which they are told.
 const EACH: &str =
-    "changed: <dead_hook> <o> \"ở\" \"ờ\" en/Compose:1234 fi/Compose:361\nwaiting: <a> <b> \"\\\"\" OLD:3\nremoved: <Multi_key> <parenleft> <1> \"①\" OLD:9\nnew start: <F13> \"x\" NEW:7\nadded: <Multi_key> <a> <b> \"x\" NEW:8\n";
+    "changed: <dead_hook> <o> \"ở\" \"ờ\" en/Compose:1234 fi/Compose:361 now: <dead_horn> <dead_hook> <o> fi/Compose:340\nwaiting: <a> <b> \"\\\"\" OLD:3 now: none\nremoved: <Multi_key> <parenleft> <1> \"①\" OLD:9 now: none\nnew start: <F13> \"x\" NEW:7\nadded: <Multi_key> <a> <b> \"x\" NEW:8\n";
 
 /// The list that accepts them.
 const TO_ACCEPT: &str =
@@ -104,10 +113,10 @@ fn rows_are_told_in_groups(rt: HostRuntime) -> Result<(), Fail> {
 
 #[test]
 fn rows_are_counted(rt: HostRuntime) -> Result<(), Fail> {
-    let counts = Counts::of(&each(), 2);
+    let counts = Counts::of(&each(), 2, 1);
     assert_eq!(rt;
         format!(in rt.alloc(); "{counts}")?.as_str(),
-        "diff: 1 kept, 1 changed, 1 waiting, 1 removed, 1 new starts, 1 added, 2 accepted\n"
+        "diff: 1 kept, 1 changed, 1 waiting, 1 removed, 1 new start, 1 added, 2 accepted, 1 text lost\n"
     );
     assert!(rt; !loses_nothing(&each()));
     assert!(rt; loses_nothing(&each()[..2]));
@@ -118,7 +127,7 @@ fn rows_are_counted(rt: HostRuntime) -> Result<(), Fail> {
 fn five_rows_are_folded(rt: HostRuntime) -> Result<(), Fail> {
     assert_eq!(rt;
         folded_text(rt.alloc(), &run(), &run())?.as_str(),
-        "removed: <Multi_key> <parenleft> \"(\" OLD:1\nremoved: <Multi_key> <parenleft> .. 5 sequences \"①\" \"②\" \"③\" .. OLD:2\nremoved: <Multi_key> <bar> <5> \"5\" OLD:7\n"
+        "removed: <Multi_key> <parenleft> \"(\" OLD:1 now: none\nremoved: <Multi_key> <parenleft> .. 5 sequences \"①\" \"②\" \"③\" .. OLD:2\nremoved: <Multi_key> <bar> <5> \"5\" OLD:7 now: none\n"
     );
     Ok(())
 }
@@ -146,6 +155,7 @@ fn included_row(keys: &'static [&'static str], line: usize) -> DiffRow<'static> 
         keys,
         old: Some(entry),
         new: None,
+        typing: None,
     }
 }
 
@@ -164,11 +174,11 @@ fn missing() -> [DiffRow<'static>; 5] {
 fn missing_include_is_told_once(rt: HostRuntime) -> Result<(), Fail> {
     assert_eq!(rt;
         folded_text(rt.alloc(), &missing(), &missing())?.as_str(),
-        "removed: <Greek_a> \"α\" OLD:2\nremoved: all 2 sequences of el\\u{1b}GR, from which the new table has none\n"
+        "removed: <Greek_a> \"α\" OLD:2 now: none\nremoved: all 2 sequences of el\\u{1b}GR, from which the new table has none\n"
     );
     assert_eq!(rt;
         folded_text(rt.alloc(), &missing(), &missing()[..2])?.as_str(),
-        "removed: <Greek_a> \"α\" OLD:2\nremoved: <Greek_b> \"α\" el\\u{1b}GR:1\n"
+        "removed: <Greek_a> \"α\" OLD:2 now: none\nremoved: <Greek_b> \"α\" el\\u{1b}GR:1 now: none\n"
     );
     Ok(())
 }
@@ -193,14 +203,15 @@ fn what_steers_a_terminal_is_shown(rt: HostRuntime) -> Result<(), Fail> {
         keys: &["a\u{202e}"],
         old: entry("\u{1b}", "\u{1b}[2J", 1),
         new: None,
+        typing: None,
     }];
     assert_eq!(rt;
         diff_text(rt.alloc(), &rows)?.as_str(),
-        "removed: <a\\u{202e}> \"\\033\" \\u{1b}[2J:1\n"
+        "removed: <a\\u{202e}> \"\\033\" \\u{1b}[2J:1 now: none\n"
     );
     assert_eq!(rt;
         json_text(rt.alloc(), &rows)?.as_str(),
-        "{\"change\":\"removed\",\"keys\":[\"a\\u202e\"],\"old\":\"\\u001b\",\"new\":null,\"old_file\":\"\\u001b[2J\",\"old_line\":1,\"new_file\":null,\"new_line\":null}\n"
+        "{\"change\":\"removed\",\"keys\":[\"a\\u202e\"],\"old\":\"\\u001b\",\"new\":null,\"old_file\":\"\\u001b[2J\",\"old_line\":1,\"new_file\":null,\"new_line\":null,\"now\":null,\"now_file\":null,\"now_line\":null}\n"
     );
     Ok(())
 }
@@ -209,7 +220,7 @@ fn what_steers_a_terminal_is_shown(rt: HostRuntime) -> Result<(), Fail> {
 fn quotes_are_escaped_in_objects(rt: HostRuntime) -> Result<(), Fail> {
     assert_eq!(rt;
         json_text(rt.alloc(), &each()[4..5])?.as_str(),
-        "{\"change\":\"waiting\",\"keys\":[\"a\",\"b\"],\"old\":\"\\\"\",\"new\":null,\"old_file\":\"OLD\",\"old_line\":3,\"new_file\":null,\"new_line\":null}\n"
+        "{\"change\":\"waiting\",\"keys\":[\"a\",\"b\"],\"old\":\"\\\"\",\"new\":null,\"old_file\":\"OLD\",\"old_line\":3,\"new_file\":null,\"new_line\":null,\"now\":null,\"now_file\":null,\"now_line\":null}\n"
     );
     Ok(())
 }
@@ -218,29 +229,70 @@ fn quotes_are_escaped_in_objects(rt: HostRuntime) -> Result<(), Fail> {
 fn kept_rows_are_objects_too(rt: HostRuntime) -> Result<(), Fail> {
     assert_eq!(rt;
         json_text(rt.alloc(), &each()[..3])?.as_str(),
-        "{\"change\":\"kept\",\"keys\":[\"dead_acute\",\"e\"],\"old\":\"é\",\"new\":\"é\",\"old_file\":\"OLD\",\"old_line\":1,\"new_file\":\"NEW\",\"new_line\":5}\n{\"change\":\"added\",\"keys\":[\"Multi_key\",\"a\",\"b\"],\"old\":null,\"new\":\"x\",\"old_file\":null,\"old_line\":null,\"new_file\":\"NEW\",\"new_line\":8}\n{\"change\":\"new start\",\"keys\":[\"F13\"],\"old\":null,\"new\":\"x\",\"old_file\":null,\"old_line\":null,\"new_file\":\"NEW\",\"new_line\":7}\n"
+        "{\"change\":\"kept\",\"keys\":[\"dead_acute\",\"e\"],\"old\":\"é\",\"new\":\"é\",\"old_file\":\"OLD\",\"old_line\":1,\"new_file\":\"NEW\",\"new_line\":5,\"now\":null,\"now_file\":null,\"now_line\":null}\n{\"change\":\"added\",\"keys\":[\"Multi_key\",\"a\",\"b\"],\"old\":null,\"new\":\"x\",\"old_file\":null,\"old_line\":null,\"new_file\":\"NEW\",\"new_line\":8,\"now\":null,\"now_file\":null,\"now_line\":null}\n{\"change\":\"new start\",\"keys\":[\"F13\"],\"old\":null,\"new\":\"x\",\"old_file\":null,\"old_line\":null,\"new_file\":\"NEW\",\"new_line\":7,\"now\":null,\"now_file\":null,\"now_line\":null}\n"
     );
     Ok(())
 }
+
+/// As people get it unless they ask for something else.
+const FOLDED: Printed = Printed {
+    folds: true,
+    lost_alone: false,
+};
 
 /// The answer on the rows of each change, of which these lines are accepted.
 fn answer(alloc: Global, lines: &str) -> Result<Answer, Fail> {
     let mut rows = Vec::from_array(alloc, each())?;
     sort_rows(&mut rows)?;
     let accepted = Accepted::read(alloc, lines.as_bytes())?;
-    Ok(answer_diff(alloc, &rows, &accepted, true)?)
+    Ok(answer_diff(alloc, &rows, &accepted, FOLDED)?)
 }
 
 #[test]
 fn accepted_rows_are_counted_apart(rt: HostRuntime) -> Result<(), Fail> {
     let yes = String::from_str(
         rt.alloc(),
-        "added: <Multi_key> <a> <b> \"x\" NEW:8\ndiff: 1 kept, 0 changed, 0 waiting, 0 removed, 0 new starts, 1 added, 4 accepted\n",
+        "added: <Multi_key> <a> <b> \"x\" NEW:8\ndiff: 1 kept, 0 changed, 0 waiting, 0 removed, 0 new starts, 1 added, 4 accepted, 0 texts lost\n",
     )?;
     assert_eq!(rt; answer(rt.alloc(), TO_ACCEPT)?, Answer::Yes(yes));
-    let counts = Counts::of(&each(), 0);
+    let counts = Counts::of(&each(), 0, 2);
     let no = format!(in rt.alloc(); "{EACH}{counts}")?;
     assert_eq!(rt; answer(rt.alloc(), "")?, Answer::No(no));
+    Ok(())
+}
+
+#[test]
+fn lost_rows_are_printed_alone(rt: HostRuntime) -> Result<(), Fail> {
+    let mut rows = Vec::from_array(rt.alloc(), each())?;
+    sort_rows(&mut rows)?;
+    assert!(rt; !is_lost(&rows[0]));
+    assert!(rt; is_lost(&rows[1]));
+    assert!(rt; !is_lost(&rows[3]));
+    assert!(rt; is_loss(Change::Changed));
+    assert!(rt; !is_loss(Change::NewStart));
+    assert_eq!(rt; lost_text_count(rt.alloc(), &rows)?, 2);
+    assert_eq!(rt; lost_text_count(rt.alloc(), &run()[1..3])?, 2);
+    assert_eq!(rt; lost_text_count(rt.alloc(), &missing()[..3])?, 1);
+    let lost = lost_rows(rt.alloc(), &rows)?;
+    let lines = "waiting: <a> <b> \"\\\"\" OLD:3 now: none\nremoved: <Multi_key> <parenleft> <1> \"①\" OLD:9 now: none\n";
+    assert_eq!(rt; diff_text(rt.alloc(), &lost)?.as_str(), lines);
+    let printed = Printed {
+        folds: false,
+        lost_alone: true,
+    };
+    let accepted = Accepted::read(rt.alloc(), b"")?;
+    let counts = Counts::of(&rows, 0, 2);
+    let no = format!(in rt.alloc(); "{lines}{counts}")?;
+    assert_eq!(rt; answer_diff(rt.alloc(), &rows, &accepted, printed)?, Answer::No(no));
+    Ok(())
+}
+
+#[test]
+fn typing_is_an_object_too(rt: HostRuntime) -> Result<(), Fail> {
+    assert_eq!(rt;
+        json_text(rt.alloc(), &each()[5..])?.as_str(),
+        "{\"change\":\"changed\",\"keys\":[\"dead_hook\",\"o\"],\"old\":\"ở\",\"new\":\"ờ\",\"old_file\":\"en/Compose\",\"old_line\":1234,\"new_file\":\"fi/Compose\",\"new_line\":361,\"now\":[\"dead_horn\",\"dead_hook\",\"o\"],\"now_file\":\"fi/Compose\",\"now_line\":340}\n"
+    );
     Ok(())
 }
 

@@ -40,6 +40,7 @@ fn answer<'a>(
         old_paths: &["OLD"],
         new_paths: &["NEW"],
         accepted: accepted.as_bytes(),
+        lost_alone: false,
         form,
     };
     diff_migration::<PackedTable>(alloc, &input)
@@ -53,7 +54,19 @@ fn is_told(
     loses: bool,
     text: &str,
 ) -> Result<bool, Fail> {
-    let (old, new) = (one_source(alloc, OLD)?, one_source(alloc, NEW)?);
+    is_told_of(alloc, (OLD, NEW), accepted, form, loses, text)
+}
+
+/// The same of these two tables.
+fn is_told_of(
+    alloc: Global,
+    tables: (&str, &str),
+    accepted: &str,
+    form: Form,
+    loses: bool,
+    text: &str,
+) -> Result<bool, Fail> {
+    let (old, new) = (one_source(alloc, tables.0)?, one_source(alloc, tables.1)?);
     match answer(alloc, &old, &new, accepted, form) {
         Ok(Answer::No(said)) => Ok(loses && said.as_str() == text),
         Ok(Answer::Yes(said)) => Ok(!loses && said.as_str() == text),
@@ -64,7 +77,7 @@ fn is_told(
 #[test]
 fn each_sequence_is_told_as_the_last_definition_writes_it(rt: HostRuntime) -> Result<(), Fail> {
     let text =
-        "changed: <Multi_key> <U0061> \"y\" \"z\" OLD:3 NEW:1\nremoved: <Multi_key> <b> \"b\" OLD:4\nnew start: <dead_acute> <a> \"á\" NEW:3\nadded: <Multi_key> <c> \"c\" NEW:2\ndiff: 0 kept, 1 changed, 0 waiting, 1 removed, 1 new starts, 1 added, 0 accepted\n";
+        "changed: <Multi_key> <U0061> \"y\" \"z\" OLD:3 NEW:1 now: none\nremoved: <Multi_key> <b> \"b\" OLD:4 now: none\nnew start: <dead_acute> <a> \"á\" NEW:3\nadded: <Multi_key> <c> \"c\" NEW:2\ndiff: 0 kept, 1 changed, 0 waiting, 1 removed, 1 new start, 1 added, 0 accepted, 2 texts lost\n";
     assert!(rt; is_told(rt.alloc(), "", Form::Folded, true, text)?);
     assert!(rt; is_told(rt.alloc(), "", Form::Lines, true, text)?);
     Ok(())
@@ -76,7 +89,7 @@ fn what_the_written_list_accepts_is_counted(rt: HostRuntime) -> Result<(), Fail>
         "changed: <Multi_key> <U0061> \"y\" \"z\"\nremoved: <Multi_key> <b> \"b\"\nnew start: <dead_acute> <a> \"á\"\n";
     assert!(rt; is_told(rt.alloc(), "", Form::AcceptList, true, list)?);
     let text =
-        "added: <Multi_key> <c> \"c\" NEW:2\ndiff: 0 kept, 0 changed, 0 waiting, 0 removed, 0 new starts, 1 added, 3 accepted\n";
+        "added: <Multi_key> <c> \"c\" NEW:2\ndiff: 0 kept, 0 changed, 0 waiting, 0 removed, 0 new starts, 1 added, 3 accepted, 0 texts lost\n";
     assert!(rt; is_told(rt.alloc(), list, Form::Folded, false, text)?);
     Ok(())
 }
@@ -84,8 +97,18 @@ fn what_the_written_list_accepts_is_counted(rt: HostRuntime) -> Result<(), Fail>
 #[test]
 fn each_sequence_is_an_object(rt: HostRuntime) -> Result<(), Fail> {
     let text =
-        "{\"change\":\"removed\",\"keys\":[\"Multi_key\",\"b\"],\"old\":\"b\",\"new\":null,\"old_file\":\"OLD\",\"old_line\":4,\"new_file\":null,\"new_line\":null}\n{\"change\":\"added\",\"keys\":[\"Multi_key\",\"c\"],\"old\":null,\"new\":\"c\",\"old_file\":null,\"old_line\":null,\"new_file\":\"NEW\",\"new_line\":2}\n";
+        "{\"change\":\"removed\",\"keys\":[\"Multi_key\",\"b\"],\"old\":\"b\",\"new\":null,\"old_file\":\"OLD\",\"old_line\":4,\"new_file\":null,\"new_line\":null,\"now\":null,\"now_file\":null,\"now_line\":null}\n{\"change\":\"added\",\"keys\":[\"Multi_key\",\"c\"],\"old\":null,\"new\":\"c\",\"old_file\":null,\"old_line\":null,\"new_file\":\"NEW\",\"new_line\":2,\"now\":null,\"now_file\":null,\"now_line\":null}\n";
     let accepted = "changed: <Multi_key> <U0061> \"y\" \"z\"\nnew start: <dead_acute> <a> \"á\"\n";
     assert!(rt; is_told(rt.alloc(), accepted, Form::Json, true, text)?);
+    Ok(())
+}
+
+#[test]
+fn lost_text_is_typed_by_the_first_of_the_shortest(rt: HostRuntime) -> Result<(), Fail> {
+    let old = "<a> <b> : \"x\"\n";
+    let new = "<b> <c> <d> : \"x\"\n<c> <a> : \"x\"\n<b> <d> : \"x\"\n";
+    let text =
+        "removed: <a> <b> \"x\" OLD:1 now: <b> <d> NEW:3\nnew start: <b> <c> <d> \"x\" NEW:1\nnew start: <c> <a> \"x\" NEW:2\nnew start: <b> <d> \"x\" NEW:3\ndiff: 0 kept, 0 changed, 0 waiting, 1 removed, 3 new starts, 0 added, 0 accepted, 0 texts lost\n";
+    assert!(rt; is_told_of(rt.alloc(), (old, new), "", Form::Folded, true, text)?);
     Ok(())
 }

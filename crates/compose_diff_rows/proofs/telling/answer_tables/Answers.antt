@@ -22,12 +22,12 @@ returns g c =
     let changes = c.old_changes.ensures ∙ c.in_ok-comparison.ensures.of_old in
     let added = c.new_changes.ensures ∙ c.in_ok-comparison.ensures.of_new in
     let kept = c.in_ok-add_kept_rows.ensures move.names c.args.fresh.now new (c.old_changes-2.ensures ∙ c.in_ok-comparison.ensures.of_old) in
-    rows_told given e c.args.accepted.now c.deref-5.result.now
+    rows_told given e c.args.accepted.now c.deref-5.result.now (c.node_count.ensures.settled.definitions, c.node_count-2.ensures.settled.definitions)
     (rows_are given e old new (λ i. record { table = move.old; lines = old_lines i; paths = given.old_paths }) (λ i. record { table = move.new; lines = new_lines i; paths = given.new_paths })
     c.tells_kept-whole.result c.tells_kept-whole.ensures
     (subst (AreLines move.names move.old) (sym old_lines) (root_lines_are move.names given.migration.old.rule move.old given.migration.old.sources both.0))
     (map told_sequence c.deref-3.result.now) (map told_sequence c.deref-4.result.now)
-    (ap (map told_sequence) c.deref-3.ensures.value ∙ c.in_ok-of_old.ensures move.names c.args.fresh.now new changes)
+    (ap (map told_sequence) c.deref-3.ensures.value ∙ c.in_ok-of_old.ensures move.names c.args.fresh.now changes)
     (ap (map told_sequence) c.deref-4.ensures.value ∙ c.in_ok-of_new.ensures move.names c.args.fresh.now old added)
     c.deref-5.result.now c.in_ok-rows.rows.items kept.0 (c.deref-5.ensures.value ∙ kept.1) c.in_ok-rows.ensures.same c.in_ok-rows.ensures.sorted kept.2)
     c.answer_rows.result c.answer_rows.ensures

@@ -1,8 +1,10 @@
-use Rattle.std.proofs.Common.{◌∙◌, ◌<◌, [], length, map, not, ap, arith}
+use Rattle.std.proofs.Common.{◌∙◌, ◌<◌, [], length, map, get_or, not, ap, arith}
+use Rattle.std.specs.Option.{option_map}
+use Rattle.compose_compare.specs.Change.{change}
 use Rattle.compose_model.specs.Table.{is_sequence}
 use Rattle.compose_model.specs.Nodes.{leaves}
-use Rattle.compose_diff_rows.specs.Rows.{written, told_sequence, told_of}
-use Rattle.compose_diff_rows.proofs.RowsSoFar.{told_added, not_told, told_change, no_change}
+use Rattle.compose_diff_rows.specs.Rows.{written, told_sequence, named_sequence, told_of, now_of}
+use Rattle.compose_diff_rows.proofs.RowsSoFar.{told_added, not_told, told_change, no_change, no_entry}
 use Rattle.compose_diff_rows.proofs.told.told_of_new.Goals as goal
 use Rattle.compose_diff_rows.proofs.told.told_of_new.Goals.{in-Some+in_ok-push, in_default}
 
@@ -20,7 +22,13 @@ loop-leaf-preserved g c = λ names fresh old h.
           let what = told_change names fresh old.table table c.args.changes.now h i below _ w.in-Some.change w.in-Some.is in
           ap (λ v. map told_sequence v.items) w.told-is ∙ ap (map told_sequence) w.in_ok-push.ensures.items
           ∙ told_added (λ s. not (is_sequence old.table s)) row_for (leaves table) i below told_sequence [] c.loop-leaf.told.items so_far w.told_at.result (ap not what.0)
-          (λ j. record { change = (w.told_at.ensures.change ∙ what.1) j; keys = w.told_at.ensures.keys j; entry = w.told_at.ensures.entry j }))
+          (λ j. record {
+            change = (w.told_at.ensures.change ∙ what.1) j;
+            keys = w.told_at.ensures.keys j;
+            entry = w.told_at.ensures.entry j;
+            typing = (ap (option_map named_sequence) w.told_at.ensures.typing
+                ∙ ap (now_of new (change names fresh old.table table (get_or (leaves table) i []))) (no_entry old (get_or (leaves table) i []) what.0)) j;
+          }))
       | in_default w ↦ ap (λ v. map told_sequence v.items) w.told-is
           ∙ not_told (λ s. not (is_sequence old.table s)) row_for (leaves table) i below told_sequence [] c.loop-leaf.told.items so_far
           (ap not (no_change names fresh old.table table c.args.changes.now h i below _ w.in_default.is))

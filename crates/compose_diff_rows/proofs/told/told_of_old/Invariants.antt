@@ -3,7 +3,7 @@ use Rattle.std.specs.Prelude.{filter}
 use Rattle.keysym_core.specs.Names.{KeysymNames}
 use Rattle.compose_model.specs.Nodes.{leaves}
 use Rattle.compose_compare.specs.Change.{old_changes}
-use Rattle.compose_diff_rows.specs.Rows.{Written, written, told_of, told_sequence, is_told_of}
+use Rattle.compose_diff_rows.specs.Rows.{written, told_of, told_sequence, is_told_of}
 use Rattle.compose_diff_rows.proofs.told.told_of_old.Given as goal
 
 -- what is told of the leaves so far
@@ -11,5 +11,6 @@ abbrev pub invariant-loop-leaf : goal.invariant-loop-leaf
 invariant-loop-leaf g l =
     let table = g.T.ComposeTable.definitions l.old.table.now in
     let old = written g.T.ComposeTable.definitions l.old in
-    (names : KeysymNames) (fresh : List ℕ) (new : Written) → l.changes ≡ old_changes names fresh table new.table
+    let new = written g.T.ComposeTable.definitions l.new in
+    (names : KeysymNames) (fresh : List ℕ) → l.changes ≡ old_changes names fresh table new.table
     → map told_sequence l.told.items ≡ map (told_of names fresh old new old) (filter (is_told_of l.whole names fresh table new.table) (take l.leaf (leaves table)))
