@@ -4,11 +4,12 @@ ghost use Rattle.std.specs.Prelude.{None};
 use compose_answer::Ended;
 use compose_arguments::ServeArguments;
 use compose_hub::{ConnectionEnd, Limits, PolledSockets, Report, serve_at_once};
-use compose_report::{no_memory, refused, written};
+use compose_input::Fault;
+use compose_report::{no_memory, written};
 use compose_serve::{Answer, Ended as ConnectionEnded, ServeFault};
 use compose_serving::connection_line;
-use compose_shown::Shown;
 use mio::net::UnixListener as PolledListener;
+use std::alloc::Global;
 use std::io;
 use std::net::Net;
 use std::os::unix::net::UnixListener;
@@ -56,7 +57,7 @@ pub fn serve_many<S: Answer>(
     service: &mut S,
     arguments: &ServeArguments<'_>,
     at_once: u16,
-) -> Result<Ended, Ended> {
+) -> Result<Ended, Fault> {
     let mut lines = Lines {
         rt,
         ended: Ended::Yes,
@@ -68,7 +69,7 @@ pub fn serve_many<S: Answer>(
     };
     let served = poll_all(rt, listener, service, limits, &mut lines);
     match (lines.ended, served) {
-        (Ended::Yes, Err(error)) => Err(tell_unserved(rt, arguments.socket, error.kind())),
+        (Ended::Yes, Err(error)) => Err(unserved(rt.alloc(), arguments.socket, error.kind())),
         (ended, _) => Ok(ended),
     }
 }
@@ -87,10 +88,10 @@ fn poll_all<S: Answer, E: Report>(
     serve_at_once(&mut sockets, rt.alloc(), service, limits, report)
 }
 
-/// Tells why connections can't be served: memory was refused, or anything else.
-fn tell_unserved(rt: &impl Eprint, path: &str, kind: io::ErrorKind) -> Ended {
+/// Why connections can't be served: memory was refused, or anything else.
+fn unserved(alloc: Global, path: &str, kind: io::ErrorKind) -> Fault {
     match kind {
-        io::ErrorKind::OutOfMemory => no_memory(rt),
-        _ => refused(eprintln!(rt; "refused: socket: {path}", path = Shown(path))),
+        io::ErrorKind::OutOfMemory => Fault::NoMemory,
+        _ => Fault::refused("socket", String::from_str(alloc, path)),
     }
 }

@@ -1,6 +1,5 @@
-//! `load` and `session`: a client of a running service. What can't be read is a fault; any other error is the end of a run whose refusal was
-//! told.
-use compose_answer::{Ended, Refusal};
+//! `load` and `session`: a client of a running service. An error is why what it was given can't be read, or is refused.
+use compose_answer::Refusal;
 use compose_arguments::{LoadArguments, SessionArguments};
 use compose_bundle::BundleFault;
 use compose_client::{ReplyFeeder, RequestFault, put_request};
@@ -8,12 +7,13 @@ use compose_details::Given;
 use compose_folder::{Folder, ReadOnce};
 use compose_input::{Fault, NameFiles, TableFiles, read_text};
 use compose_migration::{MigrationFault, Named};
-use compose_report::{no_memory, refused, report_exchange, report_given};
+use compose_report::{Outcome, exchange_outcome, outcome_of};
+use compose_runs::Options;
 use compose_session::{Asked, load_request, report_replies, session_requests};
-use compose_shown::Shown;
 use compose_tree::ComposeTable;
 use compose_wire::{Answer, Reply, Request};
-use keysym_core::{Keysym, Names};
+use keysym_core::Names;
+use std::alloc::{AllocError, Global};
 use std::io::{Read, Write};
 use std::net::Net;
 use std::os::unix::net::UnixStream;
@@ -24,160 +24,118 @@ const PIECE: usize = 4096;
 
 /// Loads a new table into a running service.
 pub fn load_files<F: Folder>(
-    rt: &(impl Net + Print + Eprint + AllocGlobal),
+    rt: &(impl Net + AllocGlobal),
     files: &mut ReadOnce<F>,
     arguments: &LoadArguments<'_>,
-) -> Result<Ended, Fault> {
+) -> Result<Outcome, Fault> {
     let table = TableFiles::listed(files, rt.alloc(), "new", arguments.new)?;
     let certificate = read_text(files, rt.alloc(), arguments.certificate)?;
-    Ok(load_table(rt, arguments.socket, &table, &certificate).unwrap_or_else(|ended| ended))
-}
-
-/// Loads this table into a running service.
-fn load_table(
-    rt: &(impl Net + Print + Eprint + AllocGlobal),
-    socket: &str,
-    table: &TableFiles,
-    certificate: &[u8],
-) -> Result<Ended, Ended> {
-    let request = request_to_load(rt, table, certificate)?;
-    exchange_unnamed(rt, socket, &request)
+    let request = request_to_load(rt.alloc(), &table, &certificate)?;
+    exchange_unnamed(rt, arguments.socket, &request)
 }
 
 /// The request that loads a new table by its certificate.
 fn request_to_load(
-    rt: &(impl Eprint + AllocGlobal),
+    alloc: Global,
     table: &TableFiles,
     certificate: &[u8],
-) -> Result<Request, Ended> {
-    match load_request(rt.alloc(), &table.sources, table.rule, certificate) {
+) -> Result<Request, Fault> {
+    match load_request(alloc, &table.sources, table.rule, certificate) {
         Ok(request) => Ok(request),
-        Err(BundleFault::NoMemory) => Err(no_memory(rt)),
-        Err(fault) => Err(refused(eprintln!(rt; "refused: load: {fault}"))),
+        Err(BundleFault::NoMemory) => Err(Fault::NoMemory),
+        Err(fault) => Err(Fault::refused("load", format!(in alloc; "{fault}"))),
     }
 }
 
-/// Sends a request without keys, and prints what is told of the reply.
+/// Sends a request without keys, and gives what is printed of the reply.
 fn exchange_unnamed(
-    rt: &(impl Net + Print + Eprint + AllocGlobal),
+    rt: &(impl Net + AllocGlobal),
     path: &str,
     request: &Request,
-) -> Result<Ended, Ended> {
+) -> Result<Outcome, Fault> {
     match Names::core(rt.alloc()) {
         Ok(names) => exchange(rt, path, &names, slice::from_ref(request)),
-        Err(_) => Err(no_memory(rt)),
+        Err(_) => Err(Fault::NoMemory),
     }
 }
 
 /// Types in a session of a running service.
 pub fn session_files<T: ComposeTable, F: Folder>(
-    rt: &(impl Net + Print + Eprint + AllocGlobal),
+    rt: &(impl Net + AllocGlobal),
     files: &mut ReadOnce<F>,
-    verbose: bool,
-    names: &[&str],
+    options: Options<'_>,
     arguments: &SessionArguments<'_>,
-) -> Result<Ended, Fault> {
-    let named = NameFiles::read(files, rt.alloc(), names)?;
-    Ok(session_in::<T>(rt, verbose, &named, arguments).unwrap_or_else(|ended| ended))
+) -> Result<Outcome, Fault> {
+    let names = NameFiles::read(files, rt.alloc(), options.names)?;
+    match Named::read(rt.alloc(), &names.lines, &arguments.keys) {
+        Ok(named) => session_with(rt, &named, arguments),
+        Err(fault) => {
+            let keys = &arguments.keys;
+            Ok(names_outcome::<T>(rt.alloc(), options.verbose, &names, keys, fault)?)
+        }
+    }
 }
 
-/// Types in a session, with the names of these files.
-fn session_in<T: ComposeTable>(
-    rt: &(impl Net + Print + Eprint + AllocGlobal),
+/// The outcome where the names or the keys are refused.
+fn names_outcome<T: ComposeTable>(
+    alloc: Global,
     verbose: bool,
-    files: &NameFiles<'_>,
-    arguments: &SessionArguments<'_>,
-) -> Result<Ended, Ended> {
-    let named = read_names::<T>(rt, verbose, files, &arguments.keys)?;
-    session_with(rt, &named, arguments)
+    names: &NameFiles<'_>,
+    keys: &[&str],
+    fault: MigrationFault,
+) -> Result<Outcome, AllocError> {
+    let given = Given::of(names, keys, &[]);
+    outcome_of::<T>(alloc, verbose, &given, Err(Refusal::from(fault)))
 }
 
 /// Types these keys in a session.
 fn session_with(
-    rt: &(impl Net + Print + Eprint + AllocGlobal),
+    rt: &(impl Net + AllocGlobal),
     named: &Named,
     arguments: &SessionArguments<'_>,
-) -> Result<Ended, Ended> {
-    let requests = requests_of(rt, &named.keys, arguments)?;
-    exchange(rt, arguments.socket, &named.names, &requests)
-}
-
-/// The requests of a session.
-fn requests_of(
-    rt: &(impl Eprint + AllocGlobal),
-    keys: &[Keysym],
-    arguments: &SessionArguments<'_>,
-) -> Result<Vec<Request>, Ended> {
+) -> Result<Outcome, Fault> {
     let asked = Asked {
         session: arguments.session,
         open: arguments.open,
         reset: arguments.reset,
-        keys,
+        keys: &named.keys,
         ask: arguments.ask,
         close: arguments.close,
     };
-    session_requests(rt.alloc(), &asked).map_err(|_| no_memory(rt))
+    let requests = session_requests(rt.alloc(), &asked)?;
+    exchange(rt, arguments.socket, &named.names, &requests)
 }
 
-/// The names of a header, and the keysyms of the arguments.
-fn read_names<T: ComposeTable>(
-    rt: &(impl Print + Eprint + AllocGlobal),
-    verbose: bool,
-    files: &NameFiles<'_>,
-    arguments: &[&str],
-) -> Result<Named, Ended> {
-    match Named::read(rt.alloc(), &files.lines, arguments) {
-        Ok(named) => Ok(named),
-        Err(fault) => Err(report_names::<T>(rt, verbose, files, arguments, fault)),
-    }
-}
-
-/// Prints why the names or the arguments are refused.
-fn report_names<T: ComposeTable>(
-    rt: &(impl Print + Eprint + AllocGlobal),
-    verbose: bool,
-    files: &NameFiles<'_>,
-    arguments: &[&str],
-    fault: MigrationFault,
-) -> Ended {
-    let given = Given::of(files, arguments, &[]);
-    report_given::<T>(rt, verbose, &given, &Err(Refusal::from(fault)))
-}
-
-/// Sends the requests one after another, and prints what is told of the replies.
+/// Sends the requests one after another, and gives what is printed of the replies.
 fn exchange(
-    rt: &(impl Net + Print + Eprint + AllocGlobal),
+    rt: &(impl Net + AllocGlobal),
     path: &str,
     names: &Names,
     requests: &[Request],
-) -> Result<Ended, Ended> {
+) -> Result<Outcome, Fault> {
     let Ok(stream) = UnixStream::connect(rt, path) else {
-        return Err(refused(eprintln!(rt; "refused: socket: {path}", path = Shown(path))));
+        return Err(Fault::refused("socket", String::from_str(rt.alloc(), path)));
     };
-    let replies = replies_of(rt, &stream, requests)?;
-    match report_replies(rt.alloc(), names, requests, &replies) {
-        Ok(told) => Ok(report_exchange(rt, &told)),
-        Err(_) => Err(no_memory(rt)),
-    }
+    let replies = replies_of(rt.alloc(), &stream, requests)?;
+    let report = report_replies(rt.alloc(), names, requests, &replies)?;
+    Ok(exchange_outcome(rt.alloc(), report)?)
 }
 
 /// The replies to the requests, until one is refused or the other side closes.
 fn replies_of(
-    rt: &(impl Eprint + AllocGlobal),
+    alloc: Global,
     stream: &UnixStream,
     requests: &[Request],
-) -> Result<Vec<Reply>, Ended> {
-    let mut feeder = ReplyFeeder::new(rt.alloc());
-    let mut replies = Vec::new(rt.alloc());
+) -> Result<Vec<Reply>, Fault> {
+    let mut feeder = ReplyFeeder::new(alloc);
+    let mut replies = Vec::new(alloc);
     for request in requests {
-        send(rt, stream, request)?;
-        let Some(reply) = receive(rt, stream, &mut feeder)? else {
+        send(alloc, stream, request)?;
+        let Some(reply) = receive(alloc, stream, &mut feeder)? else {
             return Ok(replies);
         };
         let is_refused = matches!(&reply.answer, Answer::Refused(_));
-        if replies.push(reply).is_err() {
-            return Err(no_memory(rt));
-        }
+        replies.push(reply)?;
         if is_refused {
             return Ok(replies);
         }
@@ -185,33 +143,29 @@ fn replies_of(
     Ok(replies)
 }
 
-/// Sends a request. Where that fails the other side has closed, and what it said before may still be read.
-fn send(
-    rt: &(impl Eprint + AllocGlobal),
-    mut stream: &UnixStream,
-    request: &Request,
-) -> Result<(), Ended> {
-    match put_request(rt.alloc(), request) {
+/// Sends a request. Where that fails the other side has closed, and what it sent before may still be read.
+fn send(alloc: Global, mut stream: &UnixStream, request: &Request) -> Result<(), Fault> {
+    match put_request(alloc, request) {
         Ok(frame) => {
             let _ = stream.write_all(&frame);
             Ok(())
         }
-        Err(RequestFault::NoMemory) => Err(no_memory(rt)),
-        Err(fault) => Err(refused(eprintln!(rt; "refused: load: {fault}"))),
+        Err(RequestFault::NoMemory) => Err(Fault::NoMemory),
+        Err(fault) => Err(Fault::refused("load", format!(in alloc; "{fault}"))),
     }
 }
 
 /// The next reply; none where the other side closes before it.
 fn receive(
-    rt: &(impl Eprint + AllocGlobal),
+    alloc: Global,
     mut stream: &UnixStream,
     feeder: &mut ReplyFeeder,
-) -> Result<Option<Reply>, Ended> {
+) -> Result<Option<Reply>, Fault> {
     'pieces: for _ in 0..u64::MAX {
         match feeder.next_reply() {
             Ok(None) => {}
             Ok(Some(reply)) => return Ok(Some(reply)),
-            Err(fault) => return Err(refused(eprintln!(rt; "refused: connection: {fault}"))),
+            Err(fault) => return Err(Fault::refused("connection", format!(in alloc; "{fault}"))),
         }
         let mut piece = [0u8; PIECE];
         let Ok(count) = stream.read(&mut piece) else {
@@ -221,7 +175,7 @@ fn receive(
             return Ok(None);
         }
         if feeder.feed(&piece[..count]).is_err() {
-            return Err(no_memory(rt));
+            return Err(Fault::NoMemory);
         }
     }
     Ok(None)

@@ -1,6 +1,6 @@
-//! The commands of `composecheck` over any form of a table: files, sockets and exit statuses. The arguments of the command line stand in
-//! `compose_arguments`, what a command answers on the bytes that it is given in `compose_tool`, and what it prints of that in
-//! `compose_report`.
+//! The program `composecheck` over any form of a table: arguments, files, sockets and exit statuses. A command that reads files and answers
+//! is a function over values of `compose_runs`; its outcome is printed here. The arguments of the command line are in
+//! `compose_arguments`.
 //!
 //! ```text
 //! fn main(rt: HostRuntime) -> ExitCode {
@@ -12,10 +12,8 @@
 mod at_once;
 mod client;
 mod commands;
-mod differing;
 mod environment;
-mod files;
-mod manifest;
+mod output;
 mod program;
 mod serving;
 

@@ -3,12 +3,14 @@ ghost use Rattle.std.specs.Prelude.{◌≤◌};
 ghost use Rattle.std.specs.Process.{exit_status};
 
 use crate::commands::answer;
-use crate::files::tell_fault;
+use crate::output::put_fault;
 use compose_answer::Ended;
 use compose_arguments::{CommandLine, Request, read_command_line};
 use compose_folder::{Disk, ReadOnce};
-use compose_report::{exit_code, no_memory, refused, report_arguments};
+use compose_input::Fault;
+use compose_report::{Outcome, arguments_outcome, exit_code, no_memory, print};
 use compose_tree::ComposeTable;
+use std::alloc::{AllocError, Global};
 use std::net::Net;
 use std::process::ExitCode;
 use std::rt::{Env, Files};
@@ -33,11 +35,11 @@ pub fn run<T: ComposeTable>(
 }
 
 /// The arguments of the command line, the program's name among them.
-fn read_arguments(rt: &(impl Env + Eprint + AllocGlobal)) -> Result<Vec<String>, Ended> {
+fn read_arguments(rt: &(impl Env + Print + Eprint + AllocGlobal)) -> Result<Vec<String>, Ended> {
     match env::args(rt) {
         Ok(arguments) => arguments.collect(rt.alloc()).map_err(|_| no_memory(rt)),
         Err(error) if error.kind() == io::ErrorKind::InvalidData => {
-            Err(refused(eprintln!(rt; "refused: word: not UTF-8")))
+            Err(put_fault(rt, false, &Fault::Word))
         }
         Err(_) => Err(no_memory(rt)),
     }
@@ -66,19 +68,25 @@ fn answer_command<T: ComposeTable>(
     let mut files = ReadOnce::new(rt.alloc(), Disk::new(rt));
     match answer::<T, _>(rt, &mut files, process_id, is_terminal, asked) {
         Ok(ended) => ended,
-        Err(fault) => tell_fault(rt, asked.verbose || is_diff(asked), &fault),
+        Err(fault) => put_fault(rt, asked.verbose || is_diff(asked), &fault),
     }
 }
 
-/// Whether the command is `diff`, which always tells where a fault is.
+/// Whether the command is `diff`, which always says where a fault is.
 fn is_diff(asked: &CommandLine<'_>) -> bool {
     matches!(&asked.request, Request::Diff { .. })
 }
 
 /// Prints the help that the arguments ask for, or why they are refused.
 fn report_error(rt: &(impl Print + Eprint + AllocGlobal), error: &clap::Error) -> Ended {
-    match format!(in rt.alloc(); "{error}") {
-        Ok(text) => report_arguments(rt, error.kind(), &text),
+    match error_outcome(rt.alloc(), error) {
+        Ok(outcome) => print(rt, &outcome),
         Err(_) => no_memory(rt),
     }
+}
+
+/// The outcome of arguments that are no command.
+fn error_outcome(alloc: Global, error: &clap::Error) -> Result<Outcome, AllocError> {
+    let text = format!(in alloc; "{error}")?;
+    arguments_outcome(alloc, error.kind(), &text)
 }

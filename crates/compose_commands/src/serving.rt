@@ -1,18 +1,20 @@
-//! `serve`: a service on a socket. What can't be read is a fault; any other error is the end of a run whose refusal was told.
+//! `serve`: a service on a socket, which prints a line as it begins and for each connection. An error is why what it was given can't be
+//! read, or is refused.
 use crate::at_once::{print_end, serve_many};
+use crate::output::put;
 use compose_answer::{Answer, Ended, Refusal};
 use compose_arguments::ServeArguments;
 use compose_details::{Given, GivenTable};
 use compose_folder::{Folder, ReadOnce};
 use compose_input::{Fault, NameFiles, TableFiles, read_text};
-use compose_report::{no_memory, refused, report, report_given, written};
+use compose_report::{Outcome, outcome_of, outcome_with, written};
+use compose_runs::Options;
 use compose_serve::{Device, serve};
 use compose_service::Service;
 use compose_serving::{BeginFault, BeginInput, begin};
-use compose_shown::Shown;
 use compose_socket::{SocketFault, SocketFile, listener_of_systemd};
 use compose_tree::ComposeTable;
-use std::alloc::Global;
+use std::alloc::{AllocError, Global};
 use std::fs;
 use std::net::Net;
 use std::os::unix::net::{UnixListener, UnixStream};
@@ -22,21 +24,17 @@ use std::rt::{Env, Files};
 pub fn serve_files<T: ComposeTable, F: Folder>(
     rt: &(impl Env + Files + Net + Print + Eprint + AllocGlobal),
     files: &mut ReadOnce<F>,
-    verbose: bool,
+    options: Options<'_>,
     process_id: u32,
-    names: &[&str],
     arguments: &ServeArguments<'_>,
 ) -> Result<Ended, Fault> {
-    match ServiceFiles::read(files, rt.alloc(), names, arguments)?.begin::<T>(rt.alloc()) {
-        Ok(mut service) => {
-            let served = serve_on_socket(rt, process_id, &mut service, arguments);
-            Ok(served.unwrap_or_else(|ended| ended))
+    let begun = ServiceFiles::read(files, rt.alloc(), options.names, arguments)?;
+    match begun.begin::<T>(rt.alloc()) {
+        Ok(mut service) => serve_on_socket(rt, process_id, &mut service, arguments),
+        Err(fault) => {
+            let outcome = start_outcome::<T, F>(rt.alloc(), files, options, arguments, fault);
+            put(rt, options.verbose, outcome)
         }
-        Err(fault) if verbose => {
-            let read = ServiceFiles::read(files, rt.alloc(), names, arguments)?;
-            Ok(report_fault::<T>(rt, arguments, &read, fault))
-        }
-        Err(fault) => Ok(report(rt, &answered(fault), &[])),
     }
 }
 
@@ -46,7 +44,7 @@ fn serve_on_socket<T: ComposeTable>(
     process_id: u32,
     service: &mut Service<T>,
     arguments: &ServeArguments<'_>,
-) -> Result<Ended, Ended> {
+) -> Result<Ended, Fault> {
     let listener = bind(rt, process_id, arguments)?;
     written(rt, println!(rt; "listening"), Ended::Yes);
     let ended = serve_listener(rt, listener, service, arguments)?;
@@ -62,7 +60,7 @@ fn serve_listener<T: ComposeTable>(
     listener: UnixListener,
     service: &mut Service<T>,
     arguments: &ServeArguments<'_>,
-) -> Result<Ended, Ended> {
+) -> Result<Ended, Fault> {
     match arguments.at_once {
         Some(at_once) => serve_many(rt, listener, service, arguments, at_once),
         None => serve_connections(rt, &listener, service, arguments),
@@ -119,13 +117,29 @@ fn answered(fault: BeginFault) -> Result<Answer, Refusal> {
     }
 }
 
-/// Prints why no service begins with the files, and what there is to say of it. What the service took over is had again of what was read.
-fn report_fault<T: ComposeTable>(
-    rt: &(impl Print + Eprint + AllocGlobal),
+/// The outcome where no service begins with the files. With `-v` the files are read again, of what was read, since the service took
+/// their bytes over.
+fn start_outcome<T: ComposeTable, F: Folder>(
+    alloc: Global,
+    files: &mut ReadOnce<F>,
+    options: Options<'_>,
+    arguments: &ServeArguments<'_>,
+    fault: BeginFault,
+) -> Result<Outcome, Fault> {
+    if !options.verbose {
+        return Ok(outcome_with(alloc, &[], answered(fault), String::new(alloc))?);
+    }
+    let read = ServiceFiles::read(files, alloc, options.names, arguments)?;
+    Ok(detailed_outcome::<T>(alloc, arguments, &read, fault)?)
+}
+
+/// The same outcome, with what there is to say of it.
+fn detailed_outcome<T: ComposeTable>(
+    alloc: Global,
     arguments: &ServeArguments<'_>,
     files: &ServiceFiles<'_>,
     fault: BeginFault,
-) -> Ended {
+) -> Result<Outcome, AllocError> {
     let table = GivenTable::of(&files.table);
     let given = Given {
         headers: &files.names.files,
@@ -137,15 +151,15 @@ fn report_fault<T: ComposeTable>(
         certificate_text: &files.certificate,
         all: false,
     };
-    report_given::<T>(rt, true, &given, &answered(fault))
+    outcome_of::<T>(alloc, true, &given, answered(fault))
 }
 
 /// The listener that systemd hands over, or else one on a new socket file.
 fn bind(
-    rt: &(impl Env + Files + Net + Eprint + AllocGlobal),
+    rt: &(impl Env + Files + Net + AllocGlobal),
     process_id: u32,
     arguments: &ServeArguments<'_>,
-) -> Result<UnixListener, Ended> {
+) -> Result<UnixListener, Fault> {
     if let Some(listener) = listener_of_systemd(rt, process_id) {
         return Ok(listener);
     }
@@ -156,25 +170,30 @@ fn bind(
     };
     match file.bind(rt, process_id) {
         Ok(listener) => Ok(listener),
-        Err(SocketFault::NoMemory) => Err(no_memory(rt)),
-        Err(_) => Err(refused(eprintln!(rt; "refused: socket: {}", Shown(arguments.socket)))),
+        Err(SocketFault::NoMemory) => Err(Fault::NoMemory),
+        Err(_) => Err(refused_socket(rt.alloc(), arguments)),
     }
 }
 
-/// Serves as many connections as are asked for, and prints how each ended.
+/// That the socket can't be served on.
+fn refused_socket(alloc: Global, arguments: &ServeArguments<'_>) -> Fault {
+    Fault::refused("socket", String::from_str(alloc, arguments.socket))
+}
+
+/// Serves as many connections as are asked for, and prints how each ended; not on where such a line can't be written.
 fn serve_connections<T: ComposeTable>(
     rt: &(impl Print + Eprint + AllocGlobal),
     listener: &UnixListener,
     service: &mut Service<T>,
     arguments: &ServeArguments<'_>,
-) -> Result<Ended, Ended> {
+) -> Result<Ended, Fault> {
     for number in 1..=u32::from(arguments.connections) {
-        match listener.accept() {
-            Ok((stream, _)) => serve_connection(rt, number, &stream, service)?,
-            Err(_) => return Err(refused(eprintln!(rt;
-                "refused: socket: {}",
-                Shown(arguments.socket)
-            ))),
+        let Ok((stream, _)) = listener.accept() else {
+            return Err(refused_socket(rt.alloc(), arguments));
+        };
+        match serve_connection(rt, number, &stream, service) {
+            Ended::Yes => {}
+            ended => return Ok(ended),
         }
     }
     Ok(Ended::Yes)
@@ -186,15 +205,12 @@ fn serve_connection<T: ComposeTable>(
     number: u32,
     stream: &UnixStream,
     service: &mut Service<T>,
-) -> Result<(), Ended> {
+) -> Ended {
     let ended = serve(
         service,
         rt.alloc(),
         &mut Device::new(stream),
         &mut Device::new(stream),
     );
-    match print_end(rt, number, ended) {
-        Ended::Yes => Ok(()),
-        other => Err(other),
-    }
+    print_end(rt, number, ended)
 }

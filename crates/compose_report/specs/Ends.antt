@@ -30,10 +30,6 @@ arguments_end kind = Refused
 abbrev pub EndsPrinted : Ended → Ended → Type 0
 EndsPrinted ended end = (end ≡ ended) ⊎ (end ≡ unwritten_end ended)
 
--- the same, or where memory is refused for what is printed
-abbrev pub EndsTold : Ended → Ended → Type 0
-EndsTold ended end = EndsPrinted ended end ⊎ (end ≡ NoMemory)
-
 -- after an exchange with a service: no where a request was refused, and refused where the service did not answer
 abbrev pub exchange_end : End → Ended
 exchange_end exchanges.Answered = Yes

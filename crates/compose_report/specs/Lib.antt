@@ -1,1 +1,4 @@
 pub mod Ends
+pub mod Outcomes
+pub mod Exchange
+pub mod Arguments

@@ -1,26 +1,51 @@
-//! What clap says of arguments that are no command.
-ghost use Rattle.std.specs.Prelude.{◌≡◌};
-ghost use Rattle.compose_report.specs.Ends.{EndsPrinted, arguments_end};
+//! The outcome of arguments that are no command.
+ghost use Rattle.std.specs.Prelude.{◌≡◌, IfOk, string_bytes};
+ghost use Rattle.compose_report.specs.Arguments as words;
+ghost use Rattle.compose_report.specs.Arguments.{IsArgumentsOutcome};
+ghost use Rattle.compose_report.specs.Ends.{arguments_end};
 
-use crate::answered::written;
+use crate::outcome::Outcome;
 use clap::error::ErrorKind;
 use compose_answer::Ended;
 use compose_shown::ShownLines;
-use std::io;
+use std::alloc::{AllocError, Global};
 
-/// Prints this text of clap, which is of this kind: the help that the arguments ask for, or why they are refused.
-pub fn report_arguments(rt: &(impl Print + Eprint), kind: ErrorKind, text: &str) -> Ended
-    ensures { EndsPrinted (arguments_end kind) result }
+/// The outcome of arguments of which clap says this text, which is of this kind: the help that they ask for on standard output, or why
+/// they are refused on standard error. O(bytes).
+pub fn arguments_outcome(
+    alloc: Global,
+    kind: ErrorKind,
+    text: &str,
+) -> Result<Outcome, AllocError>
+    ensures { IfOk result (λ outcome. IsArgumentsOutcome kind text.now outcome) }
 {
-    written(rt, tell_arguments(rt, kind, text), end_of_arguments(kind))
+    Ok(Outcome {
+        notes: String::new(alloc),
+        output: help_lines(alloc, kind, text)?,
+        errors: error_lines(alloc, kind, text)?,
+        file: None,
+        ended: end_of_arguments(kind),
+    })
 }
 
-/// Prints what clap says of the arguments: help to standard output, and why they are refused to standard error.
-fn tell_arguments(rt: &(impl Print + Eprint), kind: ErrorKind, text: &str) -> io::Result<()> {
+/// The help, or the version, that is asked for; nothing of arguments that are refused.
+fn help_lines(alloc: Global, kind: ErrorKind, text: &str) -> Result<String, AllocError>
+    ensures { IfOk result (λ lines. string_bytes lines ≡ words.help_lines kind text.now) }
+{
     match kind {
-        ErrorKind::OutOfMemory => eprintln!(rt; "out of memory"),
-        ErrorKind::DisplayHelp | ErrorKind::DisplayVersion => print!(rt; "{text}"),
-        _ => eprint!(rt; "{text}", text = ShownLines(text)),
+        ErrorKind::DisplayHelp | ErrorKind::DisplayVersion => String::from_str(alloc, text),
+        _ => Ok(String::new(alloc)),
+    }
+}
+
+/// Why the arguments are refused; nothing where they ask for help or the version.
+fn error_lines(alloc: Global, kind: ErrorKind, text: &str) -> Result<String, AllocError>
+    ensures { IfOk result (λ lines. string_bytes lines ≡ words.error_lines kind text.now) }
+{
+    match kind {
+        ErrorKind::DisplayHelp | ErrorKind::DisplayVersion => Ok(String::new(alloc)),
+        ErrorKind::OutOfMemory => String::from_str(alloc, "out of memory\n"),
+        _ => format!(in alloc; "{text}", text = ShownLines(text)),
     }
 }
 

@@ -1,18 +1,24 @@
-//! What a command prints, and how its run then ends: an answer or a refusal, what `-v` adds to it, what is told of an exchange with a
-//! service, and what clap says of the arguments. What a stream does with a text can't be said in a contract: how a run ends is said for
-//! both, a text that was written and one that could not be.
+//! What a command prints, and how its run then ends: an [`Outcome`] is a value, which is made of an answer or a refusal with what `-v` adds to
+//! it, of why the input can't be read, of an exchange with a service, or of what clap says of the arguments. One function prints it.
+//! What a stream does with a text can't be said in a contract: how a run ends is said for both, a text that was written and one that
+//! could not be.
 //!
 //! ```text
-//! no_memory(rt)    // prints "out of memory" to standard error, and is Ended::NoMemory
+//! let outcome = outcome_of::<PackedTable>(alloc, verbose, &given, answered)?;
+//! exit_code(print(rt, &outcome))
 //! ```
 #![tactic(auto)]
 
-mod answered;
+mod answers;
 mod arguments;
 mod exchange;
-mod given;
+mod faults;
+mod outcome;
+mod printing;
 
-pub use answered::{exit_code, no_memory, refused, report, tell_about, written};
-pub use arguments::report_arguments;
-pub use exchange::report_exchange;
-pub use given::{report_given, report_into};
+pub use answers::{outcome_of, outcome_with};
+pub use arguments::arguments_outcome;
+pub use exchange::exchange_outcome;
+pub use faults::fault_outcome;
+pub use outcome::Outcome;
+pub use printing::{exit_code, no_memory, print, written};

@@ -1,0 +1,150 @@
+//! The outcome of an answer, or of why there is none.
+ghost use Rattle.std.specs.Prelude.{◌≡◌, ℕ, List, map, IfOk, string_bytes};
+ghost use Rattle.compose_report.specs.Outcomes as outcomes;
+ghost use Rattle.compose_report.specs.Outcomes.{IsDetailed, IsOutcome, IsReported};
+
+use crate::outcome::Outcome;
+use compose_answer::{Answer, Ended, Refusal};
+use compose_details::{Given, answer_details, refusal_details};
+use compose_shown::Shown;
+use compose_tree::ComposeTable;
+use std::alloc::{AllocError, Global};
+
+/// The outcome of an answer, or of a refusal, to what was given: the answer on standard output, or one line on standard error, and with
+/// `verbose` below it what there is to say of it: of a refusal each faulty line with its file, line and column, and hints; of `no` the keys
+/// and the places of their sequences. O(bytes of the answer), and with `verbose` at the cost of reading the tables once more.
+pub fn outcome_of<T: ComposeTable>(
+    alloc: Global,
+    verbose: bool,
+    given: &Given<'_>,
+    answered: Result<Answer, Refusal>,
+) -> Result<Outcome, AllocError>
+    ensures { IfOk result (λ outcome. IsReported verbose given.now answered outcome) }
+{
+    let details = details_of::<T>(alloc, verbose, given, &answered)?;
+    outcome_with(alloc, given.arguments, answered, details)
+}
+
+/// What `-v` adds to an answer, or to why there is none; nothing where it is not asked for.
+fn details_of<T: ComposeTable>(
+    alloc: Global,
+    verbose: bool,
+    given: &Given<'_>,
+    answered: &Result<Answer, Refusal>,
+) -> Result<String, AllocError>
+    ensures { IfOk result
+        (λ details. IsDetailed verbose given.now answered.now (string_bytes details)) }
+{
+    if !verbose {
+        return Ok(String::new(alloc));
+    }
+    match answered {
+        Ok(answer) => answer_details::<T>(alloc, given, answer),
+        Err(refusal) => refusal_details(alloc, given, refusal),
+    }
+}
+
+/// The outcome of an answer, or of a refusal, to these arguments, with these details below it. O(bytes).
+pub fn outcome_with(
+    alloc: Global,
+    arguments: &[&str],
+    answered: Result<Answer, Refusal>,
+    details: String,
+) -> Result<Outcome, AllocError>
+    ensures { IfOk result
+        (λ outcome. (own : List ℕ)
+        × IsOutcome own (map (λ argument. argument.now) arguments.now) (string_bytes details)
+        answered outcome) }
+{
+    let own = own_text(alloc, &answered)?;
+    outcome_by(alloc, arguments, answered, &details, &own)
+}
+
+/// What the fault of an invalid certificate, or a refusal, is printed as; nothing of another answer.
+fn own_text(alloc: Global, answered: &Result<Answer, Refusal>) -> Result<String, AllocError> {
+    match answered {
+        Ok(Answer::Invalid(fault)) => format!(in alloc; "{fault}"),
+        Ok(_) => Ok(String::new(alloc)),
+        Err(refusal) => format!(in alloc; "{refusal}"),
+    }
+}
+
+/// The same outcome, by what the fault or the refusal is printed as.
+fn outcome_by(
+    alloc: Global,
+    arguments: &[&str],
+    answered: Result<Answer, Refusal>,
+    details: &str,
+    own: &str,
+) -> Result<Outcome, AllocError>
+    ensures { IfOk result
+        (λ outcome. IsOutcome own.now (map (λ argument. argument.now) arguments.now) details.now
+        answered outcome) }
+{
+    let ended = Ended::of(&answered);
+    let mut errors = error_text(alloc, arguments, &answered, own)?;
+    errors.push_str(details)?;
+    Ok(Outcome {
+        notes: String::new(alloc),
+        output: output_text(alloc, answered, own)?,
+        errors,
+        file: None,
+        ended,
+    })
+}
+
+/// What is printed to standard output.
+fn output_text(
+    alloc: Global,
+    answered: Result<Answer, Refusal>,
+    own: &str,
+) -> Result<String, AllocError>
+    ensures { IfOk result (λ text. string_bytes text ≡ outcomes.output_text own.now answered) }
+{
+    match answered {
+        Ok(Answer::Yes(text) | Answer::No(text)) => Ok(text),
+        Ok(Answer::Invalid(_)) => format!(in alloc; "no: {own}\n"),
+        Ok(answer) => format!(in alloc; "{answer}"),
+        Err(_) => Ok(String::new(alloc)),
+    }
+}
+
+/// The line of a refusal; nothing of an answer.
+fn error_text(
+    alloc: Global,
+    arguments: &[&str],
+    answered: &Result<Answer, Refusal>,
+    own: &str,
+) -> Result<String, AllocError>
+    ensures { IfOk result
+        (λ text. string_bytes text
+        ≡ outcomes.error_text own.now (map (λ argument. argument.now) arguments.now)
+        answered.now) }
+{
+    match answered {
+        Ok(_) => Ok(String::new(alloc)),
+        Err(Refusal::Key { index }) => key_line(alloc, arguments, *index, own),
+        Err(Refusal::NoMemory) => String::from_str(alloc, "out of memory\n"),
+        Err(_) => format!(in alloc; "{own}\n"),
+    }
+}
+
+/// The line of the argument with this index, which has no keysym.
+fn key_line(
+    alloc: Global,
+    arguments: &[&str],
+    index: usize,
+    own: &str,
+) -> Result<String, AllocError>
+    ensures { IfOk result
+        (λ text. string_bytes text
+        ≡ outcomes.key_line own.now (map (λ argument. argument.now) arguments.now) index) }
+{
+    match arguments.get(index) {
+        Some(argument) => format!(in alloc;
+            "refused: key: {argument}\n",
+            argument = Shown(argument)
+        ),
+        None => format!(in alloc; "{own}\n"),
+    }
+}

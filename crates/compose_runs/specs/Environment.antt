@@ -1,0 +1,55 @@
+-- What the environment says (POSIX: `LC_ALL` before `LC_CTYPE` before `LANG`; Xlib: `XLOCALEDIR`; no-color.org: `NO_COLOR`).
+use Rattle.std.specs.Prelude.{◌≡◌, ℕ, Bool, false, if◌then◌else◌, List, [], ◌∷◌, Option, Some, None, is_none, option_copied, Result, Ok, Err, unwrap_or, codes}
+use Rattle.std.specs.Option.{option_or}
+use Rattle.compose_text.specs.Results.{◌>>=◌}
+use Rattle.compose_input.specs.declared.fault.Fault.{Fault}
+use Rattle.compose_input.specs.declared.fault.Fault.TheVariants.{Word}
+use Rattle.compose_input.specs.declared.places.Places.{Places}
+use Rattle.compose_runs.specs.Variables.{Said, text_of, first_set, IsBeginning}
+use Rattle.compose_runs.specs.declared.environment.Environment.{Environment}
+use Rattle.compose_runs.specs.declared.environment.PlaceArguments.{PlaceArguments}
+
+-- the name of the locale
+abbrev pub locale_of : Environment → Said (Option (List ℕ))
+locale_of e = first_set (text_of e.lc_all) (first_set (text_of e.lc_ctype) (text_of e.lang))
+
+-- the folder of the system's tables, the locale and the home folder, where the environment says them
+pub record SaidPlaces : Type 0 where
+  pub system : Option (List ℕ)
+  pub locale : Option (List ℕ)
+  pub home : Option (List ℕ)
+
+abbrev pub places_of : Environment → Said SaidPlaces
+places_of e = do
+  system ← text_of e.xlocaledir
+  locale ← locale_of e
+  home ← text_of e.home
+  Ok (record { system = system; locale = locale; home = home })
+
+-- a root that is given, without slashes at its end
+abbrev pub IsRoot : Option (List ℕ) → Option (List ℕ) → Type 0
+IsRoot None root = root ≡ None
+IsRoot (Some given) None = ⊥
+IsRoot (Some given) (Some root) = IsBeginning given root
+
+-- where tables lie: as the arguments say, or else the environment, or else below /usr/share/X11/locale
+pub record ArePlaces (arguments : PlaceArguments) (said : SaidPlaces) (places : Places) : Type 0 where
+  pub system : places.system.now ≡ unwrap_or (option_or (option_copied arguments.system) said.system) (codes "/usr/share/X11/locale")
+  pub tree : option_copied places.tree ≡ option_copied arguments.system
+  pub locale : option_copied places.locale ≡ option_or (option_copied arguments.locale) said.locale
+  pub home : option_copied places.home ≡ said.home
+  pub root : IsRoot (option_copied arguments.root) (option_copied places.root)
+
+abbrev pub GivesPlaces : PlaceArguments → Result Places Fault → Said SaidPlaces → Type 0
+GivesPlaces arguments (Ok places) said = (parts : SaidPlaces) × (said ≡ Ok parts) × ArePlaces arguments parts places
+GivesPlaces arguments (Err fault) said = (said ≡ Err tt) × (fault ≡ Word)
+
+-- on a terminal, unless `NO_COLOR` is set to something; elsewhere it is not looked at
+abbrev pub wants_color : Environment → Said Bool
+wants_color e = if e.is_terminal then (do
+  text ← text_of e.no_color
+  Ok (is_none text)) else Ok false
+
+abbrev pub GivesColor : Result Bool Fault → Said Bool → Type 0
+GivesColor (Ok wants) said = said ≡ Ok wants
+GivesColor (Err fault) said = (said ≡ Err tt) × (fault ≡ Word)

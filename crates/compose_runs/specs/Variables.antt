@@ -1,0 +1,32 @@
+-- The variables of the environment (POSIX, "Environment Variables"). One that is set to nothing is as one that is not set.
+use Rattle.std.specs.Prelude.{◌≡◌, ℕ, ◌==◌, if◌then◌else◌, List, length, take, Option, Some, None, option_copied, Result, Ok, Err, string_bytes, string_len}
+use Rattle.std.proofs.Common.{Bor}
+use Rattle.compose_input.specs.declared.fault.Fault.{Fault}
+use Rattle.compose_input.specs.declared.fault.Fault.TheVariants.{Word}
+use Rattle.compose_runs.specs.declared.environment.Variable.{Variable}
+use Rattle.compose_runs.specs.declared.environment.Variable.TheVariants.{Unset, Set, NotUtf8}
+
+-- what is said, or that it is no text
+abbrev pub Said : Type 0 → Type 0
+Said X = Result X (Unit {0})
+
+-- what a variable is set to
+abbrev pub text_of : Variable → Said (Option (List ℕ))
+text_of Unset = Ok None
+text_of (Set text) = Ok (if string_len text == 0 then None else Some (string_bytes text))
+text_of NotUtf8 = Err tt
+
+-- the text that is said, or the fault that it is none
+abbrev pub Says : Result (Option (Bor (List ℕ))) Fault → Said (Option (List ℕ)) → Type 0
+Says (Ok text) said = said ≡ Ok (option_copied text)
+Says (Err fault) said = (said ≡ Err tt) × (fault ≡ Word)
+
+-- of two variables the first that is set to something
+abbrev pub first_set : Said (Option (List ℕ)) → Said (Option (List ℕ)) → Said (Option (List ℕ))
+first_set (Ok None) next = next
+first_set (Ok (Some text)) next = Ok (Some text)
+first_set (Err fault) next = Err fault
+
+-- the path begins with this one
+abbrev pub IsBeginning : List ℕ → List ℕ → Type 0
+IsBeginning path start = start ≡ take (length start) path

@@ -1,0 +1,30 @@
+//! The commands as functions over values: from what the files hold, what the environment says and what is asked for to the [`Outcome`] of
+//! the run, which is what it prints and how it ends. Nothing is printed here, and files are read through a
+//! [`ReadOnce`](compose_folder::ReadOnce) alone.
+//!
+//! ```text
+//! let outcome = run_type::<PackedTable, _>(alloc, &mut files, options, "table.manifest", &["a", "b"])?;
+//! print(rt, &outcome)
+//! ```
+//!
+//! [`Outcome`]: compose_report::Outcome
+#![tactic(auto)]
+
+mod checking;
+mod differing;
+mod environment;
+mod explaining;
+mod files;
+mod making;
+mod manifest;
+mod options;
+mod typing;
+
+pub use checking::{CheckPaths, run_check};
+pub use differing::run_diff;
+pub use environment::{Environment, Variable};
+pub use explaining::run_explain;
+pub use making::{MakeOptions, run_make};
+pub use manifest::run_manifest;
+pub use options::Options;
+pub use typing::run_type;

@@ -1,0 +1,104 @@
+//! `make`: a certificate.
+ghost use Rattle.std.specs.Prelude.{◌≡◌, map, None, IfOk, option_copied};
+ghost use Rattle.compose_runs.specs.Making.{IsMakeRun, IsMakeOutcome, AnswersMake, IsWrittenTo};
+ghost use Rattle.compose_runs.specs.Files.{migration_given};
+
+use crate::files::MigrationFiles;
+use crate::options::Options;
+use compose_answer::{Answer, Ended, Refusal};
+use compose_arguments::TablePaths;
+use compose_details::{Given, GivenTable};
+use compose_folder::{Folder, ReadOnce};
+use compose_input::{Fault, read_text};
+use compose_report::{Outcome, outcome_of};
+use compose_tool::{make_all_migration, make_migration};
+use compose_tree::ComposeTable;
+use std::alloc::{AllocError, Global};
+
+/// What `make` is asked beside its tables.
+#[derive(Clone, Copy, Debug)]
+pub struct MakeOptions<'a> {
+    /// The path of the repertoire.
+    pub repertoire: &'a str,
+    /// The names of the fresh keysyms.
+    pub fresh: &'a [&'a str],
+    /// Whether all characters that can't be typed are asked for, and not the first alone.
+    pub all: bool,
+    /// The path of the file to which the certificate is written, in the place of standard output.
+    pub output: Option<&'a str>,
+}
+
+/// The outcome of `make`: the text of a certificate, or why there is none. The files of names are read first, then those of the old table,
+/// those of the new one, and the repertoire. At the cost of reading them and of `make_migration`.
+pub fn run_make<T: ComposeTable, F: Folder>(
+    alloc: Global,
+    files: &mut ReadOnce<F>,
+    options: Options<'_>,
+    paths: &TablePaths<'_>,
+    making: MakeOptions<'_>,
+) -> Result<Outcome, Fault>
+    ensures kept { files.new.holds ≡ files.old.holds }
+    ensures outcome { IfOk result
+        (λ outcome. IsMakeRun files.old.holds options.entry paths.now making.entry outcome) }
+{
+    let both = MigrationFiles::read(files, alloc, options.names, paths)?;
+    let repertoire = read_text(files, alloc, making.repertoire)?;
+    let outcome = make_outcome::<T>(alloc, options.verbose, &both, &repertoire, making)?;
+    Ok(written_to(alloc, making.output, outcome)?)
+}
+
+/// The outcome of `make`, once the files are read.
+fn make_outcome<T: ComposeTable>(
+    alloc: Global,
+    verbose: bool,
+    both: &MigrationFiles<'_>,
+    repertoire: &[u8],
+    making: MakeOptions<'_>,
+) -> Result<Outcome, AllocError>
+    ensures { IfOk result
+        (λ outcome. IsMakeOutcome verbose both.now repertoire.now making.entry outcome) }
+{
+    let answered = make_answer::<T>(alloc, both, repertoire, making);
+    let tables = [GivenTable::of(&both.old), GivenTable::of(&both.new)];
+    let listed = Given::of(&both.names, making.fresh, &tables);
+    let given = Given {
+        repertoire: making.repertoire,
+        ..listed
+    };
+    outcome_of::<T>(alloc, verbose, &given, answered)
+}
+
+/// What is answered to `make`.
+fn make_answer<T: ComposeTable>(
+    alloc: Global,
+    both: &MigrationFiles<'_>,
+    repertoire: &[u8],
+    making: MakeOptions<'_>,
+) -> Result<Answer, Refusal>
+    ensures { AnswersMake making.entry.all result
+        (migration_given both.now (map (λ name. name.now) making.entry.fresh.now))
+        repertoire.now }
+{
+    if making.all {
+        make_all_migration::<T>(alloc, &both.input(making.fresh), repertoire)
+    } else {
+        make_migration::<T>(alloc, &both.input(making.fresh), repertoire)
+    }
+}
+
+/// The same outcome, whose output is written to the file at this path, if there is one, where it is a certificate.
+fn written_to(alloc: Global, path: Option<&str>, outcome: Outcome) -> Result<Outcome, AllocError>
+    requires { outcome.file ≡ None }
+    ensures { IfOk result (λ written. IsWrittenTo (option_copied path.entry) outcome written) }
+{
+    let Some(path) = path else {
+        return Ok(outcome);
+    };
+    if outcome.ended != Ended::Yes {
+        return Ok(outcome);
+    }
+    Ok(Outcome {
+        file: Some(String::from_str(alloc, path)?),
+        ..outcome
+    })
+}

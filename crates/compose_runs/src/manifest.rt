@@ -1,0 +1,62 @@
+//! `manifest`: the sources of a Compose file on the system.
+ghost use Rattle.std.specs.Prelude.{◌≡◌, IfOk};
+ghost use Rattle.compose_runs.specs.Manifest.{IsManifestRun, IsManifestOutcome, IsWrittenManifest};
+
+use crate::environment::{Environment, PlaceArguments};
+use compose_answer::Ended;
+use compose_arguments::ManifestArguments;
+use compose_find::FoundSource;
+use compose_folder::{Folder, ReadOnce};
+use compose_input::{Fault, Places, files_note, find_files};
+use compose_manifest::{WriteFault, manifest_text};
+use compose_report::Outcome;
+use std::alloc::{AllocError, Global};
+
+/// The outcome of `manifest`: the manifest of a Compose file as it lies on the system, and notes on those of its files that lie outside of
+/// its tree of tables. At the cost of `find_files`.
+pub fn run_manifest<F: Folder>(
+    alloc: Global,
+    files: &mut ReadOnce<F>,
+    environment: &Environment,
+    arguments: &ManifestArguments<'_>,
+) -> Result<Outcome, Fault>
+    ensures kept { files.new.holds ≡ files.old.holds }
+    ensures outcome { IfOk result
+        (λ outcome. IsManifestRun files.old.holds environment.now arguments.now outcome) }
+{
+    let places = environment.places(PlaceArguments {
+        system: arguments.system,
+        locale: arguments.locale,
+        root: arguments.root,
+    })?;
+    let found = find_files(files, alloc, places, arguments.file)?;
+    Ok(manifest_outcome(alloc, places, arguments.file, &found.files)?)
+}
+
+/// The outcome of `manifest`, once the files are found.
+fn manifest_outcome(
+    alloc: Global,
+    places: Places<'_>,
+    file: &str,
+    found: &[FoundSource],
+) -> Result<Outcome, AllocError>
+    ensures { IfOk result
+        (λ outcome. IsManifestOutcome places.entry file.now found.now outcome) }
+{
+    let notes = files_note(alloc, places, file, found)?;
+    Ok(written_manifest(alloc, found)?.with_notes(notes))
+}
+
+/// The manifest of these sources on standard output; a refusal where a name or a path can't stand in one.
+fn written_manifest(alloc: Global, found: &[FoundSource]) -> Result<Outcome, AllocError>
+    ensures { IfOk result (λ outcome. IsWrittenManifest found.now outcome) }
+{
+    match manifest_text(alloc, found) {
+        Ok(text) => Ok(Outcome::of_output(alloc, text, Ended::Yes)),
+        Err(WriteFault::NoMemory) => Err(AllocError),
+        Err(fault) => {
+            let line = format!(in alloc; "refused: manifest: {fault}\n")?;
+            Ok(Outcome::of_errors(alloc, line, Ended::Refused))
+        }
+    }
+}

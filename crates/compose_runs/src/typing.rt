@@ -1,0 +1,49 @@
+//! `type`: what happens at keys.
+ghost use Rattle.std.specs.Prelude.{◌≡◌, map, IfOk};
+ghost use Rattle.compose_runs.specs.Typing.{IsTypeRun, IsTypeOutcome};
+
+use crate::options::Options;
+use compose_details::{Given, GivenTable};
+use compose_folder::{Folder, ReadOnce};
+use compose_input::{Fault, NameFiles, TableFiles};
+use compose_report::{Outcome, outcome_of};
+use compose_tool::type_keys;
+use compose_tree::ComposeTable;
+use std::alloc::{AllocError, Global};
+
+/// The outcome of `type`: these keys are typed with the table of the manifest at this path. The files of names are read first, then those
+/// of the table. At the cost of reading them and of `type_keys`.
+pub fn run_type<T: ComposeTable, F: Folder>(
+    alloc: Global,
+    files: &mut ReadOnce<F>,
+    options: Options<'_>,
+    table: &str,
+    keys: &[&str],
+) -> Result<Outcome, Fault>
+    ensures kept { files.new.holds ≡ files.old.holds }
+    ensures outcome { IfOk result
+        (λ outcome. IsTypeRun files.old.holds options.entry table.now
+        (map (λ key. key.now) keys.now) outcome) }
+{
+    let names = NameFiles::read(files, alloc, options.names)?;
+    let table = TableFiles::listed(files, alloc, "table", table)?;
+    Ok(type_outcome::<T>(alloc, options.verbose, &names, &table, keys)?)
+}
+
+/// The outcome of `type`, once the files are read.
+fn type_outcome<T: ComposeTable>(
+    alloc: Global,
+    verbose: bool,
+    names: &NameFiles<'_>,
+    table: &TableFiles,
+    keys: &[&str],
+) -> Result<Outcome, AllocError>
+    ensures { IfOk result
+        (λ outcome. IsTypeOutcome verbose names.now table.now (map (λ key. key.now) keys.now)
+        outcome) }
+{
+    let answered = type_keys::<T>(alloc, &names.lines, keys, &table.input());
+    let tables = [GivenTable::of(table)];
+    let given = Given::of(names, keys, &tables);
+    outcome_of::<T>(alloc, verbose, &given, answered)
+}
