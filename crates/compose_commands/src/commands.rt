@@ -2,6 +2,7 @@
 use crate::client::{load_files, session_files};
 use crate::differing::diff_files;
 use crate::files::MigrationFiles;
+use crate::looking_up::{how_files, list_files};
 use crate::manifest::manifest_files;
 use crate::serving::serve_files;
 use compose_answer::{Answer, Ended, Refusal};
@@ -53,6 +54,10 @@ pub fn answer<T: ComposeTable, F: Folder>(
         Request::Diff { arguments, fresh } => {
             diff_files::<T, F>(rt, files, names, arguments, fresh, is_terminal)
         }
+        Request::How { arguments, texts } => {
+            how_files::<T, F>(rt, files, names, arguments, texts)
+        }
+        Request::List(arguments) => list_files::<T, F>(rt, files, names, arguments),
         Request::Make {
             tables,
             fresh,

@@ -15,8 +15,10 @@ mod commands;
 mod differing;
 mod environment;
 mod files;
+mod looking_up;
 mod manifest;
 mod program;
 mod serving;
+mod user_file;
 
 pub use program::run;

@@ -1,5 +1,6 @@
 //! `manifest`: finds the sources of a Compose file on the system.
 use crate::environment::{Environment, PlaceArguments};
+use crate::user_file::file_or_own;
 use compose_answer::Ended;
 use compose_arguments::ManifestArguments;
 use compose_folder::{Folder, ReadOnce};
@@ -8,7 +9,7 @@ use compose_manifest::{WriteFault, manifest_text};
 use compose_report::{no_memory, refused, written};
 use std::rt::Env;
 
-/// Prints the manifest of a Compose file, and notes which of its files lie outside of its tree of tables.
+/// Prints the manifest of a Compose file, which is the user's where none is given, and notes which of its files lie outside of its tree of tables.
 pub fn manifest_files<F: Folder>(
     rt: &(impl Env + Print + Eprint + AllocGlobal),
     files: &mut ReadOnce<F>,
@@ -20,8 +21,9 @@ pub fn manifest_files<F: Folder>(
         locale: arguments.locale,
         root: arguments.root,
     });
-    let found = find_files(files, rt.alloc(), places, arguments.file)?;
-    let note = files_note(rt.alloc(), places, arguments.file, &found.files)?;
+    let file = file_or_own(rt, files, places, arguments.file)?;
+    let found = find_files(files, rt.alloc(), places, &file)?;
+    let note = files_note(rt.alloc(), places, &file, &found.files)?;
     let _ = eprint!(rt; "{note}");
     match manifest_text(rt.alloc(), &found.files) {
         Ok(text) => Ok(written(rt, print!(rt; "{text}"), Ended::Yes)),
