@@ -94,7 +94,7 @@ def commands():
     """Returns the commands that run the built programs, the slowest first, once `composecheck` itself is at PROGRAM."""
     shutil.copy(built("composecheck"), PROGRAM)
     plain, trials = built("composecheck_list"), built("compose_trials")
-    runs = [(it, program) for it in ("refusals.py", "diff.py", "cases.py", "service.py") for program in (PROGRAM, plain)]
+    runs = [(it, program) for it in ("refusals.py", "diff.py", "how.py", "cases.py", "service.py") for program in (PROGRAM, plain)]
     runs += [("devices.py", trials), ("calls.py", trials)]
     runs += [("limits.py", PROGRAM), ("limits.py", plain)]
     runs += [(it, PROGRAM) for it in ("once.py", "packages.py", "lex_reference.py", "at_once.py", "streams.py", "outputs.py", "ci.py", "readme.py", "engine.py", "installed.py")]

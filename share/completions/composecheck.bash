@@ -3,12 +3,12 @@ _composecheck() {
     local word=${COMP_WORDS[COMP_CWORD]} before=${COMP_WORDS[COMP_CWORD-1]} options=
     COMPREPLY=()
     if [ "$COMP_CWORD" -eq 1 ]; then
-        COMPREPLY=($(compgen -W "type check explain make diff manifest serve load session --help --version" -- "$word"))
+        COMPREPLY=($(compgen -W "type check explain make diff how list manifest serve load session --help --version" -- "$word"))
         return
     fi
     case $before in
         --names) COMPREPLY=($(compgen -f -- "$word") $(compgen -W builtin -- "$word")); return ;;
-        -o | --output | --accept) COMPREPLY=($(compgen -f -- "$word")); return ;;
+        -o | --output | --accept | --from) COMPREPLY=($(compgen -f -- "$word")); return ;;
         --fresh | --at-once | --unsent | --locale) return ;;
         --system|--root) COMPREPLY=($(compgen -d -- "$word")); return ;;
         --overlap) COMPREPLY=($(compgen -W "longest refuse" -- "$word")); return ;;
@@ -22,6 +22,8 @@ _composecheck() {
         explain) options="--names --fresh --all --verbose --help" ;;
         make) options="--names --fresh --all --output --verbose --help" ;;
         diff) options="--verbose --names --fresh --overlap --accept --write-accept --no-fold --lost --format --color --system --locale --root --help" ;;
+        how) options="--names --from --first --overlap --system --locale --root --help" ;;
+        list) options="--names --overlap --system --locale --root --help" ;;
         manifest) options="--system --locale --root --verbose --help" ;;
         serve) options="--names --at-once --unsent --mode --replace --unlink --verbose --help" ;;
         load) options="--verbose --help" ;;

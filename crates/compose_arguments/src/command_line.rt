@@ -105,6 +105,7 @@ fn argument_of<'a>(alloc: Global, row: &ArgumentRow) -> Arg<'a> {
     let argument = Arg::new(alloc, row.name).help(row.help);
     match row.given {
         Given::Text => argument.required(true),
+        Given::Maybe => argument,
         Given::Number(range) => argument.required(true).value_parser(number_in(range)),
         Given::Some => argument.required(true).num_args(1..),
         Given::Any => argument.num_args(0..),

@@ -7,6 +7,8 @@ pub enum CommandName {
     Type,
     Check,
     Diff,
+    How,
+    List,
     Explain,
     Make,
     Manifest,
@@ -16,10 +18,12 @@ pub enum CommandName {
 }
 
 /// All commands, in the order of the program's help.
-pub const COMMANDS: [CommandName; 9] = [
+pub const COMMANDS: [CommandName; 11] = [
+    CommandName::Diff,
+    CommandName::How,
+    CommandName::List,
     CommandName::Type,
     CommandName::Check,
-    CommandName::Diff,
     CommandName::Explain,
     CommandName::Make,
     CommandName::Manifest,
@@ -34,6 +38,8 @@ pub fn row_of(command: CommandName) -> &'static CommandRow {
         CommandName::Type => &TYPE,
         CommandName::Check => &CHECK,
         CommandName::Diff => &DIFF,
+        CommandName::How => &HOW,
+        CommandName::List => &LIST,
         CommandName::Explain => &EXPLAIN,
         CommandName::Make => &MAKE,
         CommandName::Manifest => &MANIFEST,
@@ -244,6 +250,62 @@ static DIFF: CommandRow = CommandRow {
     ],
 };
 
+/// What is done with overlaps where the longest sequence is taken else, as libxkbcommon takes it.
+const OVERLAP: OptionRow = OptionRow {
+    name: "overlap",
+    letter: None,
+    takes: Takes::OneOf {
+        name: "RULE",
+        values: &["longest", "refuse"],
+        default: "longest",
+    },
+    help: "Of a sequence that another one begins with: take the longest, or refuse the table",
+};
+
+/// The command that tells how texts are typed.
+static HOW: CommandRow = CommandRow {
+    name: "how",
+    about: "Print the sequences that give a text, the shortest first",
+    after_help: "A text may be written as its character's number, U+2260. Names are those of keysymdef.h, unless --names gives others.\nExit status: 0 printed, 1 no sequence gives one of the texts, 2 input refused, 3 out of memory\nExample: composecheck how --from /usr/share/X11/locale/en_US.UTF-8/Compose ≠",
+    options: &[
+        NAMES,
+        OptionRow {
+            name: "from",
+            letter: None,
+            takes: Takes::Value("FILE"),
+            help: "The Compose file; without it, the one that libxkbcommon takes for the user",
+        },
+        OptionRow {
+            name: "first",
+            letter: None,
+            takes: Takes::Nothing,
+            help: "Print the first sequence of each text alone",
+        },
+        OVERLAP,
+        SYSTEM,
+        LOCALE,
+        ROOT,
+    ],
+    arguments: &[ArgumentRow {
+        name: "TEXT",
+        given: Given::Some,
+        help: "The texts",
+    }],
+};
+
+/// The command that lists the sequences of a Compose file.
+static LIST: CommandRow = CommandRow {
+    name: "list",
+    about: "Print the sequences of a Compose file as they count, includes and overrides done",
+    after_help: "What is printed is a Compose file without includes, which gives the same table. Names are those of keysymdef.h, unless --names gives others.\nExit status: 0 printed, 2 input refused, 3 out of memory\nExample: composecheck list /usr/share/X11/locale/en_US.UTF-8/Compose",
+    options: &[NAMES, OVERLAP, SYSTEM, LOCALE, ROOT],
+    arguments: &[ArgumentRow {
+        name: "FILE",
+        given: Given::Maybe,
+        help: "The Compose file; without it, the one that libxkbcommon takes for the user",
+    }],
+};
+
 /// The command that explains how two tables differ.
 static EXPLAIN: CommandRow = CommandRow {
     name: "explain",
@@ -296,8 +358,8 @@ static MANIFEST: CommandRow = CommandRow {
     options: &[VERBOSE, SYSTEM, LOCALE, ROOT],
     arguments: &[ArgumentRow {
         name: "FILE",
-        given: Given::Text,
-        help: "The Compose file",
+        given: Given::Maybe,
+        help: "The Compose file; without it, the one that libxkbcommon takes for the user",
     }],
 };
 

@@ -10,16 +10,16 @@ pub struct ManifestArguments<'a> {
     pub locale: Option<&'a str>,
     /// The folder below which an absolute path of an include is looked for first.
     pub root: Option<&'a str>,
-    /// The path of the Compose file.
-    pub file: &'a str,
+    /// The path of the Compose file, if it is given.
+    pub file: Option<&'a str>,
 }
 
-/// The arguments of `manifest`, if they are all there.
-pub fn manifest_arguments<'a>(given: &ArgMatches<'a>) -> Option<ManifestArguments<'a>> {
-    Some(ManifestArguments {
+/// The arguments of `manifest`.
+pub fn manifest_arguments<'a>(given: &ArgMatches<'a>) -> ManifestArguments<'a> {
+    ManifestArguments {
         system: given.get_str("system"),
         locale: given.get_str("locale"),
         root: given.get_str("root"),
-        file: given.get_str("FILE")?,
-    })
+        file: given.get_str("FILE"),
+    }
 }

@@ -6,6 +6,8 @@ ghost use Rattle.compose_arguments.specs.Commas.{names_between};
 use crate::client_arguments::{LoadArguments, SessionArguments, load_arguments, session_arguments};
 use crate::command_line::command_line;
 use crate::diff_arguments::{DiffArguments, diff_arguments};
+use crate::how_arguments::{HowArguments, how_arguments};
+use crate::list_arguments::{ListArguments, list_arguments};
 use crate::manifest_arguments::{ManifestArguments, manifest_arguments};
 use crate::serve_arguments::{ServeArguments, serve_arguments};
 use clap::error::ErrorKind;
@@ -44,6 +46,14 @@ pub enum Request<'a> {
         /// The names of `--fresh` between commas.
         fresh: Vec<&'a str>,
     },
+    /// Tell how texts are typed.
+    How {
+        arguments: HowArguments<'a>,
+        /// The texts, at least one.
+        texts: Vec<&'a str>,
+    },
+    /// List the sequences of a Compose file.
+    List(ListArguments<'a>),
     /// Make a certificate.
     Make {
         tables: TablePaths<'a>,
@@ -151,6 +161,7 @@ fn request_of<'a>(
         "check" => check_request(alloc, given),
         "explain" => explain_request(alloc, given),
         "diff" => diff_request(alloc, given),
+        "how" => how_request(alloc, given),
         "make" => make_request(alloc, given),
         "session" => session_request(alloc, given),
         _ => Ok(request_without_lists(command, given)),
@@ -160,7 +171,8 @@ fn request_of<'a>(
 /// What a command asks for that takes no list.
 fn request_without_lists<'a>(command: &str, given: &ArgMatches<'a>) -> Option<Request<'a>> {
     match command {
-        "manifest" => manifest_arguments(given).map(Request::Manifest),
+        "list" => Some(Request::List(list_arguments(given))),
+        "manifest" => Some(Request::Manifest(manifest_arguments(given))),
         "serve" => serve_arguments(given).map(Request::Serve),
         "load" => load_arguments(given).map(Request::Load),
         _ => None,
@@ -244,6 +256,20 @@ fn diff_request<'a>(
     Ok(Some(Request::Diff {
         arguments,
         fresh: fresh_names(alloc, given)?,
+    }))
+}
+
+/// The arguments of `how`.
+fn how_request<'a>(
+    alloc: Global,
+    given: &ArgMatches<'a>,
+) -> Result<Option<Request<'a>>, AllocError> {
+    let Some(texts) = given.get_strs("TEXT") else {
+        return Ok(None);
+    };
+    Ok(Some(Request::How {
+        arguments: how_arguments(given),
+        texts: Vec::from_slice(alloc, texts)?,
     }))
 }
 

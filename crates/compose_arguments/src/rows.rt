@@ -65,6 +65,8 @@ pub struct ArgumentRow {
 pub enum Given {
     /// A text.
     Text,
+    /// A text, if there is one.
+    Maybe,
     /// A number.
     Number(NumberRange),
     /// All texts that are left, at least one.

@@ -5,13 +5,15 @@ use crate::environment::read_environment;
 use crate::output::put;
 use crate::serving::serve_files;
 use compose_answer::Ended;
-use compose_arguments::{CommandLine, DiffArguments, ManifestArguments, Request};
+use compose_arguments::{
+    CommandLine, DiffArguments, HowArguments, LintArguments, ListArguments, ManifestArguments, Request,
+};
 use compose_folder::{Folder, ReadOnce};
 use compose_input::Fault;
 use compose_report::Outcome;
 use compose_runs::{
-    CheckPaths, MakeOptions, Options, run_check, run_diff, run_explain, run_make, run_manifest,
-    run_type,
+    CheckPaths, MakeOptions, Options, run_check, run_diff, run_explain, run_how, run_lint, run_list,
+    run_make, run_manifest, run_type,
 };
 use compose_tree::ComposeTable;
 use std::net::Net;
@@ -70,6 +72,20 @@ pub fn answer<T: ComposeTable, F: Folder>(
                 diff::<T, F>(rt, files, is_terminal, options, arguments, fresh),
             )
         }
+        Request::How { arguments, texts } => {
+            put(
+                rt,
+                verbose,
+                how::<T, F>(rt, files, is_terminal, options, arguments, texts),
+            )
+        }
+        Request::List(arguments) => {
+            put(
+                rt,
+                verbose,
+                list::<T, F>(rt, files, is_terminal, options, arguments),
+            )
+        }
         Request::Make {
             tables,
             fresh,
@@ -124,6 +140,50 @@ fn diff<T: ComposeTable, F: Folder>(
         arguments,
         fresh,
     )
+}
+
+/// The outcome of `how` in the environment.
+fn how<T: ComposeTable, F: Folder>(
+    rt: &(impl Env + AllocGlobal),
+    files: &mut ReadOnce<F>,
+    is_terminal: bool,
+    options: Options<'_>,
+    arguments: &HowArguments<'_>,
+    texts: &[&str],
+) -> Result<Outcome, Fault> {
+    let environment = read_environment(rt, is_terminal)?;
+    run_how::<T, F>(
+        rt.alloc(),
+        files,
+        &environment,
+        options.names,
+        arguments,
+        texts,
+    )
+}
+
+/// The outcome of `list` in the environment.
+fn list<T: ComposeTable, F: Folder>(
+    rt: &(impl Env + AllocGlobal),
+    files: &mut ReadOnce<F>,
+    is_terminal: bool,
+    options: Options<'_>,
+    arguments: &ListArguments<'_>,
+) -> Result<Outcome, Fault> {
+    let environment = read_environment(rt, is_terminal)?;
+    run_list::<T, F>(rt.alloc(), files, &environment, options.names, arguments)
+}
+
+/// The outcome of `lint` in the environment.
+fn lint<F: Folder>(
+    rt: &(impl Env + AllocGlobal),
+    files: &mut ReadOnce<F>,
+    is_terminal: bool,
+    options: Options<'_>,
+    arguments: &LintArguments<'_>,
+) -> Result<Outcome, Fault> {
+    let environment = read_environment(rt, is_terminal)?;
+    run_lint(rt.alloc(), files, &environment, options.names, arguments)
 }
 
 /// The outcome of `manifest` in the environment.

@@ -17,6 +17,8 @@ pub fn read_environment(
         xlocaledir: variable(rt, "XLOCALEDIR")?,
         home: variable(rt, "HOME")?,
         no_color: variable(rt, "NO_COLOR")?,
+        xcomposefile: variable(rt, "XCOMPOSEFILE")?,
+        xdg_config_home: variable(rt, "XDG_CONFIG_HOME")?,
         is_terminal,
     })
 }

@@ -68,13 +68,16 @@ fn answer_command<T: ComposeTable>(
     let mut files = ReadOnce::new(rt.alloc(), Disk::new(rt));
     match answer::<T, _>(rt, &mut files, process_id, is_terminal, asked) {
         Ok(ended) => ended,
-        Err(fault) => put_fault(rt, asked.verbose || is_diff(asked), &fault),
+        Err(fault) => put_fault(rt, asked.verbose || is_always_verbose(asked), &fault),
     }
 }
 
-/// Whether the command is `diff`, which always says where a fault is.
-fn is_diff(asked: &CommandLine<'_>) -> bool {
-    matches!(&asked.request, Request::Diff { .. })
+/// Whether the command always says where a fault is.
+fn is_always_verbose(asked: &CommandLine<'_>) -> bool {
+    matches!(
+        &asked.request,
+        Request::Diff { .. } | Request::How { .. } | Request::List(_)
+    )
 }
 
 /// Prints the help that the arguments ask for, or why they are refused.

@@ -30,6 +30,8 @@ mod lines;
 #[cfg(test)]
 mod loading;
 #[cfg(test)]
+mod looking_up;
+#[cfg(test)]
 mod losing;
 #[cfg(test)]
 mod making;

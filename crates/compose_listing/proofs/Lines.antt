@@ -77,6 +77,6 @@ pub text_after : {X S : Type 0} (now : S → List ℕ) (f : List ℕ → List X)
 text_after now f texts i t below is all more so_far e =
     e ∙ ap (λ u. u ++ f (now t)) so_far
     ∙ sym (
-      ap (λ ts. flat_map f (map now ts)) (take_more texts i t below) ∙ ap (flat_map f) (map-append now (take i texts) (get_or texts i t ∷ []))
-          ∙ flat_map-append f (map now (take i texts)) (now (get_or texts i t) ∷ []) ∙ ap (λ s. flat_map f (map now (take i texts)) ++ (f (now s) ++ [])) (sym is)
-          ∙ ap (λ u. flat_map f (map now (take i texts)) ++ u) (append-nil (f (now t))))
+    ap (λ ts. flat_map f (map now ts)) (take_more texts i t below) ∙ ap (flat_map f) (map-append now (take i texts) (get_or texts i t ∷ []))
+    ∙ flat_map-append f (map now (take i texts)) (now (get_or texts i t) ∷ []) ∙ ap (λ s. flat_map f (map now (take i texts)) ++ (f (now s) ++ [])) (sym is)
+    ∙ ap (λ u. flat_map f (map now (take i texts)) ++ u) (append-nil (f (now t))))

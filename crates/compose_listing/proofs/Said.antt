@@ -53,9 +53,21 @@ keys_said [] ts blanks rest ok more = more blanks ok
 keys_said (key ∷ keys) ts blanks rest ok more =
     let apart : (key ++ codes "> ") ++ keys_text keys ++ rest ≡ key ++ (62 ∷ 32 ∷ (keys_text keys ++ rest)) =
     append_assoc (key ++ codes "> ") (keys_text keys) rest ∙ append_assoc key (codes "> ") (keys_text keys ++ rest) in (
-      blanks, key ++ (62 ∷ 32 ∷ (keys_text keys ++ rest)), ok, ap (λ t. blanks ++ 60 ∷ t) apart, (
-        [], 62 ∷ 32 ∷ (keys_text keys ++ rest), refl, refl, (
-          [], 32 ∷ (keys_text keys ++ rest), refl, refl, keys_said keys ts (32 ∷ []) rest refl more,
+      blanks,
+      key ++ (62 ∷ 32 ∷ (keys_text keys ++ rest)),
+      ok,
+      ap (λ t. blanks ++ 60 ∷ t) apart,
+      (
+        [],
+        62 ∷ 32 ∷ (keys_text keys ++ rest),
+        refl,
+        refl,
+        (
+          [],
+          32 ∷ (keys_text keys ++ rest),
+          refl,
+          refl,
+          keys_said keys ts (32 ∷ []) rest refl more,
         ),
       ),
     )
@@ -64,7 +76,6 @@ keys_said (key ∷ keys) ts blanks rest ok more =
 
 module _ (keys : List (List ℕ)) (text path : List ℕ) (line : ℕ) (some : length text == 0 ≡ false)
     (named : nat_lt 0 (length keys) && nat_le (length keys) 32 && list_all is_name keys ≡ true) where
-
   pub says : IsLine (listed_line keys text path line) (production keys (Some (quote_inside text)) None)
   says = record {
     right = and_from _ _ (and_from _ _ (and_from _ _ named (quote_closed text)) refl) refl;
@@ -72,9 +83,21 @@ module _ (keys : List (List ℕ)) (text path : List ℕ) (line : ℕ) (some : le
         (sym (ap (λ b. cond b (codes "VoidSymbol") (quote text)) some))
         (keys_said keys ((58 ∷ []) ∷ quoted (quote_inside text) ∷ []) [] (codes ": " ++ (quote text ++ place_comment path line)) refl
         (λ bs ok. (
-          bs, 32 ∷ (quote text ++ place_comment path line), ok, refl, (
-            32 ∷ [], place_comment path line, refl, refl, (
-              32 ∷ 32 ∷ [], 35 ∷ 32 ∷ (shown_text path ++ (codes ":" ++ decimal line)), refl, refl, refl,
+          bs,
+          32 ∷ (quote text ++ place_comment path line),
+          ok,
+          refl,
+          (
+            32 ∷ [],
+            place_comment path line,
+            refl,
+            refl,
+            (
+              32 ∷ 32 ∷ [],
+              35 ∷ 32 ∷ (shown_text path ++ (codes ":" ++ decimal line)),
+              refl,
+              refl,
+              refl,
             ),
           ),
         )));

@@ -111,7 +111,7 @@ impl<'n> DiffFiles<'n> {
 }
 
 /// The files of names, or else the names that are built in.
-fn read_names<'n, F: Folder>(
+pub(crate) fn read_names<'n, F: Folder>(
     files: &mut ReadOnce<F>,
     alloc: Global,
     names: &[&'n str],

@@ -21,7 +21,7 @@ pub enum Variable {
 
 impl Variable {
     /// What it is set to, if it is set to something; a fault where that is not UTF-8. O(1).
-    fn text(&self) -> Result<Option<&str>, Fault>
+    pub(crate) fn text(&self) -> Result<Option<&str>, Fault>
         ensures { Says result (words.text_of self.now) }
     {
         match self {
@@ -42,6 +42,8 @@ pub struct Environment {
     pub xlocaledir: Variable,
     pub home: Variable,
     pub no_color: Variable,
+    pub xcomposefile: Variable,
+    pub xdg_config_home: Variable,
     pub is_terminal: bool,
 }
 

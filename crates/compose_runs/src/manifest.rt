@@ -3,6 +3,7 @@ ghost use Rattle.std.specs.Prelude.{◌≡◌, IfOk};
 ghost use Rattle.compose_runs.specs.Manifest.{IsManifestRun, IsManifestOutcome, IsWrittenManifest};
 
 use crate::environment::{Environment, PlaceArguments};
+use crate::one_table::{ChosenFile, file_or_own, joined};
 use compose_answer::Ended;
 use compose_arguments::ManifestArguments;
 use compose_find::FoundSource;
@@ -29,21 +30,23 @@ pub fn run_manifest<F: Folder>(
         locale: arguments.locale,
         root: arguments.root,
     })?;
-    let found = find_files(files, alloc, places, arguments.file)?;
-    Ok(manifest_outcome(alloc, places, arguments.file, &found.files)?)
+    let file = file_or_own(alloc, files, environment, places, arguments.file)?;
+    let found = find_files(files, alloc, places, &file.path)?;
+    Ok(manifest_outcome(alloc, places, &file, &found.files)?)
 }
 
 /// The outcome of `manifest`, once the files are found.
 fn manifest_outcome(
     alloc: Global,
     places: Places<'_>,
-    file: &str,
+    file: &ChosenFile,
     found: &[FoundSource],
 ) -> Result<Outcome, AllocError>
     ensures { IfOk result
         (λ outcome. IsManifestOutcome places.entry file.now found.now outcome) }
 {
-    let notes = files_note(alloc, places, file, found)?;
+    let lying = files_note(alloc, places, &file.path, found)?;
+    let notes = joined(alloc, &file.note, &lying)?;
     Ok(written_manifest(alloc, found)?.with_notes(notes))
 }
 

@@ -32,8 +32,11 @@ returns g c =
     let header = c.args.header.now in
     let given = table_given c.args.table.now in
     let n = named_parts c.in_ok-named.named in
-    let table = g.T.ComposeTable.definitions c.in_ok-placed.placed.table in
-    (_, typed_read header [] given n c.in_ok-named.ensures table c.in_ok-placed.ensures.table, record {
-      lines = c.in_ok-ways_of.ensures.lines n.names (lines_of_sources given.sources) (c.deref.ensures.value ∙ c.in_ok-placed.ensures.lines);
-      found = c.in_ok-ways_of.ensures.found;
-    })
+    let table = g.T.ComposeTable.definitions c.in_ok-placed.placed.table in (
+      _,
+      typed_read header [] given n c.in_ok-named.ensures table c.in_ok-placed.ensures.table,
+      record {
+        lines = c.in_ok-ways_of.ensures.lines n.names (lines_of_sources given.sources) (c.deref.ensures.value ∙ c.in_ok-placed.ensures.lines);
+        found = c.in_ok-ways_of.ensures.found;
+      },
+    )

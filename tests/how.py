@@ -1,0 +1,109 @@
+#!/usr/bin/env python3
+"""how.py PROGRAM [COUNT]: what `how` and `list` print of random tables, against a second reading of which definitions count.
+
+A table is a file of some lines with few keysyms, some of them written in several ways, and an include of another such file; sequences
+come again, and some go on after others. Which definitions count is worked out here from the lines as a list. What `list` prints is
+read again by `list` and by `diff`, to which it is the same table. COUNT tables are tried, 200 if none is given. The last line is
+`N passed, M failed`."""
+import os
+import random
+import subprocess
+import sys
+import tempfile
+
+SEED = 52
+# The keysyms of these tables, and how they are written.
+WRITTEN = {0x61: ["a", "U0061", "0x61"], 0x62: ["b", "U0062"], 0xfe51: ["dead_acute", "0xfe51"], 0xff20: ["Multi_key"]}
+TEXTS = ["x", "y", "\u00e9", "xy", 'q"q', "\\", "\u2260"]
+
+
+def random_line(chance):
+    """The keysyms, the keys as they are written and the text of a definition."""
+    keysyms = tuple(chance.choice(list(WRITTEN)) for _ in range(chance.choice([1, 2, 2, 3, 3, 4])))
+    return keysyms, [chance.choice(WRITTEN[it]) for it in keysyms], chance.choice(TEXTS)
+
+
+def quoted(text):
+    return '"' + text.replace("\\", "\\\\").replace('"', '\\"') + '"'
+
+
+def keys_of(keys):
+    return " ".join(f"<{it}>" for it in keys)
+
+
+class Table:
+    """A random table: its files, and each sequence that counts with its line as it is to be printed."""
+
+    def __init__(self, chance):
+        lines = {"own": [random_line(chance) for _ in range(chance.randint(0, 8))], "other": [random_line(chance) for _ in range(chance.randint(0, 4))]}
+        at = chance.randint(0, len(lines["own"]))
+        read = [("own", index + 1 + (index >= at), it) for index, it in enumerate(lines["own"])]
+        read[at:at] = [("other", index + 1, it) for index, it in enumerate(lines["other"])]
+        self.files = {name: [f"{keys_of(keys)} : {quoted(text)}" for _, keys, text in found] for name, found in lines.items()}
+        self.files["own"].insert(at, 'include "other"')
+        self.counts = {keysyms: (text, f"{keys_of(keys)} : {quoted(text)}  # {name}:{line}") for name, line, (keysyms, keys, text) in read}
+        for short in list(self.counts):
+            if any(len(it) > len(short) and it[:len(short)] == short for it in self.counts):
+                del self.counts[short]
+
+    def write(self, folder):
+        for name, lines in self.files.items():
+            with open(os.path.join(folder, name), "w", encoding="utf-8") as file:
+                file.write("".join(line + "\n" for line in lines))
+
+    def listed(self):
+        """What `list` is to print."""
+        return [self.counts[it][1] for it in sorted(self.counts)]
+
+    def ways(self, text):
+        """What `how` is to print of a text."""
+        found = [it for it in self.counts if self.counts[it][0] == text]
+        return [self.counts[it][1] for it in sorted(found, key=lambda it: (len(it), it))]
+
+
+def run(program, folder, *arguments):
+    done = subprocess.run([program, *arguments], cwd=folder, capture_output=True, encoding="utf-8", check=False)
+    return done.returncode, done.stdout.splitlines()
+
+
+def without_places(lines):
+    return [line.split("  # ")[0] for line in lines]
+
+
+def is_right(program, table, chance):
+    """Whether what is printed of a table is what it is to be."""
+    texts = chance.sample(TEXTS, 3)
+    ways = [table.ways(it) for it in texts]
+    status = 0 if all(ways) else 1
+    with tempfile.TemporaryDirectory() as folder:
+        table.write(folder)
+        if run(program, folder, "list", "own") != (0, table.listed()):
+            return False
+        if run(program, folder, "how", "--from", "own", *texts) != (status, sum(ways, [])):
+            return False
+        if run(program, folder, "how", "--first", "--from", "own", *texts) != (status, sum((it[:1] for it in ways), [])):
+            return False
+        with open(os.path.join(folder, "again"), "w", encoding="utf-8") as file:
+            file.write("".join(line + "\n" for line in table.listed()))
+        again = run(program, folder, "list", "--overlap", "refuse", "again")
+        return (again[0], without_places(again[1])) == (0, without_places(table.listed())) and run(program, folder, "diff", "--overlap", "longest", "own", "again")[0] == 0
+
+
+def main():
+    program = os.path.abspath(sys.argv[1])
+    count = int(sys.argv[2]) if len(sys.argv) > 2 else 200
+    chance = random.Random(SEED)
+    passed = failed = 0
+    for number in range(count):
+        table = Table(chance)
+        if is_right(program, table, chance):
+            passed += 1
+        else:
+            failed += 1
+            print(f"table {number}: {table.files}")
+    print(f"{passed} passed, {failed} failed")
+    return 1 if failed else 0
+
+
+if __name__ == "__main__":
+    sys.exit(main())
