@@ -12,6 +12,7 @@ mod client_arguments;
 mod command_line;
 mod commands;
 mod diff_arguments;
+mod lint_arguments;
 mod manifest_arguments;
 mod request;
 mod rows;
@@ -19,6 +20,7 @@ mod serve_arguments;
 
 pub use client_arguments::{LoadArguments, SessionArguments};
 pub use diff_arguments::{DiffArguments, DiffColor, DiffForm};
+pub use lint_arguments::LintArguments;
 pub use manifest_arguments::ManifestArguments;
 pub use request::{CommandLine, Request, TablePaths, read_command_line};
 pub use serve_arguments::ServeArguments;

@@ -6,6 +6,7 @@ ghost use Rattle.compose_arguments.specs.Commas.{names_between};
 use crate::client_arguments::{LoadArguments, SessionArguments, load_arguments, session_arguments};
 use crate::command_line::command_line;
 use crate::diff_arguments::{DiffArguments, diff_arguments};
+use crate::lint_arguments::{LintArguments, lint_arguments};
 use crate::manifest_arguments::{ManifestArguments, manifest_arguments};
 use crate::serve_arguments::{ServeArguments, serve_arguments};
 use clap::error::ErrorKind;
@@ -44,6 +45,8 @@ pub enum Request<'a> {
         /// The names of `--fresh` between commas.
         fresh: Vec<&'a str>,
     },
+    /// Find what is wrong in Compose files.
+    Lint(LintArguments<'a>),
     /// Make a certificate.
     Make {
         tables: TablePaths<'a>,
@@ -151,6 +154,7 @@ fn request_of<'a>(
         "check" => check_request(alloc, given),
         "explain" => explain_request(alloc, given),
         "diff" => diff_request(alloc, given),
+        "lint" => Ok(lint_arguments(alloc, given)?.map(Request::Lint)),
         "make" => make_request(alloc, given),
         "session" => session_request(alloc, given),
         _ => Ok(request_without_lists(command, given)),

@@ -2,6 +2,7 @@
 use crate::client::{load_files, session_files};
 use crate::differing::diff_files;
 use crate::files::MigrationFiles;
+use crate::linting::lint_files;
 use crate::manifest::manifest_files;
 use crate::serving::serve_files;
 use compose_answer::{Answer, Ended, Refusal};
@@ -67,6 +68,7 @@ pub fn answer<T: ComposeTable, F: Folder>(
             };
             make_files::<T, F>(rt, files, verbose, names, &paths, fresh, *all)
         }
+        Request::Lint(arguments) => lint_files(rt, files, names, arguments),
         Request::Manifest(arguments) => manifest_files(rt, files, arguments),
         Request::Serve(arguments) => {
             serve_files::<T, F>(rt, files, verbose, process_id, names, arguments)

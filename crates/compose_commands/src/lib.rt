@@ -15,6 +15,7 @@ mod commands;
 mod differing;
 mod environment;
 mod files;
+mod linting;
 mod manifest;
 mod program;
 mod serving;
