@@ -3,7 +3,7 @@ _composecheck() {
     local word=${COMP_WORDS[COMP_CWORD]} before=${COMP_WORDS[COMP_CWORD-1]} options=
     COMPREPLY=()
     if [ "$COMP_CWORD" -eq 1 ]; then
-        COMPREPLY=($(compgen -W "type check explain make diff how list manifest serve load session --help --version" -- "$word"))
+        COMPREPLY=($(compgen -W "type check explain make diff how list lint manifest serve load session --help --version" -- "$word"))
         return
     fi
     case $before in
@@ -14,6 +14,7 @@ _composecheck() {
         --overlap) COMPREPLY=($(compgen -W "longest refuse" -- "$word")); return ;;
         --format) COMPREPLY=($(compgen -W "text json" -- "$word")); return ;;
         --color) COMPREPLY=($(compgen -W "auto always never" -- "$word")); return ;;
+        --reader) COMPREPLY=($(compgen -W "libX11 libxkbcommon gtk3 gtk4" -- "$word")); return ;;
         --mode) COMPREPLY=($(compgen -W "600 660 666" -- "$word")); return ;;
     esac
     case ${COMP_WORDS[1]} in
@@ -24,6 +25,7 @@ _composecheck() {
         diff) options="--verbose --names --fresh --overlap --accept --write-accept --no-fold --lost --format --color --system --locale --root --help" ;;
         how) options="--names --from --first --overlap --system --locale --root --help" ;;
         list) options="--names --overlap --system --locale --root --help" ;;
+        lint) options="--names --reader --system --locale --verbose --help" ;;
         manifest) options="--system --locale --root --verbose --help" ;;
         serve) options="--names --at-once --unsent --mode --replace --unlink --verbose --help" ;;
         load) options="--verbose --help" ;;

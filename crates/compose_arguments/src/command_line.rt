@@ -76,6 +76,10 @@ fn with_value<'a>(option: Arg<'a>, takes: Takes) -> Arg<'a> {
         Takes::Nothing => option.action(ArgAction::SetTrue),
         Takes::Value(name) => option.value_name(name).action(ArgAction::Set),
         Takes::Values(name) => option.value_name(name).action(ArgAction::Append),
+        Takes::SomeOf { name, values } => option
+            .value_name(name)
+            .value_parser(values)
+            .action(ArgAction::Append),
         Takes::OneOf {
             name,
             values,

@@ -10,6 +10,7 @@ pub enum CommandName {
     How,
     List,
     Explain,
+    Lint,
     Make,
     Manifest,
     Serve,
@@ -18,10 +19,11 @@ pub enum CommandName {
 }
 
 /// All commands, in the order of the program's help.
-pub const COMMANDS: [CommandName; 11] = [
+pub const COMMANDS: [CommandName; 12] = [
     CommandName::Diff,
     CommandName::How,
     CommandName::List,
+    CommandName::Lint,
     CommandName::Type,
     CommandName::Check,
     CommandName::Explain,
@@ -41,6 +43,7 @@ pub fn row_of(command: CommandName) -> &'static CommandRow {
         CommandName::How => &HOW,
         CommandName::List => &LIST,
         CommandName::Explain => &EXPLAIN,
+        CommandName::Lint => &LINT,
         CommandName::Make => &MAKE,
         CommandName::Manifest => &MANIFEST,
         CommandName::Serve => &SERVE,
@@ -323,6 +326,33 @@ static EXPLAIN: CommandRow = CommandRow {
         },
     ],
     arguments: &[OLD, NEW],
+};
+
+/// The command that finds what is wrong.
+static LINT: CommandRow = CommandRow {
+    name: "lint",
+    about: "Find what is wrong in Compose files, and what other readers of them do otherwise",
+    after_help: "Names are those of keysymdef.h, unless --names gives others.\nExit status: 0 nothing found, 1 something found, 2 input refused, 3 out of memory\nExample: composecheck lint --reader gtk4 ~/.XCompose",
+    options: &[
+        VERBOSE,
+        NAMES,
+        SYSTEM,
+        LOCALE,
+        OptionRow {
+            name: "reader",
+            letter: None,
+            takes: Takes::SomeOf {
+                name: "NAME",
+                values: &["libX11", "libxkbcommon", "gtk3", "gtk4"],
+            },
+            help: "Another reader of Compose files; in place of libX11 and libxkbcommon",
+        },
+    ],
+    arguments: &[ArgumentRow {
+        name: "FILE",
+        given: Given::Some,
+        help: "The Compose files",
+    }],
 };
 
 /// The command that makes a certificate.

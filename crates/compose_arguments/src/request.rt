@@ -8,6 +8,7 @@ use crate::command_line::command_line;
 use crate::diff_arguments::{DiffArguments, diff_arguments};
 use crate::how_arguments::{HowArguments, how_arguments};
 use crate::list_arguments::{ListArguments, list_arguments};
+use crate::lint_arguments::{LintArguments, lint_arguments};
 use crate::manifest_arguments::{ManifestArguments, manifest_arguments};
 use crate::serve_arguments::{ServeArguments, serve_arguments};
 use clap::error::ErrorKind;
@@ -54,6 +55,8 @@ pub enum Request<'a> {
     },
     /// List the sequences of a Compose file.
     List(ListArguments<'a>),
+    /// Find what is wrong in Compose files.
+    Lint(LintArguments<'a>),
     /// Make a certificate.
     Make {
         tables: TablePaths<'a>,
@@ -162,6 +165,7 @@ fn request_of<'a>(
         "explain" => explain_request(alloc, given),
         "diff" => diff_request(alloc, given),
         "how" => how_request(alloc, given),
+        "lint" => Ok(lint_arguments(alloc, given)?.map(Request::Lint)),
         "make" => make_request(alloc, given),
         "session" => session_request(alloc, given),
         _ => Ok(request_without_lists(command, given)),

@@ -35,6 +35,11 @@ pub enum Takes {
     Value(&'static str),
     /// A value. The option may come several times.
     Values(&'static str),
+    /// One of these values. The option may come several times.
+    SomeOf {
+        name: &'static str,
+        values: &'static [&'static str],
+    },
     /// One of these values.
     OneOf {
         name: &'static str,

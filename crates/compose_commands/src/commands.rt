@@ -86,6 +86,9 @@ pub fn answer<T: ComposeTable, F: Folder>(
                 list::<T, F>(rt, files, is_terminal, options, arguments),
             )
         }
+        Request::Lint(arguments) => {
+            put(rt, verbose, lint(rt, files, is_terminal, options, arguments))
+        }
         Request::Make {
             tables,
             fresh,

@@ -28,6 +28,8 @@ mod keysyms;
 #[cfg(test)]
 mod lines;
 #[cfg(test)]
+mod linting;
+#[cfg(test)]
 mod loading;
 #[cfg(test)]
 mod looking_up;

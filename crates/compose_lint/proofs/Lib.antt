@@ -2,3 +2,6 @@ pub mod Given
 pub mod NextLine
 pub mod OneMore
 pub mod LastOnes
+pub mod OneSource
+pub mod LongerOnes
+pub mod AllLines

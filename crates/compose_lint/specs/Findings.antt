@@ -1,11 +1,14 @@
 -- What is found in the lines of a file, each kind by itself.
-use Rattle.std.specs.Prelude.{ℕ, Bool, ◌+◌, ◌&&◌, not, nat_lt, bytes_eq, if◌then◌else◌, List, [], ◌∷◌, ◌++◌, map, flat_map, Option, Some, None, option_to_list, false}
+use Rattle.std.specs.Prelude.{ℕ, Bool, ◌+◌, ◌&&◌, not, nat_lt, bytes_eq, if◌then◌else◌, List, [], ◌∷◌, ◌++◌, length, map, flat_map, Option, Some, None, option_to_list, false}
 use Rattle.std.specs.List.{list_any}
 use Rattle.std.specs.Option.{option_map_or, option_and_then}
 use Rattle.keysym_core.specs.Names.{KeysymNames}
 use Rattle.compose_model.specs.Table.{Definition}
 use Rattle.compose_lint.specs.Productions.{Written, production_of}
 use Rattle.compose_read.specs.Lines.{Source}
+use Rattle.compose_read.specs.declared.ReadFault.{ReadFault}
+use Rattle.compose_lint.specs.Faults.{fault_kinds}
+use Rattle.compose_lint.specs.FileLines.{is_after_mark, is_without_newline, has_return, has_spaced_name}
 use Rattle.compose_lint.specs.Lines.{LintLine, lines_in}
 use Rattle.compose_lint.specs.Counting.{last_defining}
 use Rattle.compose_lint.specs.Texts.{repeats_mark, is_normal, has_other_character}
@@ -15,7 +18,7 @@ use Rattle.compose_lint.specs.declared.finding.Kind.{Kind}
 use Rattle.compose_lint.specs.declared.finding.Kind.TheVariants.{Overridden, Repeated, Keysym, Mark, Form, Reader}
 use Rattle.compose_lint.specs.declared.reader.Readers.{Readers}
 use Rattle.compose_lint.specs.declared.reader.Reader.TheVariants.{LibX11, Libxkbcommon, Gtk3, Gtk4}
-use Rattle.compose_lint.specs.declared.reader.Class.TheVariants.{ManyKeysyms, NoSymbol, LongestText, WideKeysym, DigitName, NoString, LetterEscape}
+use Rattle.compose_lint.specs.declared.reader.Class.TheVariants.{ByteOrderMark, NoNewline, CarriageReturn, SpacedName, ManyKeysyms, NoSymbol, LongestText, WideKeysym, DigitName, NoString, LetterEscape}
 
 abbrev pub when : Bool → Kind → List Kind
 when b kind = if b then kind ∷ [] else []
@@ -57,33 +60,46 @@ gtk_kinds readers p d =
     ++ when (readers.gtk4 && has_wide_keysym d) (Reader Gtk4 WideKeysym)
     ++ when (readers.gtk4 && has_no_string p) (Reader Gtk4 NoString)
 
+-- how the file is written
+abbrev pub file_kinds : Readers → List ℕ → ℕ → LintLine → List Kind
+file_kinds readers bytes lines l =
+    when (readers.libx11 && is_after_mark bytes l) (Reader LibX11 ByteOrderMark)
+    ++ when (readers.libxkbcommon && is_after_mark bytes l) (Reader Libxkbcommon ByteOrderMark)
+    ++ when (readers.libxkbcommon && is_without_newline bytes lines l) (Reader Libxkbcommon NoNewline)
+
+-- blanks in a production
+abbrev pub blank_kinds : Readers → List ℕ → Written → List Kind
+blank_kinds readers line p = when (readers.libx11 && has_return line p) (Reader LibX11 CarriageReturn) ++ when (readers.libxkbcommon && has_spaced_name line) (Reader Libxkbcommon SpacedName)
+
 -- ---- all kinds
 
 -- of a line with this definition, which the production gives
 abbrev pub kinds_of : KeysymNames → Readers → List LintLine → LintLine → Written → Definition → List Kind
 kinds_of names readers lines l p d =
-    defined_again lines l d ++ text_kinds names p d ++ libx11_kinds readers d ++ libxkbcommon_kinds readers p d ++ gtk_kinds readers p d
+    defined_again lines l d ++ text_kinds names p d ++ blank_kinds readers l.bytes p ++ libx11_kinds readers d ++ libxkbcommon_kinds readers p d ++ gtk_kinds readers p d
 
 abbrev pub kinds_if : KeysymNames → Readers → List LintLine → LintLine → Option Written → Option Definition → List Kind
 kinds_if names readers lines l (Some p) (Some d) = kinds_of names readers lines l p d
 kinds_if names readers lines l _ _ = []
 
--- what is found in a line of the file; a line that defines nothing has nothing
-abbrev pub line_kinds : KeysymNames → Readers → List LintLine → LintLine → List Kind
-line_kinds names readers lines l = kinds_if names readers lines l (production_of l.bytes) l.definition
+-- what is found in a line of the file with these bytes: its first fault, how it is written, and, where it gives a definition, what is found of this
+abbrev pub line_kinds : KeysymNames → Readers → List ReadFault → List ℕ → List LintLine → LintLine → List Kind
+line_kinds names readers faults bytes lines l =
+    fault_kinds faults l ++ file_kinds readers bytes (length lines) l ++ kinds_if names readers lines l (production_of l.bytes) l.definition
 
-abbrev pub line_findings : KeysymNames → Readers → List LintLine → LintLine → List Finding
-line_findings names readers lines l = map (λ k. record { source = l.source; line = l.line; kind = k }) (line_kinds names readers lines l)
+abbrev pub line_findings : KeysymNames → Readers → List ReadFault → List ℕ → List LintLine → LintLine → List Finding
+line_findings names readers faults bytes lines l = map (λ k. record { source = l.source; line = l.line; kind = k }) (line_kinds names readers faults bytes lines l)
 
 -- what is found in the lines of a file, in order
-abbrev pub findings_in : KeysymNames → Readers → List LintLine → List Finding
-findings_in names readers lines = flat_map (line_findings names readers lines) lines
+abbrev pub findings_in : KeysymNames → Readers → List ReadFault → List ℕ → List LintLine → List Finding
+findings_in names readers faults bytes lines = flat_map (line_findings names readers faults bytes lines) lines
 
 -- what is found in these sources, the first of which has this index
-abbrev pub findings_from : KeysymNames → Readers → List Source → ℕ → List Source → List Finding
-findings_from names readers sources i [] = []
-findings_from names readers sources i (s ∷ rest) = findings_in names readers (lines_in names sources i) ++ findings_from names readers sources (1 + i) rest
+abbrev pub findings_from : KeysymNames → Readers → List ReadFault → List Source → ℕ → List Source → List Finding
+findings_from names readers faults sources i [] = []
+findings_from names readers faults sources i (s ∷ rest) =
+    findings_in names readers faults s.bytes (lines_in names sources i) ++ findings_from names readers faults sources (1 + i) rest
 
--- what is found in the lines of all sources, each once, in order
-abbrev pub findings : KeysymNames → Readers → List Source → List Finding
-findings names readers sources = findings_from names readers sources 0 sources
+-- what is found in the lines of all sources, each once, in order, where these are the faults that are read
+abbrev pub findings : KeysymNames → Readers → List ReadFault → List Source → List Finding
+findings names readers faults sources = findings_from names readers faults sources 0 sources

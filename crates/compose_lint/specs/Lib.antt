@@ -2,7 +2,11 @@ pub mod Productions
 pub mod Lines
 pub mod Texts
 pub mod Readers
+pub mod FileLines
+pub mod Faults
+pub mod Longer
 pub mod Counting
 pub mod Findings
+pub mod Lost
 pub mod Report
 pub mod Answers

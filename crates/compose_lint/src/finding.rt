@@ -4,6 +4,8 @@ use crate::reader::{Class, Reader};
 /// What is found in a line.
 #[derive(Clone, Copy, Debug, PartialEq, Eq, Drop)]
 pub enum Kind {
+    /// The fault with this index is the first one in the line.
+    Fault { index: usize },
     /// The line with this number of the same file defines the sequence again, with another text.
     Overridden { line: usize },
     /// The line with this number of the same file defines the sequence again, with the same text.

@@ -4,6 +4,7 @@ ghost use Rattle.std.specs.Borrow.{Bor};
 ghost use Rattle.std.specs.Option.{option_and_then};
 ghost use Rattle.indexmap.specs.IndexMap.{get_by};
 ghost use Rattle.compose_lint.specs.Counting.{last_defining};
+ghost use Rattle.compose_lint.specs.Productions.{production_of};
 ghost use Rattle.compose_lint.specs.Findings as words;
 
 use crate::classes::{
@@ -12,11 +13,14 @@ use crate::classes::{
 };
 use crate::counting::{LastLines, last_lines};
 use crate::definition::LineDefinition;
+use crate::faults::push_fault_kinds;
+use crate::file_lines::{has_return, has_spaced_name, is_after_mark, is_without_newline};
 use crate::finding::{Finding, Kind};
 use crate::lines::LintLine;
 use crate::production::Production;
 use crate::reader::{Class, Reader, Readers};
 use crate::texts::{has_other_character, is_normal, repeats_mark};
+use compose_read::ReadFault;
 use keysym_core::{Keysym, Names};
 use std::alloc::{AllocError, Global};
 
@@ -175,38 +179,105 @@ fn push_gtk_kinds(
     push_when(kinds, readers.gtk4 && none, Kind::Reader(Reader::Gtk4, Class::NoString))
 }
 
-/// The names, the readers that are asked for, and the lines of a file.
+/// Adds what other readers make of how the file is written.
+fn push_file_kinds(
+    kinds: &mut Vec<Kind>,
+    readers: Readers,
+    bytes: &[u8],
+    lines: usize,
+    line: &LintLine<'_>,
+) -> Result<(), AllocError>
+    ensures { OnOk result
+        (kinds.new.items
+        ≡ kinds.old.items ++ words.file_kinds readers bytes.now lines line.now) }
+{
+    let marked = is_after_mark(bytes, line);
+    let class = Class::ByteOrderMark;
+    push_when(kinds, readers.libx11 && marked, Kind::Reader(Reader::LibX11, class))?;
+    let is_lost = readers.libxkbcommon && marked;
+    push_when(kinds, is_lost, Kind::Reader(Reader::Libxkbcommon, class))?;
+    let is_last = readers.libxkbcommon && is_without_newline(bytes, lines, line);
+    push_when(kinds, is_last, Kind::Reader(Reader::Libxkbcommon, Class::NoNewline))
+}
+
+/// Adds what other readers make of blanks in a production.
+fn push_blank_kinds(
+    kinds: &mut Vec<Kind>,
+    readers: Readers,
+    line: &[u8],
+    production: &Production<'_>,
+) -> Result<(), AllocError>
+    ensures { OnOk result
+        (kinds.new.items
+        ≡ kinds.old.items ++ words.blank_kinds readers line.now production.now) }
+{
+    let returned = readers.libx11 && has_return(line, production);
+    push_when(kinds, returned, Kind::Reader(Reader::LibX11, Class::CarriageReturn))?;
+    let spaced = readers.libxkbcommon && has_spaced_name(line);
+    push_when(kinds, spaced, Kind::Reader(Reader::Libxkbcommon, Class::SpacedName))
+}
+
+/// The names, the readers that are asked for, the faults that are read, and a file: its bytes and
+/// its lines.
 #[derive(Clone, Copy)]
 pub(crate) struct LintFile<'b, 'a> {
     pub(crate) names: &'b Names,
     pub(crate) readers: Readers,
+    pub(crate) faults: &'b [ReadFault],
+    pub(crate) bytes: &'b [u8],
     pub(crate) lines: &'b [LintLine<'a>],
 }
 
-/// What is found in a line of the file with this definition, which the production gives.
-fn kinds_of(
+/// Adds what is found in a line of the file with this definition, which the production gives.
+fn push_kinds_of(
     alloc: Global,
+    kinds: &mut Vec<Kind>,
     file: LintFile<'_, '_>,
     last: &LastLines<'_>,
     line: &LintLine<'_>,
     production: &Production<'_>,
     definition: &LineDefinition,
-) -> Result<Vec<Kind>, AllocError>
+) -> Result<(), AllocError>
     requires { (q : Bor (List ℕ))
         → option_and_then (slice_get file.lines.now) (get_by (λ k. bytes_eq q.now k.now) last.now)
         ≡ last_defining file.lines.now q.now }
-    ensures { IfOk result
-        (λ kinds. kinds.items
-        ≡ words.kinds_of file.entry.names.now file.entry.readers file.entry.lines.now line.now
+    ensures { OnOk result
+        (kinds.new.items
+        ≡ kinds.old.items
+        ++ words.kinds_of file.entry.names.now file.entry.readers file.entry.lines.now line.now
         production.now definition.now) }
 {
-    let mut kinds = Vec::new(alloc);
-    push_defined_again(&mut kinds, file.lines, last, line, definition)?;
-    push_text_kinds(alloc, file.names, &mut kinds, production, definition)?;
-    push_libx11_kinds(&mut kinds, file.readers, definition)?;
-    push_libxkbcommon_kinds(&mut kinds, file.readers, production, definition)?;
-    push_gtk_kinds(&mut kinds, file.readers, production, definition)?;
-    Ok(kinds)
+    push_defined_again(kinds, file.lines, last, line, definition)?;
+    push_text_kinds(alloc, file.names, kinds, production, definition)?;
+    push_blank_kinds(kinds, file.readers, line.bytes(), production)?;
+    push_libx11_kinds(kinds, file.readers, definition)?;
+    push_libxkbcommon_kinds(kinds, file.readers, production, definition)?;
+    push_gtk_kinds(kinds, file.readers, production, definition)
+}
+
+/// Adds what is found in a line of the file for the definition that it gives, if it gives one.
+fn push_kinds_if(
+    alloc: Global,
+    kinds: &mut Vec<Kind>,
+    file: LintFile<'_, '_>,
+    last: &LastLines<'_>,
+    line: &LintLine<'_>,
+) -> Result<(), AllocError>
+    requires { (q : Bor (List ℕ))
+        → option_and_then (slice_get file.lines.now) (get_by (λ k. bytes_eq q.now k.now) last.now)
+        ≡ last_defining file.lines.now q.now }
+    ensures { OnOk result
+        (kinds.new.items
+        ≡ kinds.old.items
+        ++ words.kinds_if file.entry.names.now file.entry.readers file.entry.lines.now line.now
+        (production_of line.now.bytes) line.now.definition) }
+{
+    match (line.production(), line.definition()) {
+        (Some(production), Some(definition)) => {
+            push_kinds_of(alloc, kinds, file, last, line, &production, definition)
+        }
+        _ => Ok(()),
+    }
 }
 
 /// What is found in a line of the file.
@@ -221,14 +292,14 @@ fn line_kinds(
         ≡ last_defining file.lines.now q.now }
     ensures { IfOk result
         (λ kinds. kinds.items
-        ≡ words.line_kinds file.entry.names.now file.entry.readers file.entry.lines.now line.now) }
+        ≡ words.line_kinds file.entry.names.now file.entry.readers file.entry.faults.now
+        file.entry.bytes.now file.entry.lines.now line.now) }
 {
-    match (line.production(), line.definition()) {
-        (Some(production), Some(definition)) => {
-            kinds_of(alloc, file, last, line, &production, definition)
-        }
-        _ => Ok(Vec::new(alloc)),
-    }
+    let mut kinds = Vec::new(alloc);
+    push_fault_kinds(&mut kinds, file.faults, line)?;
+    push_file_kinds(&mut kinds, file.readers, file.bytes, file.lines.len(), line)?;
+    push_kinds_if(alloc, &mut kinds, file, last, line)?;
+    Ok(kinds)
 }
 
 /// Adds that these kinds are found in the line.
@@ -263,7 +334,8 @@ pub(crate) fn push_findings(
     ensures { OnOk result
         (findings.new.items
         ≡ findings.old.items
-        ++ words.findings_in file.entry.names.now file.entry.readers file.entry.lines.now) }
+        ++ words.findings_in file.entry.names.now file.entry.readers file.entry.faults.now
+        file.entry.bytes.now file.entry.lines.now) }
 {
     let lines = file.lines;
     let last = last_lines(alloc, lines)?;

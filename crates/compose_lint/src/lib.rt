@@ -1,14 +1,19 @@
 //! What is wrong in a table, and which readers of Compose files don't take it.
 #![tactic(auto)]
 
+mod all_lines;
 mod answer;
 mod classes;
 mod counting;
 mod definition;
+mod faults;
+mod file_lines;
 mod finding;
 mod kinds;
 mod lines;
 mod lint;
+mod longer;
+mod lost;
 mod production;
 mod reader;
 mod report;
@@ -17,4 +22,5 @@ mod texts;
 pub use answer::{LintInput, lint_table};
 pub use finding::{Finding, Kind};
 pub use lint::find_findings;
+pub use lost::lost_count;
 pub use reader::{Class, Reader, Readers};

@@ -21,6 +21,14 @@ pub struct Readers {
 /// A class of lines that are read here, and that a reader skips or types otherwise.
 #[derive(Clone, Copy, Debug, PartialEq, Eq, Drop)]
 pub enum Class {
+    /// The first line, after a byte order mark.
+    ByteOrderMark,
+    /// The last line, without a newline.
+    NoNewline,
+    /// A carriage return outside of the string and the comment.
+    CarriageReturn,
+    /// A blank between `<` or `>` and the name of a key.
+    SpacedName,
     /// More keysyms than it reads: ten in libX11, eleven in libxkbcommon.
     ManyKeysyms,
     /// The keysym 0 in the sequence.

@@ -1,9 +1,12 @@
 //! How findings are printed.
-ghost use Rattle.std.specs.Prelude.{◌≡◌, ◌++◌, map, IfOk, OnOk, string_bytes};
+ghost use Rattle.std.specs.Prelude.{◌≡◌, ◌++◌, [], slice_get, map, IfOk, OnOk, string_bytes};
+ghost use Rattle.std.specs.Option.{option_map_or};
 ghost use Rattle.compose_lint.specs.Report as words;
 
 use crate::finding::{Finding, Kind};
 use crate::reader::{Class, Reader};
+use compose_messages::{fault_position, read_message};
+use compose_read::{ReadFault, Sources};
 use compose_shown::Shown;
 use std::alloc::{AllocError, Global};
 use std::fmt;
@@ -33,6 +36,16 @@ impl fmt::Display for Class {
 
     fn fmt<W: fmt::Write>(&self, f: &mut fmt::Formatter<W>) -> fmt::Result {
         match self {
+            Class::ByteOrderMark => {
+                f.write_str("the line is skipped, as it follows a byte order mark")
+            }
+            Class::NoNewline => f.write_str("the line is skipped, as no newline follows it"),
+            Class::CarriageReturn => {
+                f.write_str("the line is skipped, as it has a carriage return")
+            }
+            Class::SpacedName => {
+                f.write_str("the line is skipped, as a blank stands beside the name of a key")
+            }
             Class::ManyKeysyms => {
                 f.write_str("the line is skipped, as its sequence has more keysyms than are read")
             }
@@ -63,6 +76,7 @@ impl fmt::Display for Kind {
 
     fn fmt<W: fmt::Write>(&self, f: &mut fmt::Formatter<W>) -> fmt::Result {
         match self {
+            Kind::Fault { .. } => f.write_str("fault"),
             Kind::Overridden { line } => write!(
                 f,
                 "overridden: line {line} gives the sequence another text, which counts"
@@ -78,29 +92,96 @@ impl fmt::Display for Kind {
     }
 }
 
-/// The findings as text, a line for each. O(findings).
+/// What the findings are about: sources, the paths of their files, and faults.
+#[derive(Clone, Copy)]
+pub(crate) struct FoundIn<'a> {
+    pub(crate) sources: &'a Sources,
+    pub(crate) paths: &'a [&'a str],
+    pub(crate) faults: &'a [ReadFault],
+}
+
+/// The findings as text, a line for each. O(findings + faults × bytes of a source).
 pub(crate) fn findings_text(
     alloc: Global,
-    paths: &[&str],
+    found_in: FoundIn<'_>,
     findings: &[Finding],
 ) -> Result<String, AllocError>
     ensures { IfOk result
         (λ text. string_bytes text
-        ≡ words.findings_text (map (λ path. path.now) paths.now) findings.now) }
+        ≡ words.findings_text found_in.entry.sources.now found_in.entry.faults.now
+        (map (λ path. path.now) found_in.entry.paths.now) findings.now) }
 {
     let mut text = String::new(alloc);
     for finding in findings {
-        push_line(&mut text, paths, *finding)?;
+        push_line(&mut text, found_in, *finding)?;
     }
     Ok(text)
 }
 
 /// Adds the line of a finding.
-fn push_line(text: &mut String, paths: &[&str], finding: Finding) -> Result<(), AllocError>
+fn push_line(
+    text: &mut String,
+    found_in: FoundIn<'_>,
+    finding: Finding,
+) -> Result<(), AllocError>
     ensures { OnOk result
         (string_bytes text.new
         ≡ string_bytes text.old
-        ++ words.finding_line (map (λ path. path.now) paths.now) finding) }
+        ++ words.finding_line found_in.entry.sources.now found_in.entry.faults.now
+        (map (λ path. path.now) found_in.entry.paths.now) finding) }
+{
+    match finding.kind {
+        Kind::Fault { index } => push_fault_at(text, found_in, index),
+        _ => push_kind(text, found_in.paths, finding),
+    }
+}
+
+/// Adds the line of the fault with this index, if there is one.
+fn push_fault_at(
+    text: &mut String,
+    found_in: FoundIn<'_>,
+    index: usize,
+) -> Result<(), AllocError>
+    ensures { OnOk result
+        (string_bytes text.new
+        ≡ string_bytes text.old
+        ++ option_map_or
+        (words.fault_line found_in.entry.sources.now
+        (map (λ path. path.now) found_in.entry.paths.now))
+        (slice_get found_in.entry.faults.now index) []) }
+{
+    match found_in.faults.get(index) {
+        Some(fault) => push_fault(text, found_in.sources, found_in.paths, fault),
+        None => Ok(()),
+    }
+}
+
+/// Adds the line of a fault, if it stands in one.
+fn push_fault(
+    text: &mut String,
+    sources: &Sources,
+    paths: &[&str],
+    fault: &ReadFault,
+) -> Result<(), AllocError>
+    ensures { OnOk result
+        (string_bytes text.new
+        ≡ string_bytes text.old
+        ++ words.fault_line sources.now (map (λ path. path.now) paths.now) fault.now) }
+{
+    let Some((source, position)) = fault_position(sources, fault) else {
+        return Ok(());
+    };
+    let (path, message) = (Shown(path_of(paths, source)), read_message(sources, fault));
+    writeln!(text, "{path}:{position}: fault: {message}")?;
+    Ok(())
+}
+
+/// Adds the line of a finding that is no fault.
+fn push_kind(text: &mut String, paths: &[&str], finding: Finding) -> Result<(), AllocError>
+    ensures { OnOk result
+        (string_bytes text.new
+        ≡ string_bytes text.old
+        ++ words.kind_line (map (λ path. path.now) paths.now) finding) }
 {
     let path = Shown(path_of(paths, finding.source));
     let (line, kind) = (finding.line, finding.kind);

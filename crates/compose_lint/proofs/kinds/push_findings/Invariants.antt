@@ -6,5 +6,5 @@ use Rattle.compose_lint.proofs.kinds.push_findings.Given as goal
 -- what is found so far, and in the lines that are left, is all
 abbrev pub invariant-loop-line : goal.invariant-loop-line
 invariant-loop-line l =
-    l.findings.items ++ flat_map (line_findings l.file.names.now l.file.readers l.lines) (drop l.line-index l.lines)
-    ≡ l.fn.findings.items ++ flat_map (line_findings l.file.names.now l.file.readers l.lines) l.lines
+    l.findings.items ++ flat_map (line_findings l.file.names.now l.file.readers l.file.faults.now l.file.bytes.now l.lines) (drop l.line-index l.lines)
+    ≡ l.fn.findings.items ++ flat_map (line_findings l.file.names.now l.file.readers l.file.faults.now l.file.bytes.now l.lines) l.lines

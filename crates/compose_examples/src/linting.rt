@@ -1,0 +1,69 @@
+//! What is found in the lines of worked tables.
+use crate::helpers::{expect_text, two_sources};
+use compose_answer::Answer;
+use compose_lint::{LintInput, Readers, lint_table};
+use std::alloc::Global;
+use std::test::Fail;
+
+/// The lines of the source `r`, those of `%L`, and what is found in them.
+struct LintRow {
+    root: &'static str,
+    included: &'static str,
+    lines: &'static str,
+}
+
+#[rattlefmt::skip]
+static ROWS: [LintRow; 14] = [
+    LintRow { root: "", included: "", lines: "" },
+    LintRow { root: "<Multi_key> <a> : \"é\" eacute\n", included: "", lines: "" },
+    LintRow { root: "<a> <b> : \"x\"\n<a> <c> : \"y\"\n<a> <b> : \"z\"\n", included: "", lines: "r:1:1: overridden: line 3 gives the sequence another text, which counts\n" },
+    LintRow { root: "<a> <b> : \"x\"\n<a> <U0062> : \"x\"\n", included: "", lines: "r:1:1: repeated: line 2 gives the sequence the same text again\n" },
+    LintRow { root: "include \"%L\"\n<a> <b> : \"x\"\n", included: "<a> <b> : \"y\"\n", lines: "" },
+    LintRow { root: "<a> <nosuch> : \"x\"\n<a> <b> : \"x\"\n<a> <b> : \"y\"\n", included: "", lines: "r:1:5: fault: no keysym has the name \"nosuch\"\nr:2:1: overridden: line 3 gives the sequence another text, which counts\n" },
+    LintRow { root: "<a> <b> : \"é\" egrave\n", included: "", lines: "r:1:1: keysym: the keysym after the string has another character\n" },
+    LintRow { root: "<a> <b> : \"х\u{301}\u{301}\"\n", included: "", lines: "r:1:1: mark: the text has one combining mark twice in a row\n" },
+    LintRow { root: "<a> <b> : \"e\u{301}\"\n", included: "", lines: "r:1:1: form: the text is not in normal form C\n" },
+    LintRow { root: "\u{feff}include \"%L\"\n", included: "\u{feff}# none\n", lines: "r:1:1: libX11: the line is skipped, as it follows a byte order mark\nr:1:1: libxkbcommon: the line is skipped, as it follows a byte order mark\n" },
+    LintRow { root: "<a> <b> : \"x\"\r\n<a> <c> : \"\r\" # \r\n", included: "", lines: "r:1:1: libX11: the line is skipped, as it has a carriage return\n" },
+    LintRow { root: "include \"%L\"\n", included: "<a> <b> : \"x\"", lines: "%L:1:1: libxkbcommon: the line is skipped, as no newline follows it\n" },
+    LintRow { root: "<a> <a> <a> <a> <a> <a> <a> <a> <a> <a> : \"x\"\n", included: "", lines: "r:1:1: libX11: the line is skipped, as its sequence has more keysyms than are read\n" },
+    LintRow { root: "<a> <U01EB> : x\n", included: "", lines: "r:1:1: gtk3: the line is skipped, as it has no string\nr:1:1: gtk4: the sequence is never typed, as a keysym of it is above 0xffff\nr:1:1: gtk4: the line is skipped, as it has no string\n" },
+];
+
+/// All readers.
+const ALL: Readers = Readers {
+    libx11: true,
+    libxkbcommon: true,
+    gtk3: true,
+    gtk4: true,
+};
+
+/// What is answered on a row.
+fn answered(alloc: Global, row: &LintRow) -> Result<Option<Answer>, Fail> {
+    let sources = two_sources(alloc, row.root.as_bytes(), row.included)?;
+    let input = LintInput {
+        header: &[],
+        sources: &sources,
+        paths: &["r", "%L"],
+        readers: ALL,
+    };
+    Ok(lint_table(alloc, &input).ok())
+}
+
+/// What is printed of an answer that tells findings or none.
+fn printed(answer: &Option<Answer>) -> &str {
+    match answer {
+        Some(Answer::Yes(text)) => text,
+        Some(Answer::No(text)) => text,
+        _ => "refused",
+    }
+}
+
+#[test]
+fn lines_of_worked_tables(rt: HostRuntime) -> Result<(), Fail> {
+    for row in &ROWS {
+        let answer = answered(rt.alloc(), row)?;
+        expect_text(&rt, row.root, printed(&answer), row.lines);
+    }
+    Ok(())
+}

@@ -1,0 +1,56 @@
+-- Lines that other readers of Compose files skip for how the file is written: each class is one line of docs/READERS.md.
+use Rattle.std.specs.Prelude.{ℕ, Bool, true, false, not, ◌==◌, ◌&&◌, ◌||◌, nat_eq, is_some, position, unwrap_or, List, [], ◌∷◌, length, take, drop, take_while, reverse, Option}
+use Rattle.std.specs.List.{list_any, starts_with, zip}
+use Rattle.std.specs.Option.{option_map_or}
+use Rattle.compose_text.specs.Bytes.{is_blank}
+use Rattle.compose_read.specs.Visits.{raw_include}
+use Rattle.compose_lint.specs.Productions.{Written, production_of}
+use Rattle.compose_lint.specs.Lines.{LintLine}
+
+-- ---- the first and the last line of a file
+
+-- the line reads as a definition or an include
+abbrev pub says_something : List ℕ → Bool
+says_something line = is_some (production_of line) || is_some (raw_include line)
+
+-- the bytes begin with a UTF-8 byte order mark
+abbrev pub has_mark : List ℕ → Bool
+has_mark bytes = starts_with nat_eq bytes (0xef ∷ 0xbb ∷ 0xbf ∷ [])
+
+-- the first line, after a byte order mark: libX11 and libxkbcommon skip it
+abbrev pub is_after_mark : List ℕ → LintLine → Bool
+is_after_mark bytes l = l.line == 1 && has_mark bytes && says_something l.bytes
+
+-- the bytes end without a newline (code 10)
+abbrev pub is_unended : List ℕ → Bool
+is_unended bytes = not (starts_with nat_eq (reverse bytes) (10 ∷ []))
+
+-- the last line, without a newline: libxkbcommon skips it
+abbrev pub is_without_newline : List ℕ → ℕ → LintLine → Bool
+is_without_newline bytes lines l = l.line == lines && is_unended bytes && says_something l.bytes
+
+-- ---- blanks
+
+-- a quote (code 34) or a `#` (code 35)
+abbrev pub begins_string_or_comment : ℕ → Bool
+begins_string_or_comment b = b == 34 || b == 35
+
+-- how many bytes come before the string or the comment
+abbrev pub head_len : List ℕ → ℕ
+head_len line = unwrap_or (position begins_string_or_comment line) (length line)
+
+-- of what follows the string the bytes before the comment
+abbrev pub tail : List ℕ → List ℕ → List ℕ
+tail line raw = take_while (λ b. not (b == 35)) (drop (length raw) (drop 2 (drop (head_len line) line)))
+
+-- a carriage return (code 13) stands outside of the string and the comment: libX11 skips the line
+abbrev pub has_return : List ℕ → Written → Bool
+has_return line p = list_any (λ b. b == 13) (take (head_len line) line) || option_map_or (λ raw. list_any (λ b. b == 13) (tail line raw)) p.raw false
+
+-- a blank after `<` (code 60) or before `>` (code 62)
+abbrev pub is_spaced : ℕ × ℕ → Bool
+is_spaced p = (p.0 == 60 && is_blank p.1) || (is_blank p.0 && p.1 == 62)
+
+-- a blank beside the name of a key: libxkbcommon skips the line
+abbrev pub has_spaced_name : List ℕ → Bool
+has_spaced_name line = list_any is_spaced (zip (take (head_len line) line) (drop 1 (take (head_len line) line)))

@@ -1,0 +1,145 @@
+//! How a line is written, where other readers of Compose files mind it.
+ghost use Rattle.std.specs.Prelude.{◌≡◌, ◌==◌, take, drop, position, option_copied, false};
+ghost use Rattle.std.specs.List.{list_any};
+ghost use Rattle.std.specs.Option.{option_map_or};
+ghost use Rattle.compose_text.specs.Bytes.{is_blank};
+ghost use Rattle.compose_read.specs.Visits.{raw_include};
+ghost use Rattle.compose_lint.specs.FileLines as words;
+
+use crate::lines::LintLine;
+use crate::production::{Production, production_of};
+use arrayvec::ArrayVec;
+use compose_lex::{Said, lex_line_into};
+
+/// Whether the line reads as a definition or an include. O(bytes).
+fn says_something(line: &[u8]) -> bool
+    ensures { result ≡ words.says_something line.now }
+{
+    production_of(line).is_some() || raw_include(line).is_some()
+}
+
+/// The raw text of the line's include, if it is one. O(bytes).
+fn raw_include(line: &[u8]) -> Option<&str>
+    ensures { option_copied result ≡ raw_include line.now }
+{
+    let Ok(text) = str::from_utf8(line) else {
+        return None;
+    };
+    let mut events = ArrayVec::new();
+    match lex_line_into(text, &mut events) {
+        Ok(Said::Include(name)) => Some(name),
+        _ => None,
+    }
+}
+
+/// Whether the bytes begin with a UTF-8 byte order mark.
+fn has_mark(bytes: &[u8]) -> bool
+    ensures { result ≡ words.has_mark bytes.now }
+{
+    bytes.starts_with(&[0xef, 0xbb, 0xbf])
+}
+
+/// Whether the line is the first one of these bytes, after a byte order mark. O(bytes of the line).
+pub(crate) fn is_after_mark(bytes: &[u8], line: &LintLine<'_>) -> bool
+    ensures { result ≡ words.is_after_mark bytes.now line.now }
+{
+    line.line() == 1 && has_mark(bytes) && says_something(line.bytes())
+}
+
+/// Whether the bytes end without a newline.
+fn is_unended(bytes: &[u8]) -> bool
+    ensures { result ≡ words.is_unended bytes.now }
+{
+    match bytes.last() {
+        Some(byte) => *byte != b'\n',
+        None => true,
+    }
+}
+
+/// Whether the line is the last one of these bytes, without a newline. O(bytes of the line).
+pub(crate) fn is_without_newline(bytes: &[u8], lines: usize, line: &LintLine<'_>) -> bool
+    ensures { result ≡ words.is_without_newline bytes.now lines line.now }
+{
+    line.line() == lines && is_unended(bytes) && says_something(line.bytes())
+}
+
+/// Whether the byte begins a string or a comment.
+fn begins_string_or_comment(byte: u8) -> bool
+    ensures { result ≡ words.begins_string_or_comment byte }
+{
+    byte == b'"' || byte == b'#'
+}
+
+/// Where the string or the comment begins, if there is one.
+fn head_end(line: &[u8]) -> Option<usize>
+    ensures { result ≡ position words.begins_string_or_comment line.now }
+{
+    line.iter().position(|byte| begins_string_or_comment(*byte))
+}
+
+/// How many bytes come before the string or the comment.
+fn head_len(line: &[u8]) -> usize
+    ensures { result ≡ words.head_len line.now }
+{
+    match head_end(line) {
+        Some(end) => end,
+        None => line.len(),
+    }
+}
+
+/// Whether a carriage return stands before the string or the comment.
+fn has_return_before(line: &[u8]) -> bool
+    ensures { result ≡ list_any (λ b. b == 13) (take (words.head_len line.now) line.now) }
+{
+    line.iter().take(head_len(line)).any(|byte| *byte == b'\r')
+}
+
+/// Whether a carriage return stands between the string and the comment.
+fn has_return_after(line: &[u8], raw: &str) -> bool
+    ensures { result ≡ list_any (λ b. b == 13) (words.tail line.now raw.now) }
+{
+    line.iter()
+        .skip(head_len(line))
+        .skip(2)
+        .skip(raw.len())
+        .take_while(|byte| **byte != b'#')
+        .any(|byte| *byte == b'\r')
+}
+
+/// Whether a carriage return stands outside of the string and the comment. O(bytes).
+pub(crate) fn has_return(line: &[u8], production: &Production<'_>) -> bool
+    ensures { result ≡ words.has_return line.now production.now }
+{
+    if has_return_before(line) {
+        return true;
+    }
+    match production.raw_text() {
+        Some(raw) => has_return_after(line, raw),
+        None => false,
+    }
+}
+
+/// Whether these bytes are `<` and a blank, or a blank and `>`.
+fn is_spaced(first: u8, second: u8) -> bool
+    ensures { result ≡ words.is_spaced (first, second) }
+{
+    (first == b'<' && is_blank(second)) || (is_blank(first) && second == b'>')
+}
+
+/// Whether the byte is a blank.
+fn is_blank(byte: u8) -> bool
+    ensures { result ≡ is_blank byte }
+{
+    matches!(byte, b' ' | b'\t' | b'\r')
+}
+
+/// Whether a blank stands beside the name of a key. O(bytes).
+pub(crate) fn has_spaced_name(line: &[u8]) -> bool
+    ensures { result ≡ words.has_spaced_name line.now }
+{
+    let head = head_len(line);
+    line.iter()
+        .take(head)
+        .zip(line.iter().take(head).skip(1))
+        .any(|pair| is_spaced(*pair.0, *pair.1))
+}
