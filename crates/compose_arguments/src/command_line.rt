@@ -50,7 +50,7 @@ fn add_arguments<'a>(
     arguments: &mut Vec<Arg<'a>>,
 ) -> Result<(), AllocError> {
     for row in rows {
-        arguments.push(argument_of(alloc, row))?;
+        arguments.push(argument_of(alloc, row)?)?;
     }
     Ok(())
 }
@@ -105,14 +105,19 @@ fn with_default<'a>(option: Arg<'a>, default: Option<&'a str>) -> Arg<'a> {
 }
 
 /// An argument that goes by its place.
-fn argument_of<'a>(alloc: Global, row: &ArgumentRow) -> Arg<'a> {
+fn argument_of<'a>(alloc: Global, row: &ArgumentRow) -> Result<Arg<'a>, AllocError> {
     let argument = Arg::new(alloc, row.name).help(row.help);
     match row.given {
-        Given::Text => argument.required(true),
-        Given::Maybe => argument,
-        Given::Number(range) => argument.required(true).value_parser(number_in(range)),
-        Given::Some => argument.required(true).num_args(1..),
-        Given::Any => argument.num_args(0..),
+        Given::Text => Ok(argument.required(true)),
+        Given::Maybe => Ok(argument),
+        Given::Number(range) => Ok(argument.required(true).value_parser(number_in(range))),
+        Given::TextUnless(option) => argument.required_unless_present(option),
+        Given::NumberUnless(range, option) => {
+            let argument = argument.required_unless_present(option)?;
+            Ok(argument.value_parser(number_in(range)))
+        }
+        Given::Some => Ok(argument.required(true).num_args(1..)),
+        Given::Any => Ok(argument.num_args(0..)),
     }
 }
 

@@ -13,13 +13,14 @@ pub enum CommandName {
     Lint,
     Make,
     Manifest,
+    Update,
     Serve,
     Load,
     Session,
 }
 
 /// All commands, in the order of the program's help.
-pub const COMMANDS: [CommandName; 12] = [
+pub const COMMANDS: [CommandName; 13] = [
     CommandName::Diff,
     CommandName::How,
     CommandName::List,
@@ -29,6 +30,7 @@ pub const COMMANDS: [CommandName; 12] = [
     CommandName::Explain,
     CommandName::Make,
     CommandName::Manifest,
+    CommandName::Update,
     CommandName::Serve,
     CommandName::Load,
     CommandName::Session,
@@ -46,6 +48,7 @@ pub fn row_of(command: CommandName) -> &'static CommandRow {
         CommandName::Lint => &LINT,
         CommandName::Make => &MAKE,
         CommandName::Manifest => &MANIFEST,
+        CommandName::Update => &UPDATE,
         CommandName::Serve => &SERVE,
         CommandName::Load => &LOAD,
         CommandName::Session => &SESSION,
@@ -393,6 +396,42 @@ static MANIFEST: CommandRow = CommandRow {
     }],
 };
 
+/// The command that takes a Compose file into use.
+static UPDATE: CommandRow = CommandRow {
+    name: "update",
+    about: "Take a new Compose file into use, now and at each start of the service, if it changes nobody's typing",
+    after_help: "The table in use is kept in DIR/table, as its sources were when it was taken into use.\nExit status: 0 in use, 1 typing would change, 2 input refused, 3 out of memory\nExample: composecheck update /usr/share/X11/locale/en_US.UTF-8/Compose",
+    options: &[
+        VERBOSE,
+        FRESH,
+        OptionRow {
+            name: "repertoire",
+            letter: None,
+            takes: Takes::Value("FILE"),
+            help: "The characters that people need, and their keys",
+        },
+        OptionRow {
+            name: "state",
+            letter: None,
+            takes: Takes::Value("DIR"),
+            help: "The folder of the table in use in place of $XDG_STATE_HOME/composecheck or ~/.local/state/composecheck",
+        },
+        OptionRow {
+            name: "socket",
+            letter: None,
+            takes: Takes::Value("PATH"),
+            help: "The socket of the running service in place of $XDG_RUNTIME_DIR/composecheck.socket",
+        },
+        SYSTEM,
+        LOCALE,
+    ],
+    arguments: &[ArgumentRow {
+        name: "FILE",
+        given: Given::Text,
+        help: "The new Compose file",
+    }],
+};
+
 /// The command that serves.
 static SERVE: CommandRow = CommandRow {
     name: "serve",
@@ -443,23 +482,33 @@ static SERVE: CommandRow = CommandRow {
             takes: Takes::Nothing,
             help: "Remove the socket's file at the end",
         },
+        OptionRow {
+            name: "state",
+            letter: None,
+            takes: Takes::Value("DIR"),
+            help: "Serve the table that update keeps in DIR, without end: the path of the socket is all that follows",
+        },
     ],
     arguments: &[
         TABLE,
-        REPERTOIRE,
+        ArgumentRow {
+            name: "REPERTOIRE",
+            given: Given::TextUnless("state"),
+            help: "The characters that people need, and their keys",
+        },
         ArgumentRow {
             name: "CERTIFICATE",
-            given: Given::Text,
+            given: Given::TextUnless("state"),
             help: "The certificate of the table against itself",
         },
         ArgumentRow {
             name: "SOCKET",
-            given: Given::Text,
+            given: Given::TextUnless("state"),
             help: "The path of the socket",
         },
         ArgumentRow {
             name: "CONNECTIONS",
-            given: Given::Number(NumberRange::U16(1, u16::MAX)),
+            given: Given::NumberUnless(NumberRange::U16(1, u16::MAX), "state"),
             help: "End after so many connections",
         },
     ],

@@ -20,6 +20,7 @@ mod request;
 mod rows;
 mod serve_arguments;
 mod table_arguments;
+mod update_arguments;
 
 pub use client_arguments::{LoadArguments, SessionArguments};
 pub use diff_arguments::{DiffArguments, DiffColor, DiffForm};
@@ -28,5 +29,6 @@ pub use lint_arguments::LintArguments;
 pub use list_arguments::ListArguments;
 pub use manifest_arguments::ManifestArguments;
 pub use request::{CommandLine, Request, TablePaths, read_command_line};
-pub use serve_arguments::ServeArguments;
+pub use serve_arguments::{ServeArguments, Served};
 pub use table_arguments::TableArguments;
+pub use update_arguments::UpdateArguments;

@@ -7,10 +7,11 @@ use crate::client_arguments::{LoadArguments, SessionArguments, load_arguments, s
 use crate::command_line::command_line;
 use crate::diff_arguments::{DiffArguments, diff_arguments};
 use crate::how_arguments::{HowArguments, how_arguments};
-use crate::list_arguments::{ListArguments, list_arguments};
 use crate::lint_arguments::{LintArguments, lint_arguments};
+use crate::list_arguments::{ListArguments, list_arguments};
 use crate::manifest_arguments::{ManifestArguments, manifest_arguments};
 use crate::serve_arguments::{ServeArguments, serve_arguments};
+use crate::update_arguments::{UpdateArguments, update_arguments};
 use clap::error::ErrorKind;
 use clap::{ArgMatches, Command, Error};
 use std::alloc::{AllocError, Global};
@@ -70,6 +71,12 @@ pub enum Request<'a> {
     },
     /// Print the manifest of a Compose file.
     Manifest(ManifestArguments<'a>),
+    /// Take a Compose file into use.
+    Update {
+        arguments: UpdateArguments<'a>,
+        /// The names of `--fresh` between commas.
+        fresh: Vec<&'a str>,
+    },
     /// Serve typing sessions on a socket.
     Serve(ServeArguments<'a>),
     /// Load a table into a running service.
@@ -168,6 +175,7 @@ fn request_of<'a>(
         "lint" => Ok(lint_arguments(alloc, given)?.map(Request::Lint)),
         "make" => make_request(alloc, given),
         "session" => session_request(alloc, given),
+        "update" => update_request(alloc, given),
         _ => Ok(request_without_lists(command, given)),
     }
 }
@@ -274,6 +282,20 @@ fn how_request<'a>(
     Ok(Some(Request::How {
         arguments: how_arguments(given),
         texts: Vec::from_slice(alloc, texts)?,
+    }))
+}
+
+/// The arguments of `update`.
+fn update_request<'a>(
+    alloc: Global,
+    given: &ArgMatches<'a>,
+) -> Result<Option<Request<'a>>, AllocError> {
+    let Some(arguments) = update_arguments(given) else {
+        return Ok(None);
+    };
+    Ok(Some(Request::Update {
+        arguments,
+        fresh: fresh_names(alloc, given)?,
     }))
 }
 

@@ -74,6 +74,10 @@ pub enum Given {
     Maybe,
     /// A number.
     Number(NumberRange),
+    /// A text, which may be left out with the option of this name.
+    TextUnless(&'static str),
+    /// A number, which may be left out with the option of this name.
+    NumberUnless(NumberRange, &'static str),
     /// All texts that are left, at least one.
     Some,
     /// All texts that are left, if any.

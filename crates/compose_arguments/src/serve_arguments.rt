@@ -1,19 +1,30 @@
 //! What `serve` asks for.
 use clap::ArgMatches;
 
+/// What a service begins with.
+#[derive(Clone, Copy)]
+pub enum Served<'a> {
+    /// The paths of a table's manifest, of the repertoire, and of the certificate of the table against itself.
+    Files {
+        table: &'a str,
+        repertoire: &'a str,
+        certificate: &'a str,
+    },
+    /// The table that `update` keeps in the folder at this path.
+    State {
+        folder: &'a str,
+    },
+}
+
 /// The arguments of `serve`.
 #[derive(Clone, Copy)]
 pub struct ServeArguments<'a> {
-    /// The path of the table's manifest.
-    pub table: &'a str,
-    /// The path of the repertoire.
-    pub repertoire: &'a str,
-    /// The path of the certificate of the table against itself.
-    pub certificate: &'a str,
+    /// What the service begins with.
+    pub served: Served<'a>,
     /// The path of the socket.
     pub socket: &'a str,
     /// After how many connections it ends, at least 1.
-    pub connections: u16,
+    pub connections: u32,
     /// How many connections are served at once, 1 to 1,024; one after another where it is not given.
     pub at_once: Option<u16>,
     /// How many bytes of replies may be unsent on a connection that is served beside others, at least 1.
@@ -28,13 +39,11 @@ pub struct ServeArguments<'a> {
 
 /// The arguments of `serve`, if they are all there.
 pub fn serve_arguments<'a>(given: &ArgMatches<'a>) -> Option<ServeArguments<'a>> {
-    let (table, repertoire, certificate, socket) = serve_paths(given)?;
+    let (served, socket) = served_on(given)?;
     Some(ServeArguments {
-        table,
-        repertoire,
-        certificate,
+        served,
         socket,
-        connections: given.get_one::<u16>("CONNECTIONS")?,
+        connections: connections_of(given)?,
         at_once: given.get_one::<u16>("at-once"),
         unsent: given.get_one::<u32>("unsent")?,
         mode: mode_of(given.get_str("mode")?),
@@ -43,14 +52,26 @@ pub fn serve_arguments<'a>(given: &ArgMatches<'a>) -> Option<ServeArguments<'a>>
     })
 }
 
-/// The paths of the table, the repertoire, the certificate and the socket.
-fn serve_paths<'a>(given: &ArgMatches<'a>) -> Option<(&'a str, &'a str, &'a str, &'a str)> {
-    Some((
-        given.get_str("TABLE")?,
-        given.get_str("REPERTOIRE")?,
-        given.get_str("CERTIFICATE")?,
-        given.get_str("SOCKET")?,
-    ))
+/// What is served, and the path of the socket, which is the first word after `--state`.
+fn served_on<'a>(given: &ArgMatches<'a>) -> Option<(Served<'a>, &'a str)> {
+    let first = given.get_str("TABLE")?;
+    if let Some(folder) = given.get_str("state") {
+        return Some((Served::State { folder }, first));
+    }
+    let files = Served::Files {
+        table: first,
+        repertoire: given.get_str("REPERTOIRE")?,
+        certificate: given.get_str("CERTIFICATE")?,
+    };
+    Some((files, given.get_str("SOCKET")?))
+}
+
+/// After how many connections the service ends; with `--state` it goes on, for four billion connections.
+fn connections_of(given: &ArgMatches<'_>) -> Option<u32> {
+    if given.get_str("state").is_some() {
+        return Some(u32::MAX);
+    }
+    Some(u32::from(given.get_one::<u16>("CONNECTIONS")?))
 }
 
 /// The mode that an argument of `--mode` says.

@@ -64,7 +64,7 @@ pub fn serve_many<S: Answer>(
     };
     let limits = Limits {
         at_once: usize::from(at_once),
-        connections: u32::from(arguments.connections),
+        connections: arguments.connections,
         unsent: arguments.unsent as usize,
     };
     let served = poll_all(rt, listener, service, limits, &mut lines);

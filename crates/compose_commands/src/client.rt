@@ -30,8 +30,18 @@ pub fn load_files<F: Folder>(
 ) -> Result<Outcome, Fault> {
     let table = TableFiles::listed(files, rt.alloc(), "new", arguments.new)?;
     let certificate = read_text(files, rt.alloc(), arguments.certificate)?;
-    let request = request_to_load(rt.alloc(), &table, &certificate)?;
-    exchange_unnamed(rt, arguments.socket, &request)
+    load_outcome(rt, arguments.socket, &table, &certificate)
+}
+
+/// Loads this table into the service on the socket, by the certificate.
+pub fn load_outcome(
+    rt: &(impl Net + AllocGlobal),
+    socket: &str,
+    table: &TableFiles,
+    certificate: &[u8],
+) -> Result<Outcome, Fault> {
+    let request = request_to_load(rt.alloc(), table, certificate)?;
+    exchange_unnamed(rt, socket, &request)
 }
 
 /// The request that loads a new table by its certificate.

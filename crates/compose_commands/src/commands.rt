@@ -4,24 +4,27 @@ use crate::client::{load_files, session_files};
 use crate::environment::read_environment;
 use crate::output::put;
 use crate::serving::serve_files;
+use crate::updating::update_files;
 use compose_answer::Ended;
 use compose_arguments::{
-    CommandLine, DiffArguments, HowArguments, LintArguments, ListArguments, ManifestArguments, Request,
+    CommandLine, DiffArguments, HowArguments, LintArguments, ListArguments, ManifestArguments,
+    Request,
 };
 use compose_folder::{Folder, ReadOnce};
 use compose_input::Fault;
 use compose_report::Outcome;
 use compose_runs::{
-    CheckPaths, MakeOptions, Options, run_check, run_diff, run_explain, run_how, run_lint, run_list,
-    run_make, run_manifest, run_type,
+    CheckPaths, MakeOptions, Options, run_check, run_diff, run_explain, run_how, run_lint,
+    run_list, run_make, run_manifest, run_type,
 };
 use compose_tree::ComposeTable;
+use std::fs::File;
 use std::net::Net;
 use std::rt::{Env, Files};
 
 /// Does what is asked for. An error is why what it was given can't be read, or is refused.
 pub fn answer<T: ComposeTable, F: Folder>(
-    rt: &(impl Env + Files + Net + Print + Eprint + AllocGlobal),
+    rt: &(impl Env + Files<File = File> + Net + Print + Eprint + AllocGlobal),
     files: &mut ReadOnce<F>,
     process_id: u32,
     is_terminal: bool,
@@ -87,7 +90,11 @@ pub fn answer<T: ComposeTable, F: Folder>(
             )
         }
         Request::Lint(arguments) => {
-            put(rt, verbose, lint(rt, files, is_terminal, options, arguments))
+            put(
+                rt,
+                verbose,
+                lint(rt, files, is_terminal, options, arguments),
+            )
         }
         Request::Make {
             tables,
@@ -110,6 +117,9 @@ pub fn answer<T: ComposeTable, F: Folder>(
         }
         Request::Manifest(arguments) => {
             put(rt, verbose, manifest(rt, files, is_terminal, arguments))
+        }
+        Request::Update { arguments, fresh } => {
+            update_files::<T, F>(rt, files, verbose, arguments, fresh)
         }
         Request::Serve(arguments) => {
             serve_files::<T, F>(rt, files, options, process_id, arguments)

@@ -32,3 +32,12 @@ fn variable(rt: &(impl Env + AllocGlobal), name: &str) -> Result<Variable, Fault
         Err(VarError::OutOfMemory) => Err(Fault::NoMemory),
     }
 }
+
+/// What a variable of the environment is set to, if it is set to something.
+pub fn variable_text(rt: &(impl Env + AllocGlobal), name: &str) -> Result<Option<String>, Fault> {
+    match variable(rt, name)? {
+        Variable::Set(text) if !text.is_empty() => Ok(Some(text)),
+        Variable::Set(_) | Variable::Unset => Ok(None),
+        Variable::NotUtf8 => Err(Fault::Word),
+    }
+}

@@ -16,5 +16,7 @@ mod environment;
 mod output;
 mod program;
 mod serving;
+mod state_folder;
+mod updating;
 
 pub use program::run;

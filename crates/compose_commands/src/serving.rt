@@ -3,10 +3,13 @@
 use crate::at_once::{print_end, serve_many};
 use crate::output::put;
 use compose_answer::{Answer, Ended, Refusal};
-use compose_arguments::ServeArguments;
+use compose_arguments::{ServeArguments, Served};
+use compose_bundle::{BundleFault, read_bundle};
 use compose_details::{Given, GivenTable};
 use compose_folder::{Folder, ReadOnce};
 use compose_input::{Fault, NameFiles, TableFiles, read_text};
+use compose_model::Rule;
+use compose_read::Sources;
 use compose_report::{Outcome, outcome_of, outcome_with, written};
 use compose_runs::Options;
 use compose_serve::{Device, serve};
@@ -84,16 +87,47 @@ impl<'n> ServiceFiles<'n> {
         names: &[&'n str],
         arguments: &ServeArguments<'_>,
     ) -> Result<ServiceFiles<'n>, Fault> {
-        let names = NameFiles::read(files, alloc, names)?;
-        let table = TableFiles::listed(files, alloc, "table", arguments.table)?;
-        let repertoire = read_text(files, alloc, arguments.repertoire)?;
-        let certificate = read_text(files, alloc, arguments.certificate)?;
-        Ok(ServiceFiles {
-            names,
-            table,
-            repertoire,
-            certificate,
-        })
+        match arguments.served {
+            Served::Files {
+                table,
+                repertoire,
+                certificate,
+            } => {
+                let names = NameFiles::read(files, alloc, names)?;
+                let table = TableFiles::listed(files, alloc, "table", table)?;
+                let repertoire = read_text(files, alloc, repertoire)?;
+                let certificate = read_text(files, alloc, certificate)?;
+                Ok(ServiceFiles {
+                    names,
+                    table,
+                    repertoire,
+                    certificate,
+                })
+            }
+            Served::State { folder } => ServiceFiles::kept(files, alloc, folder),
+        }
+    }
+
+    /// Reads the table that `update` keeps in the folder at this path, with the names that are built in and an empty repertoire.
+    fn kept<F: Folder>(
+        files: &mut ReadOnce<F>,
+        alloc: Global,
+        folder: &str,
+    ) -> Result<ServiceFiles<'n>, Fault> {
+        let builtin: &'n str = "builtin";
+        let names = NameFiles::read(files, alloc, &[builtin])?;
+        let path = format!(in alloc; "{folder}/table")?;
+        let bytes = read_text(files, alloc, &path)?;
+        match read_bundle(alloc, &bytes) {
+            Ok(bundle) => Ok(ServiceFiles {
+                names,
+                table: kept_table(alloc, path, bundle.sources)?,
+                repertoire: Vec::new(alloc),
+                certificate: Vec::from_slice(alloc, bundle.certificate)?,
+            }),
+            Err(BundleFault::NoMemory) => Err(Fault::NoMemory),
+            Err(fault) => Err(Fault::refused("state", format!(in alloc; "{path}: {fault}"))),
+        }
     }
 
     /// The service that begins with them.
@@ -106,6 +140,33 @@ impl<'n> ServiceFiles<'n> {
             certificate: &self.certificate,
         };
         begin::<T>(alloc, &input, sources)
+    }
+}
+
+/// A table that is kept at this path, whose sources are called as they were when it was taken into use.
+fn kept_table(alloc: Global, path: String, sources: Sources) -> Result<TableFiles, AllocError> {
+    let mut paths = Vec::new(alloc);
+    for index in 0..sources.count() {
+        paths.push(String::from_str(alloc, sources.name(index).unwrap_or(""))?)?;
+    }
+    Ok(TableFiles {
+        path,
+        paths,
+        sources,
+        rule: Rule::Longest,
+        note: String::new(alloc),
+    })
+}
+
+/// The paths of the repertoire and of the certificate; those of a table that is kept are in its own file.
+fn other_paths<'a>(served: &Served<'a>) -> (&'a str, &'a str) {
+    match served {
+        Served::Files {
+            repertoire,
+            certificate,
+            ..
+        } => (*repertoire, *certificate),
+        Served::State { folder } => (*folder, *folder),
     }
 }
 
@@ -141,13 +202,14 @@ fn detailed_outcome<T: ComposeTable>(
     fault: BeginFault,
 ) -> Result<Outcome, AllocError> {
     let table = GivenTable::of(&files.table);
+    let (repertoire, certificate) = other_paths(&arguments.served);
     let given = Given {
         headers: &files.names.files,
         header: &files.names.lines,
         arguments: &[],
         tables: &[table, table],
-        repertoire: arguments.repertoire,
-        certificate: arguments.certificate,
+        repertoire,
+        certificate,
         certificate_text: &files.certificate,
         all: false,
     };
@@ -187,7 +249,7 @@ fn serve_connections<T: ComposeTable>(
     service: &mut Service<T>,
     arguments: &ServeArguments<'_>,
 ) -> Result<Ended, Fault> {
-    for number in 1..=u32::from(arguments.connections) {
+    for number in 1..=arguments.connections {
         let Ok((stream, _)) = listener.accept() else {
             return Err(refused_socket(rt.alloc(), arguments));
         };

@@ -10,3 +10,4 @@ pub mod OneTable
 pub mod Manifest
 pub mod DiffFiles
 pub mod Differing
+pub mod Updating

@@ -22,6 +22,7 @@ mod manifest;
 mod one_table;
 mod options;
 mod typing;
+mod updating;
 
 pub use checking::{CheckPaths, run_check};
 pub use differing::run_diff;
@@ -33,3 +34,4 @@ pub use making::{MakeOptions, run_make};
 pub use manifest::run_manifest;
 pub use options::Options;
 pub use typing::run_type;
+pub use updating::{UpdateFiles, UpdateRun, run_update};

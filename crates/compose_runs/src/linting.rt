@@ -32,7 +32,10 @@ pub fn run_lint<F: Folder>(
     for file in &arguments.files {
         let table = TableFiles::found(files, alloc, places, file, Rule::Longest)?;
         let answered = lint_answer(alloc, &names, &table, readers);
-        add_outcome(&mut outcome, outcome_with(alloc, &[], answered, String::new(alloc))?)?;
+        add_outcome(
+            &mut outcome,
+            outcome_with(alloc, &[], answered, String::new(alloc))?,
+        )?;
     }
     Ok(outcome)
 }
