@@ -160,11 +160,10 @@ def rows_in_order(rows):
 
 
 def counts_of(rows, accepted=0):
-    """The last line. Accepted ones are counted apart, and each lost text once."""
-    lost = len({it["old"] for it in rows if it["change"] in LOSSES and it["now"] is None})
+    """The last line. Accepted ones are counted apart."""
     count = lambda what: sum(1 for it in rows if it["change"] == what)
     starts = count("new start")
-    return f"diff: {count('kept')} kept, {count('changed')} changed, {count('waiting')} waiting, {count('removed')} removed, {starts} new start{'' if starts == 1 else 's'}, {count('added')} added, {accepted} accepted, {lost} text{'' if lost == 1 else 's'} lost"
+    return f"diff: {count('kept')} kept, {count('changed')} changed, {count('waiting')} waiting, {count('removed')} removed, {starts} new start{'' if starts == 1 else 's'}, {count('added')} added, {accepted} accepted"
 
 
 class Trial:

@@ -18,12 +18,12 @@ use Rattle.compose_diff.specs.declared.row.DiffRow.{DiffRow}
 use Rattle.compose_diff.specs.declared.counts.Counts.{Counts}
 use Rattle.compose_diff.specs.declared.row.NewSequence.{NewSequence}
 use Rattle.compose_diff.specs.Line.{keys_text, keys_part, text_part, path_part, place_part, places_text, sequence_part, is_loss, typed_part, now_part, row_end, row_text, row_line}
-use Rattle.compose_diff.specs.Counts.{counts_of, starts_word, texts_word, counts_line}
+use Rattle.compose_diff.specs.Counts.{counts_of, starts_word, counts_line}
 use Rattle.compose_diff.specs.Runs.{fold_keys, runs_by}
 use Rattle.compose_diff.specs.Causes.{cause_line}
 use Rattle.compose_diff.specs.Folds.{texts_part, fold_line, row_lines, run_lines, told, Telling, run, cause, telling_lines, part_tellings, part_lines}
 use Rattle.compose_diff.specs.declared.runs.Division.TheVariants.{Sources}
-use Rattle.compose_diff.specs.Lost.{shown_rows, lost_text_count}
+use Rattle.compose_diff.specs.Lost.{shown_rows}
 use Rattle.compose_diff.specs.Told.{lines_text, answer_text}
 use Rattle.compose_diff.specs.declared.answer.Printed.{Printed}
 use Rattle.compose_diff.specs.Colors.{begins_with_word, colored_lines, uncolored_from, uncolored}
@@ -152,13 +152,6 @@ starts_plain n = by (n == 1)
     by true = refl
     by false = refl
 
-texts_plain : (n : ℕ) → ArePlain (texts_word n)
-texts_plain n = by (n == 1)
-  where
-    by : (t : Bool) → ArePlain (if t then codes " text lost" else codes " texts lost")
-    by true = refl
-    by false = refl
-
 counts_lined : (counts : Counts) → Lined (counts_line counts)
 counts_lined counts =
     one_lined (counts_line counts)
@@ -168,9 +161,7 @@ counts_lined counts =
     (number (codes " waiting, ") refl counts.removed _
     (number (codes " removed, ") refl counts.new_starts _
     (behind (starts_word counts.new_starts) _ (starts_plain counts.new_starts)
-    (number (codes ", ") refl counts.added _ (number (codes " added, ") refl counts.accepted _
-    (number (codes " accepted, ") refl counts.lost _
-    (behind (texts_word counts.lost) _ (texts_plain counts.lost) newline))))))))))
+    (number (codes ", ") refl counts.added _ (number (codes " added, ") refl counts.accepted _ (record { line = codes " accepted"; plain = refl; is = refl })))))))))
 
 rows_lined : (folds : Bool) (rows shown : List DiffRow) → Lined (lines_text folds rows shown)
 rows_lined true rows shown = all_lined (part_lines rows) (runs_by Sources (told shown)) (λ part. all_lined telling_lines (part_tellings rows part) telling_lined)
@@ -179,7 +170,7 @@ rows_lined false rows shown = all_lined row_line (told shown) row_lined
 answer_lined : (printed : Printed) (rows left : List DiffRow) → Lined (answer_text printed rows left)
 answer_lined printed rows left =
     both_lined (lines_text printed.folds rows (shown_rows printed.lost_alone left)) _ (rows_lined printed.folds rows (shown_rows printed.lost_alone left))
-    (counts_lined (counts_of left (length rows - length left) (lost_text_count left)))
+    (counts_lined (counts_of left (length rows - length left)))
 
 -- ---- divided into lines
 

@@ -2,7 +2,6 @@ mod Examples
 pub mod AcceptAgain
 pub mod Colored
 pub mod Concat
-pub mod Distinct
 pub mod Found
 pub mod Gone
 pub mod Plain

@@ -8,7 +8,7 @@ use Rattle.compose_diff.specs.declared.accepted.AcceptFault.TheVariants.{Stale, 
 use Rattle.compose_diff.specs.Accepted.{Line, left_of}
 use Rattle.compose_diff.specs.Counts.{counts_of, counts_line, loses_nothing}
 use Rattle.compose_diff.specs.Folds.{diff_lines, folded_lines}
-use Rattle.compose_diff.specs.Lost.{shown_rows, lost_text_count}
+use Rattle.compose_diff.specs.Lost.{shown_rows}
 use Rattle.compose_diff.specs.declared.answer.Printed.{Printed}
 
 -- the lines of the rows that are shown of all rows
@@ -17,7 +17,7 @@ lines_text folds rows shown = if folds then folded_lines rows shown else diff_li
 
 -- the lines of the rows that are shown of those that are not accepted, and the line of the counts
 abbrev pub answer_text : Printed → List DiffRow → List DiffRow → List ℕ
-answer_text printed rows left = lines_text printed.folds rows (shown_rows printed.lost_alone left) ++ counts_line (counts_of left (length rows - length left) (lost_text_count left))
+answer_text printed rows left = lines_text printed.folds rows (shown_rows printed.lost_alone left) ++ counts_line (counts_of left (length rows - length left))
 
 -- yes where nobody meets any of these rows, else no, with that text
 abbrev pub IsAnswer : Printed → List DiffRow → List DiffRow → Answer → Type 0

@@ -7,7 +7,7 @@ ghost use Rattle.compose_diff.specs.Told.{Tells};
 use crate::accepted::{AcceptFault, Accepted};
 use crate::counts::{Counts, loses_nothing};
 use crate::fold::{diff_text, folded_text};
-use crate::lost::{lost_rows, lost_text_count};
+use crate::lost::lost_rows;
 use crate::row::DiffRow;
 use compose_answer::Answer;
 use std::alloc::{AllocError, Global};
@@ -67,8 +67,7 @@ fn answer_text(
     ensures { IfOk result (λ text. string_bytes text ≡ words.answer_text printed rows.now left.now) }
 {
     let mut text = shown_text(alloc, rows, left, printed)?;
-    let accepted = rows.len().saturating_sub(left.len());
-    let counts = Counts::of(left, accepted, lost_text_count(alloc, left)?);
+    let counts = Counts::of(left, rows.len().saturating_sub(left.len()));
     write!(text, "{counts}")?;
     Ok(text)
 }

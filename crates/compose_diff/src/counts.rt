@@ -8,7 +8,7 @@ use compose_compare::Change;
 use std::fmt;
 
 /// How often each thing happens, printed as
-/// `diff: 5205 kept, 3 changed, 0 waiting, 298 removed, 0 new starts, 12 added, 2 accepted, 4 texts lost` and a newline.
+/// `diff: 5205 kept, 3 changed, 0 waiting, 298 removed, 0 new starts, 12 added, 2 accepted` and a newline.
 #[derive(Clone, Copy, Debug, PartialEq, Eq, Drop)]
 pub struct Counts {
     pub kept: usize,
@@ -19,14 +19,12 @@ pub struct Counts {
     pub added: usize,
     /// How many rows are accepted, and in none of the other counts.
     pub accepted: usize,
-    /// How many texts no sequence of the new table gives any more.
-    pub lost: usize,
 }
 
 impl Counts {
-    /// The counts of the rows that are not accepted, of how many are, and of the texts that are lost. O(rows).
-    pub fn of(rows: &[DiffRow], accepted: usize, lost: usize) -> Counts
-        ensures { result ≡ words.counts_of rows.now accepted lost }
+    /// The counts of the rows that are not accepted, beside so many that are. O(rows).
+    pub fn of(rows: &[DiffRow], accepted: usize) -> Counts
+        ensures { result ≡ words.counts_of rows.now accepted }
     {
         Counts {
             kept: count_of(rows, Change::Kept),
@@ -36,7 +34,6 @@ impl Counts {
             new_starts: count_of(rows, Change::NewStart),
             added: count_of(rows, Change::Added),
             accepted,
-            lost,
         }
     }
 }
@@ -53,19 +50,16 @@ impl fmt::Display for Counts {
             new_starts,
             added,
             accepted,
-            lost,
         } = *self;
         write!(
             f,
             "diff: {kept} kept, {changed} changed, {waiting} waiting, {removed} removed, "
         )?;
         let starts = starts_word(new_starts);
-        let texts = texts_word(lost);
         write!(
             f,
-            "{new_starts}{starts}, {added} added, {accepted} accepted, "
-        )?;
-        write!(f, "{lost}{texts}\n")
+            "{new_starts}{starts}, {added} added, {accepted} accepted\n"
+        )
     }
 }
 
@@ -77,17 +71,6 @@ fn starts_word(count: usize) -> &'static str
         " new start"
     } else {
         " new starts"
-    }
-}
-
-/// The words after the number of lost texts, after a blank.
-fn texts_word(count: usize) -> &'static str
-    ensures { result.now ≡ words.texts_word count }
-{
-    if count == 1 {
-        " text lost"
-    } else {
-        " texts lost"
     }
 }
 

@@ -44,7 +44,7 @@ pub use counts::{Counts, loses_nothing};
 pub use fold::{diff_text, folded_text};
 pub use json::json_text;
 pub use line::is_loss;
-pub use lost::{is_lost, lost_rows, lost_text_count};
+pub use lost::{is_lost, lost_rows};
 pub use order::sort_rows;
 pub use row::{DiffRow, Entry, NewSequence};
 

@@ -1,5 +1,5 @@
 //! Rows whose old text no sequence of the new table gives.
-ghost use Rattle.std.specs.Prelude.{◌≡◌, map, IfOk};
+ghost use Rattle.std.specs.Prelude.{◌≡◌, IfOk};
 ghost use Rattle.compose_diff.specs.Lost as words;
 
 use crate::line::is_loss;
@@ -27,45 +27,4 @@ pub fn lost_rows<'r>(
         }
     }
     Ok(lost)
-}
-
-/// How many texts no sequence of the new table gives any more, each counted once. O(bytes of the lost texts × log of their number).
-pub fn lost_text_count(alloc: Global, rows: &[DiffRow]) -> Result<usize, AllocError>
-    ensures { IfOk result (λ count. count ≡ words.lost_text_count rows.now) }
-{
-    let mut texts = lost_texts(alloc, rows)?;
-    texts.sort()?;
-    texts.dedup();
-    Ok(texts.len())
-}
-
-/// The old text of each row whose text is lost.
-fn lost_texts<'r>(alloc: Global, rows: &[DiffRow<'r>]) -> Result<Vec<&'r str>, AllocError>
-    ensures { IfOk result
-        (λ texts. map (λ text. text.now) texts.items ≡ words.lost_texts rows.now) }
-{
-    let lost = lost_rows(alloc, rows)?;
-    old_texts(alloc, &lost)
-}
-
-/// The old text of each row.
-fn old_texts<'r>(alloc: Global, rows: &[DiffRow<'r>]) -> Result<Vec<&'r str>, AllocError>
-    ensures { IfOk result
-        (λ texts. map (λ text. text.now) texts.items ≡ map words.old_text rows.now) }
-{
-    let mut texts = Vec::new(alloc);
-    for row in rows {
-        texts.push(old_text(row))?;
-    }
-    Ok(texts)
-}
-
-/// The text of a row in the old table; an empty one if the old table doesn't have it.
-fn old_text<'r>(row: &DiffRow<'r>) -> &'r str
-    ensures { result.now ≡ words.old_text row.now }
-{
-    match &row.old {
-        Some(entry) => entry.text,
-        None => "",
-    }
 }

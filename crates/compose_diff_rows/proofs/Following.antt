@@ -197,7 +197,8 @@ module _ (asked : Asked) (e : Explainable) where
   rows_pass lines rows are =
       ap (list_all (passes lines)) are.both ∙ list_all-append (passes lines) are.told are.kept
       ∙ ap₂ (λ a b. a && b) (by_value are.told)
-      (by_value are.kept ∙ ap (list_all passes_here) are.others ∙ kept_pass e.move.names e.fresh old new (tells_kept asked.form) lines _)
+      (by_value are.kept ∙ ap (list_all passes_here) are.others ∙ kept_pass e.move.names e.fresh old new (tells_kept asked.form) lines
+      (filter (λ s. not (is_told_of (tells_kept asked.form) e.move.names e.fresh old.table new.table s)) (leaves old.table)))
       ∙ and_true (list_all passes_here (map told_row are.told))
     where
       passes_here : ToldRow → Bool

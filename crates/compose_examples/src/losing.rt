@@ -4,7 +4,7 @@ use compose_compare::Change;
 use compose_diff::{
     AcceptFault, Accepted, Counts, DiffRow, Entry, NewSequence, Printed, accept_text, answer_diff,
     colored_text, diff_text, folded_text, is_loss, is_lost, json_text, loses_nothing, lost_rows,
-    lost_text_count, sort_rows,
+    sort_rows,
 };
 use std::alloc::Global;
 use std::test::Fail;
@@ -113,10 +113,10 @@ fn rows_are_told_in_groups(rt: HostRuntime) -> Result<(), Fail> {
 
 #[test]
 fn rows_are_counted(rt: HostRuntime) -> Result<(), Fail> {
-    let counts = Counts::of(&each(), 2, 1);
+    let counts = Counts::of(&each(), 2);
     assert_eq!(rt;
         format!(in rt.alloc(); "{counts}")?.as_str(),
-        "diff: 1 kept, 1 changed, 1 waiting, 1 removed, 1 new start, 1 added, 2 accepted, 1 text lost\n"
+        "diff: 1 kept, 1 changed, 1 waiting, 1 removed, 1 new start, 1 added, 2 accepted\n"
     );
     assert!(rt; !loses_nothing(&each()));
     assert!(rt; loses_nothing(&each()[..2]));
@@ -252,10 +252,10 @@ fn answer(alloc: Global, lines: &str) -> Result<Answer, Fail> {
 fn accepted_rows_are_counted_apart(rt: HostRuntime) -> Result<(), Fail> {
     let yes = String::from_str(
         rt.alloc(),
-        "added: <Multi_key> <a> <b> \"x\" NEW:8\ndiff: 1 kept, 0 changed, 0 waiting, 0 removed, 0 new starts, 1 added, 4 accepted, 0 texts lost\n",
+        "added: <Multi_key> <a> <b> \"x\" NEW:8\ndiff: 1 kept, 0 changed, 0 waiting, 0 removed, 0 new starts, 1 added, 4 accepted\n",
     )?;
     assert_eq!(rt; answer(rt.alloc(), TO_ACCEPT)?, Answer::Yes(yes));
-    let counts = Counts::of(&each(), 0, 2);
+    let counts = Counts::of(&each(), 0);
     let no = format!(in rt.alloc(); "{EACH}{counts}")?;
     assert_eq!(rt; answer(rt.alloc(), "")?, Answer::No(no));
     Ok(())
@@ -270,9 +270,6 @@ fn lost_rows_are_printed_alone(rt: HostRuntime) -> Result<(), Fail> {
     assert!(rt; !is_lost(&rows[3]));
     assert!(rt; is_loss(Change::Changed));
     assert!(rt; !is_loss(Change::NewStart));
-    assert_eq!(rt; lost_text_count(rt.alloc(), &rows)?, 2);
-    assert_eq!(rt; lost_text_count(rt.alloc(), &run()[1..3])?, 2);
-    assert_eq!(rt; lost_text_count(rt.alloc(), &missing()[..3])?, 1);
     let lost = lost_rows(rt.alloc(), &rows)?;
     let lines = "waiting: <a> <b> \"\\\"\" OLD:3 now: none\nremoved: <Multi_key> <parenleft> <1> \"①\" OLD:9 now: none\n";
     assert_eq!(rt; diff_text(rt.alloc(), &lost)?.as_str(), lines);
@@ -281,7 +278,7 @@ fn lost_rows_are_printed_alone(rt: HostRuntime) -> Result<(), Fail> {
         lost_alone: true,
     };
     let accepted = Accepted::read(rt.alloc(), b"")?;
-    let counts = Counts::of(&rows, 0, 2);
+    let counts = Counts::of(&rows, 0);
     let no = format!(in rt.alloc(); "{lines}{counts}")?;
     assert_eq!(rt; answer_diff(rt.alloc(), &rows, &accepted, printed)?, Answer::No(no));
     Ok(())

@@ -1,6 +1,0 @@
-use Rattle.std.proofs.Common.{◌≡◌, map, take}
-use Rattle.compose_diff.specs.Lost.{old_text}
-use Rattle.compose_diff.proofs.lost.old_texts.Given as goal
-
-abbrev pub invariant-loop-row : goal.invariant-loop-row
-invariant-loop-row l = map (λ text. text.now) l.texts.items ≡ map old_text (take l.row-index l.rows)
