@@ -143,7 +143,7 @@ class Trees:
         settings = {"COMPOSECHECK": program, "ACCEPTED": prefix + accepted, "RAWCPP": preprocessor, "XLOCALEDIR": "/nowhere"}
         settings = {**os.environ, **settings, "TMPDIR": os.path.join(self.room, "temporary [files]")}
         words = ["sh", SCRIPT, prefix + old, f"{prefix}new tree", *options]
-        ran = subprocess.run(words, cwd=self.room, env=settings, capture_output=True, text=True, timeout=60)
+        ran = subprocess.run(words, cwd=self.room, env=settings, capture_output=True, text=True, timeout=300)
         return ran.stdout.replace(self.room, "ROOM"), ran.stderr, ran.returncode
 
     def answer(self, program, **where):
@@ -215,7 +215,7 @@ def check_program(program, results):
 def check_output(program, results):
     """A report that can't be written is no answer, though nothing changes."""
     with Trees(OLD, OLD, {}) as trees, open("/dev/full", "w", encoding="utf-8") as full:
-        ran = subprocess.run(["sh", SCRIPT, "old tree", "new tree"], cwd=trees.room, env={**os.environ, "COMPOSECHECK": program}, stdout=full, stderr=subprocess.DEVNULL, timeout=60)
+        ran = subprocess.run(["sh", SCRIPT, "old tree", "new tree"], cwd=trees.room, env={**os.environ, "COMPOSECHECK": program}, stdout=full, stderr=subprocess.DEVNULL, timeout=300)
         results.expect("a report that can't be written", ran.returncode, 2)
 
 

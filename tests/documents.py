@@ -7,7 +7,9 @@
   - each crate, file, target of make and option that a document names exists, and so does each fault of FORMATS, PROTOCOL and the manual,
     under its number, and each limit among the numbers of the crates' sources,
   - README has at most 9,216 bytes, and the version of the program is that of README, CHANGELOG and the manual,
-  - lines of code in CONTRIBUTING stand in the sources, and no document cites a paper or a numbered issue.
+  - lines of code in CONTRIBUTING stand in the sources, and no document cites a paper or a numbered issue,
+  - in some documents no line has more than 100 columns but in tables and code (tools/wrap.py breaks them), and words that are no plain English for
+    a stranger aren't used.
 
 The last line is `N passed, M failed`."""
 import glob
@@ -18,6 +20,10 @@ import sys
 TOP = os.path.abspath(sys.argv[1]) if len(sys.argv) > 1 else os.path.dirname(os.path.dirname(os.path.abspath(__file__)))
 MOST_README = 9216
 MANUALS = ["docs/composecheck.1", "docs/composecheck.5"]
+# Documents that are wrapped, and what they don't say.
+WRAPPED = ["README.md", "CONTRIBUTING.md", "tests/README.md", "docs/GUIDE.md", "docs/GATE.md"]
+MOST_COLUMNS = 100
+RETIRED = re.compile(r"\b(?:told|tells?|so many|behind|as it stands)\b", re.I)
 # Documents whose numbers with a thousands' comma are limits of the program.
 WITH_LIMITS = ["README.md", "docs/FORMATS.md", "docs/GUIDE.md", "docs/PROTOCOL.md", "docs/SERVICE.md", *MANUALS]
 # Options of other programs stand in commands that begin so.
@@ -256,6 +262,20 @@ def check_citations(results, texts):
         results.expect(document, f"it cites something: {found and found[0]}", found is None)
 
 
+def without_code(text):
+    """Returns a text without its blocks of code and its tables."""
+    return re.sub(r"^ *```.*?^ *```$|^(?:    |\|)[^\n]*$", "", text, flags=re.M | re.S)
+
+
+def check_words(results, texts):
+    for document in WRAPPED:
+        text = without_code(texts[document])
+        longest = max(text.split("\n"), key=len)
+        results.expect(document, f"a line has {len(longest)} columns: {longest[:60]} ..", len(longest) <= MOST_COLUMNS)
+        found = RETIRED.search(re.sub(r"`[^`\n]*`", "", text))
+        results.expect(document, f"it says: {found and found[0]}", found is None)
+
+
 def main():
     results, texts, crates = Results(), documents(), Crates()
     check_links(results, texts)
@@ -272,6 +292,7 @@ def main():
     check_versions(results, texts, crates)
     check_contributing(results, texts, crates)
     check_citations(results, texts)
+    check_words(results, texts)
     print("".join(f"{it}\n" for it in dict.fromkeys(results.wrong)), end="")
     print(f"{results.passed} passed, {len(results.wrong)} failed")
     return 1 if results.wrong else 0
