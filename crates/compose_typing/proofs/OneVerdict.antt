@@ -80,13 +80,13 @@ timed_out_once c (Opening w) e = rw e refl
 timed_out_once c (Feeding w n) e = rw e refl
 timed_out_once c (Asking w h) e = rw e refl
 
-connected_once : (c : Client) (s : Stage) → c.stage ≡ s → Counts (connected_at s c) (waiting c)
-connected_once c Apart e = given_up_once c Apart e
-connected_once c Ready e = given_up_once c Ready e
-connected_once c (Connecting w) e = rw e refl
-connected_once c (Opening w) e = given_up_once c (Opening w) e
-connected_once c (Feeding w n) e = given_up_once c (Feeding w n) e
-connected_once c (Asking w h) e = given_up_once c (Asking w h) e
+connected_once : (c : Client) (n : ℕ) (s : Stage) → c.stage ≡ s → Counts (connected_at s c n) (waiting c)
+connected_once c i Apart e = given_up_once c Apart e
+connected_once c i Ready e = given_up_once c Ready e
+connected_once c i (Connecting w) e = rw e refl
+connected_once c i (Opening w) e = given_up_once c (Opening w) e
+connected_once c i (Feeding w n) e = given_up_once c (Feeding w n) e
+connected_once c i (Asking w h) e = given_up_once c (Asking w h) e
 
 pressed_once : (c : Client) (k : ℕ) (s : Stage) → c.stage ≡ s → Counts (pressed_at s c k) (waiting c + 1)
 pressed_once c k Apart e = rw e refl
@@ -98,7 +98,7 @@ pressed_once c k (Asking w h) e = rw e refl
 
 once : (c : Client) (e : Event) → Counts (happens c e) (waiting c + presses e)
 once c (press k) = pressed_once c k c.stage refl
-once c connect = let h = connected_once c c.stage refl in omega (arith, h)
+once c (connect n) = let h = connected_once c n c.stage refl in omega (arith, h)
 once c (reply r) =
     let h = either (r.session == c.session) (answered_at c.stage c r.answer) (given_up c) (waiting c) (answered_once c c.stage r.answer refl) (given_up_once c c.stage refl) in
     omega (arith, h)

@@ -104,12 +104,12 @@ key_typed names table c s k None ready opened h =
 key_typed names table c s k (Some l) ready opened h =
     let w : Waiting = record { key = k; is_again = false } in
     let rs : List Event = take l.read (replies names table c.session s (bodies_for c k)) in
-    let later : List Event = reconnected names table c l.left k in
+    let later : List Event = reconnected names table c l.number l.left k in
     let pressed_so : happens c (press k) ≡ asks c w = rw ready refl in
     let d : Client = (asks c w).client in
     let read : StillWaits d c w rs = all_read names table c w s l.read c.is_stale refl h in
     let there : Client = record c { is_stale = true; stage = read.stage } in
-    let t : Types names table there later (typed table rest c.pending) k = lost_once names table there w l.left read.at refl opened in record {
+    let t : Types names table there later (typed table rest c.pending) k = lost_once names table there w l.number l.left read.at refl opened in record {
       client = ap (λ (x : Outcome). after x.client (rs ++ later)) pressed_so ∙ after_append d rs later ∙ ap (λ (x : Client). after x later) read.client ∙ t.client;
       verdict = ap (λ (x : Outcome). told_in x.action ++ told_at x.client (rs ++ later)) pressed_so ∙ told_append d rs later
           ∙ ap (λ (v : List Verdict). v ++ told_at (after d rs) later) read.quiet ∙ ap (λ (x : Client). told_at x later) read.client ∙ t.verdict;

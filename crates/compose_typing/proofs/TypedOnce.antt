@@ -10,14 +10,14 @@ use Rattle.compose_model.specs.Step.{pending, pending_from, pending_after}
 use Rattle.compose_model.specs.Session.{Session, rest, fed as session_fed}
 use Rattle.compose_model.specs.declared.Status.{Status}
 use Rattle.compose_model.proofs.Reached.{pending_reached}
-use Rattle.compose_wire.specs.Messages.{Body, key, ask, Answer, fed, was_reset, refused, session_taken}
+use Rattle.compose_wire.specs.Messages.{Body, open_session, key, ask, Answer, fed, was_reset, refused, session_taken}
 use Rattle.compose_typing.specs.declared.action.Verdict.{Verdict}
-use Rattle.compose_typing.specs.declared.action.Action.TheVariants.{Wait, Connect, Tell}
+use Rattle.compose_typing.specs.declared.action.Action.TheVariants.{Wait, Send, Connect, Tell}
 use Rattle.compose_typing.specs.declared.stage.Waiting.{Waiting}
 use Rattle.compose_typing.specs.declared.stage.Heard.{Heard}
 use Rattle.compose_typing.specs.declared.stage.Stage.{Stage}
 use Rattle.compose_typing.specs.declared.stage.Stage.TheVariants.{Apart, Ready, Connecting, Opening, Feeding, Asking}
-use Rattle.compose_typing.specs.Typing.{Client, Outcome, does, asks, bodies_for, before_key, typed_anew, told, connected, answered, answered_at, fed_at, lost, lost_at, lost_with}
+use Rattle.compose_typing.specs.Typing.{Client, Outcome, does, sent, asks, bodies_for, before_key, typed_anew, told, connected, answered, answered_at, fed_at, lost, lost_at, lost_with}
 use Rattle.compose_typing.specs.Laws.{Event, connect, reply, lose, happens, after}
 use Rattle.compose_typing.specs.Service.{answer_of, session_after, replies, typed, told_in, told_at, heard, moved, Types, session_for, key_at, AskedOnce, LostOnce, PendingAgain}
 
@@ -98,19 +98,20 @@ lost_is c (Feeding v n) w e = cc
 lost_is c (Asking v h) w e = cc
 
 pub lost_once : LostOnce
-lost_once names table c w s is first opened =
+lost_once names table c w n s is first opened =
     let v : Waiting = record { key = w.key; is_again = true } in
     let connecting : Client = record c { is_stale = true; stage = Connecting v } in
     let opening : Client = record c { is_stale = true; stage = Opening v } in
     let end : Session = typed table rest c.pending in
     let verdicts : List Verdict = told w.key (heard names table end w.key) ∷ [] in
     let lost_so : lost c ≡ does connecting Connect = lost_is c c.stage w is ∙ rw first refl in
+    let opening_so : connected connecting n ≡ does opening (Send (sent c.session (open_session ∷ []))) = rw opened refl in
     let opened_so : answered_at (Opening v) opening (refused session_taken) ≡ asks opening v = rw opened refl in
     let last : Types names table (asks opening v).client (replies names table c.session s (bodies_for opening w.key)) end w.key = asked_once names table opening v s in
     let asked : List Event = replies names table c.session s (bodies_for opening w.key) in
     let taken : Event = reply (record { session = c.session; answer = refused session_taken }) in
-    let g = happened c lose (does connecting Connect) (connect ∷ taken ∷ asked) (moved table c end w.key) verdicts lost_so
-    (happened connecting connect (connected connecting) (taken ∷ asked) (moved table c end w.key) verdicts refl
+    let g = happened c lose (does connecting Connect) (connect n ∷ taken ∷ asked) (moved table c end w.key) verdicts lost_so
+    (happened connecting (connect n) (does opening (Send (sent c.session (open_session ∷ [])))) (taken ∷ asked) (moved table c end w.key) verdicts opening_so
     (goes_on opening (refused session_taken) (asks opening v) asked (moved table c end w.key) verdicts opened_so (record { client = last.client; told = last.verdict }))) in
     record { client = g.client; verdict = g.told }
 

@@ -8,14 +8,14 @@ use Rattle.compose_typing.specs.Typing.{Client, Outcome, waits, pressed, connect
 -- what happens to a client
 pub data Event : Type 0 where
   press : ℕ → Event
-  connect : Event
+  connect : ℕ → Event
   reply : Reply → Event
   lose : Event
   time_out : Event
 
 abbrev pub happens : Client → Event → Outcome
 happens c (press k) = pressed c k
-happens c connect = connected c
+happens c (connect n) = connected c n
 happens c (reply r) = answered c r
 happens c lose = lost c
 happens c time_out = timed_out c

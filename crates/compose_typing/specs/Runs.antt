@@ -28,9 +28,10 @@ run_verdicts names table u (k ∷ ks) = told_by_effect (effect table u k) k (ste
 
 -- ---- keys
 
--- a connection was lost after so many replies, and the service was left with this session
+-- a connection was lost after so many replies, and the service was left with this session; the next one brought this number
 pub record Loss : Type 0 where
   pub read : ℕ
+  pub number : ℕ
   pub left : Session
 
 -- a key, and how its connection was lost, if it was
@@ -41,7 +42,7 @@ pub record Press : Type 0 where
 -- what happens from the press of the key to its verdict, where the session is s
 abbrev pub key_events : KeysymNames → List Definition → Client → Session → ℕ → Option Loss → List Event
 key_events names table c s k None = press k ∷ replies names table c.session s (bodies_for c k)
-key_events names table c s k (Some l) = press k ∷ take l.read (replies names table c.session s (bodies_for c k)) ++ reconnected names table c l.left k
+key_events names table c s k (Some l) = press k ∷ take l.read (replies names table c.session s (bodies_for c k)) ++ reconnected names table c l.number l.left k
 
 -- the session in which the key is typed
 abbrev pub key_session : List Definition → Client → Session → Option Loss → Session

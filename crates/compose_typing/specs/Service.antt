@@ -88,16 +88,17 @@ key_at (Feeding w n) = Some w
 key_at (Asking w h) = Some w
 key_at _ = None
 
--- the connection is lost, a new one is made, the session is found open there, and all that is asked is answered
-abbrev pub reconnected : KeysymNames → List Definition → Client → Session → ℕ → List Event
-reconnected names table c s k =
-    lose ∷ connect ∷ reply (record { session = c.session; answer = refused session_taken }) ∷ replies names table c.session s (bodies_for (record c { is_stale = true }) k)
+-- the connection is lost, a new one is made (with a number for another session), the session is found open there, and all that is asked is
+-- answered
+abbrev pub reconnected : KeysymNames → List Definition → Client → ℕ → Session → ℕ → List Event
+reconnected names table c n s k =
+    lose ∷ connect n ∷ reply (record { session = c.session; answer = refused session_taken }) ∷ replies names table c.session s (bodies_for (record c { is_stale = true }) k)
 
 -- whatever replies a key has had when its connection is lost, and whatever session the service is left with, the key is typed once, in the
 -- session of the keys that were pending before it
 abbrev pub LostOnce : Type 0
-LostOnce = (names : KeysymNames) (table : List Definition) (c : Client) (w : Waiting) (s : Session) → key_at c.stage ≡ Some w → w.is_again ≡ false → c.is_opened ≡ true
-    → Types names table c (reconnected names table c s w.key) (typed table rest c.pending) w.key
+LostOnce = (names : KeysymNames) (table : List Definition) (c : Client) (w : Waiting) (n : ℕ) (s : Session) → key_at c.stage ≡ Some w → w.is_again ≡ false → c.is_opened ≡ true
+    → Types names table c (reconnected names table c n s w.key) (typed table rest c.pending) w.key
 
 -- what is pending in a session is pending again where it is typed anew
 abbrev pub PendingAgain : Type 0

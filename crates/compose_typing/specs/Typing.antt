@@ -32,8 +32,8 @@ abbrev pub does : Client → Action → Outcome
 does c action = record { client = c; action = action }
 
 -- no key was typed, and no connection was made
-abbrev pub start : ℕ → Client
-start n = record { session = n; is_opened = false; pending = []; is_stale = true; stage = Apart }
+abbrev pub start : Client
+start = record { session = 0; is_opened = false; pending = []; is_stale = true; stage = Apart }
 
 -- ---- what is sent
 
@@ -105,13 +105,17 @@ pressed_at _ c k = does c (Tell Pass)
 abbrev pub pressed : Client → ℕ → Outcome
 pressed c k = pressed_at c.stage c k
 
--- a connection was made; one that no key waits for is closed
-abbrev pub connected_at : Stage → Client → Outcome
-connected_at (Connecting w) c = does (record c { stage = Opening w }) (Send (sent c.session (open_session ∷ [])))
-connected_at _ c = given_up c
+-- a session that was opened keeps its number, and another one gets this one
+abbrev pub number_for : Client → ℕ → ℕ
+number_for c n = if c.is_opened then c.session else n
 
-abbrev pub connected : Client → Outcome
-connected c = connected_at c.stage c
+-- a connection was made, with a number for the session; one that no key waits for is closed
+abbrev pub connected_at : Stage → Client → ℕ → Outcome
+connected_at (Connecting w) c n = does (record c { session = number_for c n; stage = Opening w }) (Send (sent (number_for c n) (open_session ∷ [])))
+connected_at _ c n = given_up c
+
+abbrev pub connected : Client → ℕ → Outcome
+connected c n = connected_at c.stage c n
 
 -- the answer to an Open: a session that is open is this client's only if it was opened before
 abbrev pub opened_at : Client → Waiting → Answer → Outcome

@@ -65,12 +65,12 @@ fn verdict_of(key: Keysym, heard: Heard) -> Verdict
 }
 
 impl Client {
-    /// A client that has typed nothing. Its session gets this number, at best a random one. O(1).
-    pub fn new(session: u32) -> Client
-        ensures { result ≡ words.start session }
+    /// A client that has typed nothing. O(1).
+    pub fn new() -> Client
+        ensures { result ≡ words.start }
     {
         Client {
-            session,
+            session: 0,
             is_opened: false,
             pending: ArrayVec::new(),
             is_stale: true,
@@ -143,13 +143,15 @@ impl Client {
         }
     }
 
-    /// A connection was made. One that no key waits for is given up. O(1).
-    pub fn connected(&mut self) -> Action
-        ensures { record { client = self.new; action = result } ≡ words.connected self.old }
+    /// A connection was made. One that no key waits for is given up. The session gets this number, at best a random one each time, unless
+    /// it was opened before. O(1).
+    pub fn connected(&mut self, number: u32) -> Action
+        ensures { record { client = self.new; action = result } ≡ words.connected self.old number }
     {
         let Stage::Connecting(waiting) = self.stage else {
             return self.give_up();
         };
+        self.session = if self.is_opened { self.session } else { number };
         self.stage = Stage::Opening(waiting);
         Action::Send(open_frames(self.session))
     }

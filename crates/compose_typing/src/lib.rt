@@ -4,10 +4,12 @@
 //! out says what to do: bytes to send, a connection to make or to close, and for each key one verdict.
 //!
 //! ```text
-//! press(0xfe51)            Connect
-//! connected()              Send  01 .. open the session
-//! receive(81 ..)           Send  03 .. 02 .. 06 ..: put it to rest, type the key, ask what is pending
-//! receive(83 .. 82 .. 86)  Tell(Take), and 0xfe51 is pending
+//! press(0xfe51)   Connect
+//! connected(7)    Send(01 ..): open session 7
+//! 81 .. came      Send(03 .. 02 .. 06 ..): put it to rest, type the key, ask what is pending
+//! 83 .. came      Wait
+//! 82 .. came      Wait
+//! 86 .. came      Tell(Take), and 0xfe51 is pending
 //! ```
 //!
 //! Where a connection is lost before a key was answered, nobody knows whether the key counted. So on a new connection the session is

@@ -29,12 +29,12 @@ impl Model for Typing {
 }
 
 impl Typing {
-    /// A client that has typed nothing. Its session gets this number, at best a random one. O(1), takes no memory.
-    pub fn new(alloc: Global, session: u32) -> Typing
-        ensures { result ≡ record { client = words.start session; held = [] } }
+    /// A client that has typed nothing. O(1), takes no memory.
+    pub fn new(alloc: Global) -> Typing
+        ensures { result ≡ record { client = words.start; held = [] } }
     {
         Typing {
-            client: Client::new(session),
+            client: Client::new(),
             replies: ReplyFeeder::new(alloc),
         }
     }
@@ -61,12 +61,13 @@ impl Typing {
         self.client.press(key)
     }
 
-    /// A connection was made: bytes of an earlier one are dropped. O(1), takes no memory.
-    pub fn connected(&mut self, alloc: Global) -> Action
-        ensures { Becomes (words.connected self.old.client) [] self.new result }
+    /// A connection was made: bytes of an earlier one are dropped. The session gets this number, at best a random one each time, unless it
+    /// was opened before. O(1), takes no memory.
+    pub fn connected(&mut self, alloc: Global, number: u32) -> Action
+        ensures { Becomes (words.connected self.old.client number) [] self.new result }
     {
         self.replies = ReplyFeeder::new(alloc);
-        self.client.connected()
+        self.client.connected(number)
     }
 
     /// These bytes came. What is to be done, `next_action` says then. O(bytes).
