@@ -402,7 +402,7 @@ def check_client_commands(program, results):
                 ("session", "--open", "--ask", "socket", "7", "dead_grave", "dead_acute"), ('composing ""\ncomposing ""\nstate composing dead_grave dead_acute\n', "", 0)),
             "a load that is accepted": (("load", "socket", "dropped.manifest", "dropped.certificate"), ("loaded 1\n", "", 0)),
             "a load that is refused": (
-                ("load", "socket", "empty.manifest", "empty.certificate"), ("refused: the certificate does not show that the new table follows the one in use\n", "", 1)),
+                ("load", "socket", "empty.manifest", "empty.certificate"), ("refused: the certificate is not valid: the new table does not follow the one in use, more keys may be pending than its bound, its typings are not those of the repertoire, or its fresh keys may not be fresh\n", "", 1)),
             "a session in which a load came": (("session", "--ask", "socket", "7"), ("state composing dead_acute\n", "", 0)),
             "the rest of the sequence": (("session", "--close", "socket", "7", "e"), ('composed "x"\n', "", 0)),
             "a session that is not open": (("session", "socket", "7", "dead_acute", "e"), ("refused: no session with this number is open\n", "", 1)),

@@ -13,7 +13,7 @@ ghost use Rattle.std.specs.Prelude.{◌≡◌, ◌++◌, List, ℕ, map};
 ghost use Rattle.compose_wire.specs.Messages.{Body, Answer, Request, Reply};
 ghost use Rattle.compose_machine.specs.Machine.{ServiceState, Reading, Run};
 ghost use Rattle.compose_machine.specs.Laws.{Exchange, IsHistory, Isolation, KeptTexts, LoadsTypeNothing, StandingPromise, TableStays};
-ghost use Rattle.compose_machine.specs.Late.{seen, AreKept, LateAnswers, IsLateHistory, Stands};
+ghost use Rattle.compose_machine.specs.Late.{seen, AreKept, LateAnswers, IsLateHistory, Stands, SeenAtNodes, LateLoadsTypeNothing};
 
 /// What a session is told follows from what it asks, from the loads that are accepted and from how its Opens are answered.
 pub fn law_isolation()
@@ -32,7 +32,8 @@ pub fn law_loads()
     ensures stays { TableStays }
 {}
 
-/// A service that refeeds a session when it is named, and all of them before a table with fresh keysyms comes, is the machine.
+/// A service that refeeds a session when it is named, and all of them before a table with fresh keysyms comes, is the machine. What is
+/// pending in a session that is seen is a node of the current table, and an accepted load types nothing in it, whatever came before.
 pub fn law_late_service()
     ensures step { (reading : Reading) (old new : ServiceState) (n : ℕ) (body : Body)
         (answer : Answer) → AreKept old.table old.sessions
@@ -40,6 +41,8 @@ pub fn law_late_service()
     ensures history { (reading : Reading) (old new : ServiceState) (h : List Exchange)
         → AreKept old.table old.sessions → IsLateHistory reading old h new
         → IsHistory reading (seen old) h (seen new) × AreKept new.table new.sessions }
+    ensures nodes { SeenAtNodes }
+    ensures silent { LateLoadsTypeNothing }
 {}
 
 /// A run over some requests and then over others is a run over all of them, and each run over all of them is two such runs.

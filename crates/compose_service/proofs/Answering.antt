@@ -13,7 +13,7 @@ use Rattle.compose_wire.specs.Messages.{Body, code}
 use Rattle.compose_wire.specs.Replies.{SaysAnswer, SaysReply}
 use Rattle.compose_wire.specs.declared.reply.Answer.{Answer}
 use Rattle.compose_wire.specs.declared.reply.Answer.TheVariants.{Opened, WasReset, Closed, Refused}
-use Rattle.compose_machine.specs.Machine.{ServiceState, Step, Row, session_of, with_session, with_sessions, without_session, max_sessions, one_more}
+use Rattle.compose_machine.specs.Machine.{ServiceState, Step, Row, Accepts, session_of, with_session, with_sessions, without_session, max_sessions, one_more}
 use Rattle.compose_machine.specs.Late.{seen, AreKept, refed_row, rows_at_swap, swapped, LateAnswers}
 use Rattle.compose_machine.proofs.Stored.{stands, swap_kept}
 use Rattle.compose_model.proofs.Lift.{lift}
@@ -37,7 +37,7 @@ use Rattle.compose_bundle.proofs.OneBundle.{none}
 use Rattle.compose_service.proofs.Kept.{own_changed, set_after, nobody_changed}
 use Rattle.compose_service.specs.Reading.{reading, bundle_parts, parts_by}
 use Rattle.compose_service.specs.Refusals.{refusal_of, of_bundle, of_table, of_certificate}
-use Rattle.compose_service.specs.Answered.{Answered, Checked}
+use Rattle.compose_service.specs.Answered.{Answered, ReadsLoad}
 use Rattle.compose_bundle.specs.declared.BundleFault.{BundleFault}
 use Rattle.compose_bundle.specs.declared.BundleFault.TheVariants as bundle_faults
 use Rattle.compose_service.specs.declared.refusal.Refusal.{Refusal}
@@ -179,17 +179,17 @@ module _ (old : ServiceState) (n : ℕ) where
 
 -- a valid table that becomes the current one keeps what is stored sound
 pub swap_sound : (inside old : ServiceState) → inside ≡ old → (table : List Definition) (certificate : Certificate) (rows : List Row) → is_prefix_free table ≡ true
-    → IsValid old.names old.table table old.repertoire certificate
+    → Accepts old table certificate
     → AreKept inside.table inside.sessions → rows ≡ rows_at_swap certificate.fresh inside.table inside.sessions → AreKept table rows
-swap_sound inside old is table certificate rows free valid kept e =
-    let valid' : IsValid inside.names inside.table table inside.repertoire certificate = subst (λ (s : ServiceState). IsValid s.names s.table table s.repertoire certificate) (sym is) valid in
+swap_sound inside old is table certificate rows free accepted kept e =
+    let valid' : IsValid inside.names inside.table table inside.repertoire certificate = subst (λ (s : ServiceState). IsValid s.names s.table table s.repertoire certificate) (sym is) accepted.0 in
     let follows = lift inside.names certificate.fresh inside.table table certificate.pairs free valid'.simulates in
     subst (λ (rs : List Row). AreKept table rs) (sym e) (swap_kept inside.names certificate.fresh inside.table table inside.sessions follows valid'.fresh kept)
 
 module _ (now : ServiceState) (rule : Rule) (bytes : List ℕ) {T : Type 0} (view : T → List Definition) where
-  -- a load that is checked and refused may be answered with that refusal, and nothing changes
-  pub load_refused : (n : ℕ) (why : Refusal) (number : ℕ) → number ≡ code (refusal_of why) → Checked now rule bytes view (Err why) → Answered now n (words.load rule bytes) (Refused number) now
-  unfolding Answered Checked
+  -- a load that is not read may be answered with that refusal, and nothing changes
+  pub load_refused : (n : ℕ) (why : Refusal) (number : ℕ) → number ≡ code (refusal_of why) → ReadsLoad now rule bytes view (Err why) → Answered now n (words.load rule bytes) (Refused number) now
+  unfolding Answered ReadsLoad
   load_refused n SessionTaken number e h = (words.refused words.session_taken, h, e)
   load_refused n NoSession number e h = (words.refused words.no_session, h, e)
   load_refused n Full number e h = (words.refused words.full, h, e)
@@ -200,27 +200,23 @@ module _ (now : ServiceState) (rule : Rule) (bytes : List ℕ) {T : Type 0} (vie
   load_refused n VerdictNo number e h = (words.refused words.verdict_no, h, e)
   load_refused n NoMemory number e h = (words.refused words.no_memory, h, e)
 
-  -- the table of a load that passed its check is prefix-free
-  pub load_free : (p : T × Certificate) → Checked now rule bytes view (Ok p) → is_prefix_free (view p.0) ≡ true
-  unfolding Checked
-  load_free p h = h.1
+  -- a load that is read and not accepted may be answered with the verdict no, and nothing changes
+  pub load_not_accepted : (n : ℕ) (p : T × Certificate) (number : ℕ) → number ≡ code words.verdict_no → ReadsLoad now rule bytes view (Ok p) → (Accepts now (view p.0) p.1 → ⊥)
+      → Answered now n (words.load rule bytes) (Refused number) now
+  unfolding Answered ReadsLoad
+  load_not_accepted n p number e h refuses = (words.refused words.verdict_no, (view p.0, p.1, h, refuses, refl), e)
 
-  -- the certificate of a load that passed its check is valid for the move from the current table to the loaded one
-  pub load_valid : (p : T × Certificate) → Checked now rule bytes view (Ok p) → IsValid now.names now.table (view p.0) now.repertoire p.1
-  unfolding Checked
-  load_valid p h = h.2
-
-  -- a load that passed its check may be answered as loaded, with the count of loads, and its table is then the current one
-  pub load_done : (n : ℕ) (p : T × Certificate) (answer : Answer) (new : ServiceState) → Checked now rule bytes view (Ok p) → new ≡ swapped now (view p.0) p.1.fresh
-      → SaysAnswer answer (words.loaded (one_more now.loads)) → Answered now n (words.load rule bytes) answer new
-  unfolding Answered Checked
-  load_done n p answer new h e says = (words.loaded (one_more now.loads), (view p.0, p.1, h.0, h.1, h.2, refl, e), says)
+  -- a load that is read and accepted may be answered as loaded, with the count of loads, and its table is then the current one
+  pub load_done : (n : ℕ) (p : T × Certificate) (answer : Answer) (new : ServiceState) → ReadsLoad now rule bytes view (Ok p) → is_prefix_free (view p.0) ≡ true → Accepts now (view p.0) p.1
+      → new ≡ swapped now (view p.0) p.1.fresh → SaysAnswer answer (words.loaded (one_more now.loads)) → Answered now n (words.load rule bytes) answer new
+  unfolding Answered ReadsLoad
+  load_done n p answer new h free accepted e says = (words.loaded (one_more now.loads), (view p.0, p.1, h, free, accepted, refl, e), says)
 
   -- ---- what a load reads as
 
   -- a payload that is not read as a bundle refuses the load by that fault
-  pub bundle_fault : (fault : BundleFault) → AreBytes bytes → NotRead fault bytes → Checked now rule bytes view (Err (of_bundle fault))
-  unfolding Checked
+  pub bundle_fault : (fault : BundleFault) → AreBytes bytes → NotRead fault bytes → ReadsLoad now rule bytes view (Err (of_bundle fault))
+  unfolding ReadsLoad
   bundle_fault bundle_faults.Form are h = (ap (bundle_parts rule now.names) (none bytes are h), refl)
   bundle_fault bundle_faults.TooLarge are h = absurd h
   bundle_fault bundle_faults.NoMemory are h = refl
@@ -236,14 +232,14 @@ module _ (now : ServiceState) (rule : Rule) (bytes : List ℕ) {T : Type 0} (vie
     reads said e = ap (bundle_parts rule now.names) bundled ∙ ap (λ r. parts_by r (certificate_of b.certificate)) e
 
     table_refused_by : (fault : TableFault) (said : Result (List Definition) NoTable) → of_table fault ≡ TableRefused → first_table now.names b.sources rule ≡ said → TableFails fault said
-        → Checked now rule bytes view (Err TableRefused)
-    unfolding Checked
+        → ReadsLoad now rule bytes view (Err TableRefused)
+    unfolding ReadsLoad
     table_refused_by fault (Err why) is e h = (reads (Err why) e, refl)
     table_refused_by fault (Ok table) is e h = absurd (no_fault fault table h)
 
     -- sources of a bundle that give no table refuse the load by that fault
-    pub table_fault : (fault : TableFault) → TableGives view (Err fault) (first_table now.names b.sources rule) → Checked now rule bytes view (Err (of_table fault))
-    unfolding Checked
+    pub table_fault : (fault : TableFault) → TableGives view (Err fault) (first_table now.names b.sources rule) → ReadsLoad now rule bytes view (Err (of_table fault))
+    unfolding ReadsLoad
     table_fault table_faults.NoMemory h = refl
     table_fault (table_faults.Read fault) h = table_refused_by (table_faults.Read fault) (first_table now.names b.sources rule) refl refl h
     table_fault (table_faults.Settle (settle_faults.Overlap short long)) h =
@@ -257,28 +253,22 @@ module _ (now : ServiceState) (rule : Rule) (bytes : List ℕ) {T : Type 0} (vie
       reads_on said e = reads (Ok (view table)) is_table ∙ ap (parts_by (Ok (view table))) e
 
       -- where the table is read, a certificate that is not read refuses the load by that fault
-      pub certificate_fault : (fault : CertFault) → CertificateGives (Err fault) (certificate_of b.certificate) → Checked now rule bytes view (Err (of_certificate fault))
-      unfolding Checked
+      pub certificate_fault : (fault : CertFault) → CertificateGives (Err fault) (certificate_of b.certificate) → ReadsLoad now rule bytes view (Err (of_certificate fault))
+      unfolding ReadsLoad
       certificate_fault cert_faults.NoMemory h = refl
       certificate_fault (cert_faults.NotText line) h = (reads_on (Err (cert_faults.NotText line)) h, refl)
       certificate_fault cert_faults.TooLarge h = (reads_on (Err cert_faults.TooLarge) h, refl)
 
-      module _ (certificate : Certificate) (is_certificate : certificate_of b.certificate ≡ Ok certificate) where
-        -- where table and certificate are read, a certificate that is not valid refuses the load with the verdict no
-        pub not_valid : (IsValid now.names now.table (view table) now.repertoire certificate → ⊥) → Checked now rule bytes view (Err VerdictNo)
-        unfolding Checked
-        not_valid h = (view table, certificate, reads_on (Ok certificate) is_certificate, h, refl)
-
-        -- where table and certificate are read, a prefix-free table with a valid certificate passes the check
-        pub valid : is_prefix_free (view table) ≡ true → IsValid now.names now.table (view table) now.repertoire certificate → Checked now rule bytes view (Ok (table, certificate))
-        unfolding Checked
-        valid free h = (reads_on (Ok certificate) is_certificate, free, h)
+      -- where table and certificate are read, the load is
+      pub load_read : (certificate : Certificate) → certificate_of b.certificate ≡ Ok certificate → ReadsLoad now rule bytes view (Ok (table, certificate))
+      unfolding ReadsLoad
+      load_read certificate is_certificate = reads_on (Ok certificate) is_certificate
 
 -- the result of a `?` is the refusal of its fault
 pub raised : {T : Type 0} (now : ServiceState) (rule : Rule) (bytes : List ℕ) (view : T → List Definition) (result : Result (T × Certificate) Refusal) (why : Refusal) → IsErrAnd result (λ e. e ≡ why)
-    → Checked now rule bytes view (Err why) → Checked now rule bytes view result
+    → ReadsLoad now rule bytes view (Err why) → ReadsLoad now rule bytes view result
 raised now rule bytes view (Ok p) why is h = absurd is
-raised now rule bytes view (Err e) why is h = subst (λ (y : Refusal). Checked now rule bytes view (Err y)) (sym is) h
+raised now rule bytes view (Err e) why is h = subst (λ (y : Refusal). ReadsLoad now rule bytes view (Err y)) (sym is) h
 
 -- ---- any request
 

@@ -1,3 +1,4 @@
+pub mod Allowed
 pub mod Rows
 pub mod Reading
 pub mod Refusals

@@ -37,7 +37,7 @@ started names repertoire (Ok table) (Err fault) = Err (without_certificate fault
 started names repertoire (Ok table) (Ok certificate) = begun_by (fault_of names table table repertoire certificate) table certificate
 
 abbrev pub at_start : List Definition → KeysymNames → Repertoire → ServiceState
-at_start table names repertoire = record { table = table; names = names; repertoire = repertoire; loads = 0; sessions = [] }
+at_start table names repertoire = record { table = table; names = names; repertoire = repertoire; allowed = None; loads = 0; sessions = [] }
 
 abbrev pub table_raised : TableFault → StartFault
 table_raised table_faults.NoMemory = start_faults.NoMemory

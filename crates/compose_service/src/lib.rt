@@ -10,6 +10,7 @@
 //! ```
 #![tactic(auto)]
 
+mod allowed;
 mod refusal;
 mod service;
 mod sessions;

@@ -1,4 +1,5 @@
 //! The service: sessions over one current table.
+use crate::allowed::Allowed;
 use crate::refusal::Refusal;
 use crate::sessions::Sessions;
 use arrayvec::ArrayString;
@@ -63,6 +64,17 @@ impl From<CertFault> for StartFault {
     }
 }
 
+impl From<CheckFault> for StartFault {
+    ghost use Rattle.std.specs.Prelude.{◌≡◌};
+    ghost use Rattle.compose_service.specs.declared.service.StartFault.TheVariants.{No};
+
+    ghost from_gives = { λ fault e. e ≡ No fault };
+
+    fn from(fault: CheckFault) -> StartFault {
+        StartFault::No(fault)
+    }
+}
+
 /// Why requests are not run.
 #[derive(Clone, Copy, Debug, PartialEq, Eq, Drop, Error)]
 pub enum RunFault {
@@ -80,6 +92,7 @@ pub struct Service<T: ComposeTable> {
     table: T,
     names: Names,
     repertoire: Repertoire,
+    allowed: Allowed,
     loads: u64,
     sessions: Sessions,
 }
@@ -95,8 +108,10 @@ impl<T: ComposeTable> Model for Service<T> {
       names = s.names;
       repertoire =
           s.repertoire;
+      allowed = s.allowed;
       loads = s.loads;
-      sessions = s.sessions;
+      sessions =
+          s.sessions;
     } };
 
     // the current table does not cancel on what is pending in a session, and its status is composing exactly where something is pending
@@ -104,17 +119,16 @@ impl<T: ComposeTable> Model for Service<T> {
 }
 
 impl<T: ComposeTable> Service<T> {
-    ghost use Rattle.std.specs.Prelude.{◌≡◌, ◌≢◌, ◌<◌, ◌≤◌, List, [], ℕ, length, map, IsTrue, IsFalse, IfOk, OnErr, MatchResult, Err};
+    ghost use Rattle.std.specs.Prelude.{◌≡◌, ◌≢◌, ◌<◌, ◌≤◌, List, [], ℕ, length, map, IsTrue, IsFalse, IfOk, OnErr, MatchResult, Some, Err, true, false};
     ghost use Rattle.keysym_core.specs.Keysym.{is_keysym};
     ghost use Rattle.compose_model.specs.Table.{is_prefix_free};
-    ghost use Rattle.compose_model.specs.Certificate.{IsValid};
     ghost use Rattle.compose_wire.specs.Messages as words;
     ghost use Rattle.compose_wire.specs.Requests.{request_of, body_of};
     ghost use Rattle.compose_wire.specs.Replies.{SaysReply, SaysAnswer};
-    ghost use Rattle.compose_machine.specs.Machine.{ServiceState, Step, Run, one_more};
-    ghost use Rattle.compose_machine.specs.Late.{seen, swapped, LateAnswers, AreKept};
+    ghost use Rattle.compose_machine.specs.Machine.{ServiceState, Step, Run, Accepts, one_more};
+    ghost use Rattle.compose_machine.specs.Late.{seen, swapped, rows_at_swap, LateAnswers, AreKept};
     ghost use Rattle.compose_service.specs.Reading.{reading};
-    ghost use Rattle.compose_service.specs.Answered.{Answered, Checked, SayReplies};
+    ghost use Rattle.compose_service.specs.Answered.{Answered, ReadsLoad, SayReplies};
     ghost use Rattle.compose_service.specs.Start.{BeginsBy, StartGives, started};
     ghost use Rattle.compose_tree.specs.TableGives.{first_table};
     ghost use Rattle.compose_cert.specs.Reading.{certificate_of};
@@ -141,6 +155,7 @@ impl<T: ComposeTable> Service<T> {
             table,
             names,
             repertoire,
+            allowed: Allowed::any(),
             loads: 0,
             sessions: Sessions::new(alloc),
         })
@@ -160,8 +175,37 @@ impl<T: ComposeTable> Service<T> {
         let certificate = Certificate::read(alloc, certificate)?;
         match check(table, table, names, repertoire, &certificate) {
             Verdict::Yes => Ok(()),
-            Verdict::No(fault) => Err(StartFault::No(fault)),
+            Verdict::No(fault) => Err(StartFault::from(fault)),
         }
+    }
+
+    /// The same service, where the certificate of a load may list these keysyms alone as fresh. O(1).
+    pub fn allow_fresh(self, keysyms: Vec<Keysym>) -> Service<T>
+        ensures { result ≡ record self { allowed = Some keysyms.items } }
+    {
+        let Service {
+            table,
+            names,
+            repertoire,
+            allowed: _,
+            loads,
+            sessions,
+        } = self;
+        Service {
+            table,
+            names,
+            repertoire,
+            allowed: Allowed::among(keysyms),
+            loads,
+            sessions,
+        }
+    }
+
+    /// The names of keysyms. O(1).
+    pub fn names(&self) -> &Names
+        ensures { result.now ≡ self.now.names }
+    {
+        &self.names
     }
 
     /// The current table. O(1).
@@ -355,56 +399,92 @@ impl<T: ComposeTable> Service<T> {
         answer
     }
 
-    /// Changes the current table, where the certificate is valid.
+    /// Changes the current table, where the certificate is accepted for that.
     fn load(&mut self, alloc: Global, number: u32, payload: &[u8], rule: Rule) -> Answer
         ensures { Answered self.old number (words.load rule payload.now) result self.new }
     {
-        let (table, certificate) = match self.checked(alloc, payload, rule) {
+        let (table, certificate) = match self.read_load(alloc, payload, rule) {
             Ok(load) => load,
             Err(refusal) => return Answer::Refused(refusal.code()),
         };
+        if !self.accepts(&table, &certificate) {
+            return Answer::Refused(Refusal::VerdictNo.code());
+        }
         self.swap(table, &certificate)
     }
 
-    /// The table and the certificate of a load, where the certificate is valid for the move from the current table to that one.
-    fn checked(
+    /// The table and the certificate of a load.
+    fn read_load(
         &self,
         alloc: Global,
         payload: &[u8],
         rule: Rule,
     ) -> Result<(T, Certificate), Refusal>
-        ensures { Checked self.now rule payload.now T.definitions result }
+        ensures { ReadsLoad self.now rule payload.now T.definitions result }
     {
         let bundle = read_bundle(alloc, payload)?;
         let table: T = read_first_table(alloc, &self.names, &bundle.sources, rule)?;
         let certificate = Certificate::read(alloc, bundle.certificate)?;
+        Ok((table, certificate))
+    }
+
+    /// Whether the certificate is valid for the move from the current table to this one, and lists no fresh keysyms but allowed ones.
+    fn accepts(&self, table: &T, certificate: &Certificate) -> bool
+        ensures prefix_free { IsTrue (is_prefix_free (T.definitions table.now)) }
+        ensures yes { result ≡ true → Accepts self.now (T.definitions table.now) certificate.now }
+        ensures no { result ≡ false → Accepts self.now (T.definitions table.now) certificate.now
+            → ⊥ }
+    {
         // every table is settled, which its count of nodes tells
         let _nodes = table.node_count();
+        if !self.allowed.has_all(certificate.fresh_keys()) {
+            return false;
+        }
         let verdict = check(
             &self.table,
-            &table,
+            table,
             &self.names,
             &self.repertoire,
-            &certificate,
+            certificate,
         );
-        let Verdict::Yes = verdict else {
-            return Err(Refusal::VerdictNo);
-        };
-        Ok((table, certificate))
+        match verdict {
+            Verdict::Yes => true,
+            Verdict::No(_) => false,
+        }
+    }
+
+    /// Makes the table the current one, and counts the load.
+    fn swap(&mut self, table: T, certificate: &Certificate) -> Answer
+        requires prefix_free { IsTrue (is_prefix_free (T.definitions table)) }
+        requires accepted { Accepts self.old (T.definitions table) certificate.now }
+        ensures swapped { self.new ≡ swapped self.old (T.definitions table) certificate.now.fresh }
+        ensures told { SaysAnswer result (words.loaded (one_more self.old.loads)) }
+    {
+        self.change_table(table, certificate);
+        self.count_load()
+    }
+
+    /// Counts a load, and answers how many were accepted.
+    fn count_load(&mut self) -> Answer
+        ensures counted { self.new ≡ record self.old { loads = one_more self.old.loads } }
+        ensures told { SaysAnswer result (words.loaded (one_more self.old.loads)) }
+    {
+        self.loads = self.loads.saturating_add(1);
+        Answer::Loaded(self.loads)
     }
 
     /// Makes the table the current one. The sessions stay as they are, but before a table with fresh keysyms comes, all of them are
     /// refed by the one that goes.
-    fn swap(&mut self, table: T, certificate: &Certificate) -> Answer
+    fn change_table(&mut self, table: T, certificate: &Certificate)
         requires prefix_free { IsTrue (is_prefix_free (T.definitions table)) }
-        requires valid { IsValid self.old.names self.old.table
-            (T.definitions table) self.old.repertoire certificate.now }
-        ensures swapped { self.new ≡ swapped self.old (T.definitions table) certificate.now.fresh }
-        ensures told { SaysAnswer result (words.loaded (one_more self.old.loads)) }
+        requires accepted { Accepts self.old (T.definitions table) certificate.now }
+        ensures { self.new
+            ≡ record self.old {
+              table = T.definitions table;
+              sessions = rows_at_swap certificate.now.fresh self.old.table self.old.sessions;
+            } }
     {
         self.sessions.leave(certificate, &self.table, &self.names);
         self.table = table;
-        self.loads = self.loads.saturating_add(1);
-        Answer::Loaded(self.loads)
     }
 }

@@ -1,5 +1,5 @@
 //! The sessions of a service, by number.
-ghost use Rattle.std.specs.Prelude.{◌≡◌, ◌<◌, ◌++◌, [], ◌∷◌, ℕ, length, map, true, Some, None, is_some, IsNone, MatchOption, OnOk, OnErr, nat_eq, slice_get};
+ghost use Rattle.std.specs.Prelude.{◌≡◌, ◌<◌, ◌++◌, [], ◌∷◌, ℕ, length, map, true, Some, None, is_some, IsNone, MatchOption, OnOk, OnErr, nat_eq, nat_lt, slice_get};
 ghost use Rattle.std.specs.Map.{lookup};
 ghost use Rattle.compose_model.specs.Session.{Session, rest, loaded, fed as session_fed};
 ghost use Rattle.compose_state.specs.Answers.{IsFed};
@@ -157,10 +157,9 @@ impl Sessions {
     pub fn leave<T: ComposeTable>(&mut self, certificate: &Certificate, table: &T, names: &Names)
         ensures { self.new ≡ rows_at_swap certificate.now.fresh (T.definitions table.now) self.old }
     {
-        if certificate.fresh_count() == 0 {
-            return;
+        if has_fresh(certificate) {
+            self.refeed_all(table, names);
         }
-        self.refeed_all(table, names);
     }
 
     /// Refeeds every session by the table. Takes no memory. O(sessions × pending keysyms × log edges).
@@ -177,6 +176,13 @@ impl Sessions {
             },
         );
     }
+}
+
+/// Whether the certificate lists fresh keysyms. O(1).
+fn has_fresh(certificate: &Certificate) -> bool
+    ensures { result ≡ nat_lt 0 (length certificate.now.fresh) }
+{
+    certificate.fresh_count() > 0
 }
 
 /// The index of the session, if there is one. Looks at the hinted index first, and hints what it finds elsewhere. O(1).

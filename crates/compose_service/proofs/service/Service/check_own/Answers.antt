@@ -14,5 +14,6 @@ returns-in-Yes g c = (
 
 pub returns : goal.returns
 returns g c =
-    begins_not c.args.names.now c.args.repertoire.now (certificate_of c.args.certificate.now) (g.T.ComposeTable.definitions c.args.table.now) c.in_ok-certificate.certificate
-    c.in_ok-certificate.ensures.exact c.in-No.fault (sym c.in-No.is ∙ c.check.ensures.exact)
+    rw c.from.ensures
+    (begins_not c.args.names.now c.args.repertoire.now (certificate_of c.args.certificate.now) (g.T.ComposeTable.definitions c.args.table.now) c.in_ok-certificate.certificate
+    c.in_ok-certificate.ensures.exact c.in-No.fault (sym c.in-No.is ∙ c.check.ensures.exact))

@@ -13,6 +13,7 @@ invariant_of-self g c =
       table = g.T.ComposeTable.definitions c.self.inside.table;
       names = c.self.inside.names;
       repertoire = c.self.inside.repertoire;
+      allowed = c.self.inside.allowed;
       loads = c.self.inside.loads;
       sessions =
           c.self.inside.sessions;
@@ -28,6 +29,7 @@ returns-then-not-refeed g c =
       table = g.T.ComposeTable.definitions c.self.inside.table;
       names = c.self.inside.names;
       repertoire = c.self.inside.repertoire;
+      allowed = c.self.inside.allowed;
       loads = c.self.inside.loads;
       sessions =
           c.self.inside.sessions;
@@ -43,6 +45,7 @@ invariant_of-self-2 g c =
       table = g.T.ComposeTable.definitions c.self.inside.table;
       names = c.self.inside.names;
       repertoire = c.self.inside.repertoire;
+      allowed = c.self.inside.allowed;
       loads = c.self.inside.loads;
       sessions =
           c.self.inside.sessions;
@@ -58,6 +61,7 @@ returns g c =
       table = g.T.ComposeTable.definitions c.self.inside.table;
       names = c.self.inside.names;
       repertoire = c.self.inside.repertoire;
+      allowed = c.self.inside.allowed;
       loads = c.self.inside.loads;
       sessions =
           c.self.inside.sessions;

@@ -1,6 +1,7 @@
-use Rattle.std.proofs.Common.{rules, ◌∙◌, ap, List}
-use Rattle.compose_machine.specs.Machine.{Row, with_sessions}
-use Rattle.compose_service.specs.Start.{at_start, started}
+use Rattle.std.proofs.Common.{rules, ◌∙◌, ap, ap₂, ℕ, List}
+use Rattle.std.specs.Prelude.{Option}
+use Rattle.compose_machine.specs.Machine.{Row, ServiceState}
+use Rattle.compose_service.specs.Start.{started}
 use Rattle.compose_tree.specs.TableGives.{first_table}
 use Rattle.compose_cert.specs.Reading.{certificate_of}
 use Rattle.compose_service.proofs.Starting.{table_fault, not_begun}
@@ -22,7 +23,9 @@ returns g c =
     let begun = c.in_ok-check_own.ensures in (
       record { table = definitions; certificate = begun.0 },
       ap (λ said. started c.args.names c.args.repertoire said (certificate_of c.args.certificate.now)) c.in_ok-table.ensures.value ∙ begun.1,
-      ap (λ (rows : List Row). with_sessions (at_start definitions c.args.names c.args.repertoire) rows) c.new.ensures,
+      ap₂ (λ (allowed : Option (List ℕ)) (rows : List Row).
+          let s : ServiceState =
+          record { table = definitions; names = c.args.names; repertoire = c.args.repertoire; allowed = allowed; loads = 0; sessions = rows } in s) c.any.ensures c.new.ensures,
       begun.2,
       begun.3,
     )
