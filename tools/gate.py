@@ -97,7 +97,7 @@ def commands():
     runs = [(it, program) for it in ("refusals.py", "diff.py", "how.py", "cases.py", "service.py") for program in (PROGRAM, plain)]
     runs += [("devices.py", trials), ("calls.py", trials)]
     runs += [("limits.py", PROGRAM), ("limits.py", plain)]
-    runs += [(it, PROGRAM) for it in ("once.py", "packages.py", "lex_reference.py", "at_once.py", "streams.py", "outputs.py", "ci.py", "readme.py", "engine.py", "installed.py")]
+    runs += [(it, PROGRAM) for it in ("once.py", "packages.py", "lex_reference.py", "at_once.py", "streams.py", "update.py", "outputs.py", "ci.py", "readme.py", "engine.py", "installed.py")]
     runs += [("snippets.py", PROGRAM), ("makefile.py",), ("documents.py",), ("library.py",)]
     return [script(*it) for it in runs]
 

@@ -3,14 +3,14 @@ _composecheck() {
     local word=${COMP_WORDS[COMP_CWORD]} before=${COMP_WORDS[COMP_CWORD-1]} options=
     COMPREPLY=()
     if [ "$COMP_CWORD" -eq 1 ]; then
-        COMPREPLY=($(compgen -W "type check explain make diff how list lint manifest serve load session --help --version" -- "$word"))
+        COMPREPLY=($(compgen -W "type check explain make diff how list lint manifest update serve load session --help --version" -- "$word"))
         return
     fi
     case $before in
         --names) COMPREPLY=($(compgen -f -- "$word") $(compgen -W builtin -- "$word")); return ;;
-        -o | --output | --accept | --from) COMPREPLY=($(compgen -f -- "$word")); return ;;
+        -o | --output | --accept | --from | --repertoire | --socket) COMPREPLY=($(compgen -f -- "$word")); return ;;
         --fresh | --at-once | --unsent | --locale) return ;;
-        --system|--root) COMPREPLY=($(compgen -d -- "$word")); return ;;
+        --system|--root|--state) COMPREPLY=($(compgen -d -- "$word")); return ;;
         --overlap) COMPREPLY=($(compgen -W "longest refuse" -- "$word")); return ;;
         --format) COMPREPLY=($(compgen -W "text json" -- "$word")); return ;;
         --color) COMPREPLY=($(compgen -W "auto always never" -- "$word")); return ;;
@@ -26,8 +26,9 @@ _composecheck() {
         how) options="--names --from --first --overlap --system --locale --root --help" ;;
         list) options="--names --overlap --system --locale --root --help" ;;
         lint) options="--names --reader --system --locale --verbose --help" ;;
+        update) options="--fresh --repertoire --state --socket --system --locale --verbose --help" ;;
         manifest) options="--system --locale --root --verbose --help" ;;
-        serve) options="--names --at-once --unsent --mode --replace --unlink --verbose --help" ;;
+        serve) options="--names --state --at-once --unsent --mode --replace --unlink --verbose --help" ;;
         load) options="--verbose --help" ;;
         session) options="--names --open --reset --ask --close --verbose --help" ;;
     esac

@@ -1,5 +1,5 @@
 # Completion of composecheck for fish.
-set -l commands diff how list lint type check explain make manifest serve load session
+set -l commands diff how list lint type check explain make manifest update serve load session
 complete -c composecheck -n "not __fish_seen_subcommand_from $commands" -f
 complete -c composecheck -n "not __fish_seen_subcommand_from $commands" -a type -d "Type keys with a table"
 complete -c composecheck -n "not __fish_seen_subcommand_from $commands" -a check -d "Check a certificate that a new table follows an old one"
@@ -10,6 +10,7 @@ complete -c composecheck -n "not __fish_seen_subcommand_from $commands" -a how -
 complete -c composecheck -n "not __fish_seen_subcommand_from $commands" -a list -d "Print the sequences of a Compose file as they count"
 complete -c composecheck -n "not __fish_seen_subcommand_from $commands" -a lint -d "Find what is wrong in Compose files"
 complete -c composecheck -n "not __fish_seen_subcommand_from $commands" -a manifest -d "Print the manifest of a Compose file"
+complete -c composecheck -n "not __fish_seen_subcommand_from $commands" -a update -d "Take a new Compose file into use"
 complete -c composecheck -n "not __fish_seen_subcommand_from $commands" -a serve -d "Serve typing sessions on a Unix socket"
 complete -c composecheck -n "not __fish_seen_subcommand_from $commands" -a load -d "Load a new table into a running service"
 complete -c composecheck -n "not __fish_seen_subcommand_from $commands" -a session -d "Type keys in a session of a running service"
@@ -19,6 +20,9 @@ complete -c composecheck -n "__fish_seen_subcommand_from check explain make diff
 complete -c composecheck -n "__fish_seen_subcommand_from make" -s o -l output -r -F -d "The file of the certificate"
 complete -c composecheck -n "__fish_seen_subcommand_from explain" -l all -d "All differences"
 complete -c composecheck -n "__fish_seen_subcommand_from make" -l all -d "All characters that cannot be typed"
+complete -c composecheck -n "__fish_seen_subcommand_from update serve" -l state -x -a "(__fish_complete_directories)" -d "Folder of the table in use"
+complete -c composecheck -n "__fish_seen_subcommand_from update" -l repertoire -r -F -d "The characters that people need"
+complete -c composecheck -n "__fish_seen_subcommand_from update" -l socket -r -F -d "The socket of the running service"
 complete -c composecheck -n "__fish_seen_subcommand_from serve" -l at-once -x -d "Serve so many connections at once"
 complete -c composecheck -n "__fish_seen_subcommand_from serve" -l unsent -x -d "Bytes of replies that may be unsent on a connection"
 complete -c composecheck -n "__fish_seen_subcommand_from diff how list lint manifest" -l system -x -a "(__fish_complete_directories)" -d "Folder of the tables of the system"
