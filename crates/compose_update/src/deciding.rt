@@ -50,7 +50,7 @@ pub enum UpdateFault {
     #[error("{0}")]
     Input(Refusal),
     /// The sources of the new table and its certificate are more than 8,388,608 bytes, or there is no source.
-    #[error("refused: update: 1 TooLarge")]
+    #[error("1 TooLarge")]
     TooLarge,
 }
 
