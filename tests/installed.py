@@ -6,6 +6,7 @@ import hashlib
 import os
 import re
 import resource
+import shlex
 import shutil
 import subprocess
 import sys
@@ -136,7 +137,7 @@ def settings_of_the_unit():
 
 def command(program, settings, folder):
     """The unit's command, with its specifiers written out."""
-    return [program, *settings["ExecStart"].replace("%t", folder).split()[1:]]
+    return [program, *shlex.split(settings["ExecStart"].replace("%t", folder))[1:]]
 
 
 def check_unit(program, _, results):

@@ -191,6 +191,21 @@ def check_overlaps(program, results):
         results.expect("loads with an overlap", service.exchange(sent), refused(0, 6) + loaded(1) + OPENED_7 + fed(7, 1) + fed(7, 2, b"x"))
 
 
+def check_allowed_fresh(program, results):
+    """With --fresh, a load whose certificate lists any other fresh keysym is refused as one that isn't valid, and changes nothing."""
+    begins, certificate = b'<a> <b> : "x"\n', b"compose-certificate 2\nbound 1\npairs 1\n0 0\ntypings 0\nfresh 1\n61\n"
+    sent = load(begins, certificate) + load(b"", NOTHING_FOLLOWS)
+    for what, options, wanted in (
+        ("any fresh keysym", (), loaded(1) + refused(0, 8)),
+        ("the fresh keysym that is allowed", ("--fresh", "dead_grave,a"), loaded(1) + refused(0, 8)),
+        ("a fresh keysym that is not allowed", ("--fresh", "dead_grave,b"), refused(0, 8) + loaded(1)),
+        ("a fresh keysym where none is allowed", ("--fresh", ""), refused(0, 8) + loaded(1)),
+        ("the fresh keysym beside one of --names", ("--names", "builtin", "--fresh", "dead_hook,a"), loaded(1) + refused(0, 8)),
+    ):
+        with Serving(program, table=b"", certificate=NOTHING_FOLLOWS, options=options) as service:
+            results.expect(what, service.exchange(sent), wanted)
+
+
 def check_start(program, results):
     """A certificate that isn't valid is answered as by check; a socket that can't be bound is refused."""
     with Serving(program, certificate=b"compose-certificate 1\nbound 2\npairs 0\ntypings 0\n") as service:
@@ -474,7 +489,7 @@ def check_names_and_rules(program, results):
 
 def main():
     program, results = os.path.abspath(sys.argv[1]), Results()
-    for check in (check_worked, check_cuts, check_greatest_load, check_overlaps, check_start, check_clients, check_socket_file, check_modes, check_signal, check_handed_over, check_late_replies,
+    for check in (check_worked, check_cuts, check_greatest_load, check_overlaps, check_allowed_fresh, check_start, check_clients, check_socket_file, check_modes, check_signal, check_handed_over, check_late_replies,
                   check_client_commands, check_sessions, check_names_and_rules):
         check(program, results)
     print(f"{results.passed} passed, {results.failed} failed")

@@ -28,7 +28,7 @@ _composecheck() {
         lint) options="--names --reader --system --locale --verbose --help" ;;
         update) options="--fresh --repertoire --state --socket --system --locale --verbose --help" ;;
         manifest) options="--system --locale --root --verbose --help" ;;
-        serve) options="--names --state --at-once --unsent --mode --replace --unlink --verbose --help" ;;
+        serve) options="--names --fresh --state --at-once --unsent --mode --replace --unlink --verbose --help" ;;
         load) options="--verbose --help" ;;
         session) options="--names --open --reset --ask --close --verbose --help" ;;
     esac

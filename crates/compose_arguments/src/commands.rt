@@ -441,6 +441,12 @@ static SERVE: CommandRow = CommandRow {
         VERBOSE,
         NAMES,
         OptionRow {
+            name: "fresh",
+            letter: None,
+            takes: Takes::Value("KEYS"),
+            help: "Refuse a load whose certificate lists a fresh keysym that is not among KEYS, joined by commas",
+        },
+        OptionRow {
             name: "at-once",
             letter: None,
             takes: Takes::Number {

@@ -78,7 +78,11 @@ pub enum Request<'a> {
         fresh: Vec<&'a str>,
     },
     /// Serve typing sessions on a socket.
-    Serve(ServeArguments<'a>),
+    Serve {
+        arguments: ServeArguments<'a>,
+        /// The names of `--fresh` between commas, where it is given.
+        fresh: Option<Vec<&'a str>>,
+    },
     /// Load a table into a running service.
     Load(LoadArguments<'a>),
     /// Type in a session of a running service.
@@ -174,6 +178,7 @@ fn request_of<'a>(
         "how" => how_request(alloc, given),
         "lint" => Ok(lint_arguments(alloc, given)?.map(Request::Lint)),
         "make" => make_request(alloc, given),
+        "serve" => serve_request(alloc, given),
         "session" => session_request(alloc, given),
         "update" => update_request(alloc, given),
         _ => Ok(request_without_lists(command, given)),
@@ -185,10 +190,23 @@ fn request_without_lists<'a>(command: &str, given: &ArgMatches<'a>) -> Option<Re
     match command {
         "list" => Some(Request::List(list_arguments(given))),
         "manifest" => Some(Request::Manifest(manifest_arguments(given))),
-        "serve" => serve_arguments(given).map(Request::Serve),
         "load" => load_arguments(given).map(Request::Load),
         _ => None,
     }
+}
+
+/// The arguments of `serve`.
+fn serve_request<'a>(
+    alloc: Global,
+    given: &ArgMatches<'a>,
+) -> Result<Option<Request<'a>>, AllocError> {
+    let Some(arguments) = serve_arguments(given) else {
+        return Ok(None);
+    };
+    Ok(Some(Request::Serve {
+        arguments,
+        fresh: given_fresh_names(alloc, given)?,
+    }))
 }
 
 /// The arguments of `session`.
@@ -221,13 +239,9 @@ fn check_request<'a>(
     let Some((tables, repertoire, certificate)) = check_paths(given) else {
         return Ok(None);
     };
-    let fresh = match given.get_str("fresh") {
-        Some(text) => Some(names_between(alloc, text)?),
-        None => None,
-    };
     Ok(Some(Request::Check {
         tables,
-        fresh,
+        fresh: given_fresh_names(alloc, given)?,
         repertoire,
         certificate,
     }))
@@ -322,6 +336,17 @@ fn table_paths<'a>(given: &ArgMatches<'a>) -> Option<TablePaths<'a>> {
         old: given.get_str("OLD")?,
         new: given.get_str("NEW")?,
     })
+}
+
+/// The names of `--fresh` between commas, where it is given.
+fn given_fresh_names<'a>(
+    alloc: Global,
+    given: &ArgMatches<'a>,
+) -> Result<Option<Vec<&'a str>>, AllocError> {
+    match given.get_str("fresh") {
+        Some(text) => Ok(Some(names_between(alloc, text)?)),
+        None => Ok(None),
+    }
 }
 
 /// The names of `--fresh` between commas; none where it is not given.

@@ -121,8 +121,9 @@ pub fn answer<T: ComposeTable, F: Folder>(
         Request::Update { arguments, fresh } => {
             update_files::<T, F>(rt, files, verbose, arguments, fresh)
         }
-        Request::Serve(arguments) => {
-            serve_files::<T, F>(rt, files, options, process_id, arguments)
+        Request::Serve { arguments, fresh } => {
+            let allowed = fresh.as_deref();
+            serve_files::<T, F>(rt, files, options, process_id, arguments, allowed)
         }
         Request::Load(arguments) => put(rt, verbose, load_files(rt, files, arguments)),
         Request::Session(arguments) => {

@@ -14,7 +14,7 @@ use compose_report::{Outcome, outcome_of, outcome_with, written};
 use compose_runs::Options;
 use compose_serve::{Device, serve};
 use compose_service::Service;
-use compose_serving::{BeginFault, BeginInput, begin};
+use compose_serving::{BeginFault, BeginInput, allow_fresh, begin};
 use compose_socket::{SocketFault, SocketFile, listener_of_systemd};
 use compose_tree::ComposeTable;
 use std::alloc::{AllocError, Global};
@@ -30,9 +30,10 @@ pub fn serve_files<T: ComposeTable, F: Folder>(
     options: Options<'_>,
     process_id: u32,
     arguments: &ServeArguments<'_>,
+    allowed: Option<&[&str]>,
 ) -> Result<Ended, Fault> {
     let begun = ServiceFiles::read(files, rt.alloc(), options.names, arguments)?;
-    match begun.begin::<T>(rt.alloc()) {
+    match begun.begin_allowing::<T>(rt.alloc(), allowed) {
         Ok(mut service) => serve_on_socket(rt, process_id, &mut service, arguments),
         Err(fault) => {
             let outcome = start_outcome::<T, F>(rt.alloc(), files, options, arguments, fault);
@@ -130,6 +131,22 @@ impl<'n> ServiceFiles<'n> {
         }
     }
 
+    /// The service that begins with them, whose loads may list these keysyms alone as fresh, if some are given.
+    fn begin_allowing<T: ComposeTable>(
+        self,
+        alloc: Global,
+        allowed: Option<&[&str]>,
+    ) -> Result<Service<T>, BeginFault> {
+        let service = self.begin::<T>(alloc)?;
+        let Some(key_names) = allowed else {
+            return Ok(service);
+        };
+        match allow_fresh(alloc, service, key_names) {
+            Ok(service) => Ok(service),
+            Err(refusal) => Err(BeginFault::Refused(refusal)),
+        }
+    }
+
     /// The service that begins with them.
     fn begin<T: ComposeTable>(self, alloc: Global) -> Result<Service<T>, BeginFault> {
         let (sources, rule) = self.table.into_parts();
@@ -185,19 +202,22 @@ fn start_outcome<T: ComposeTable, F: Folder>(
     files: &mut ReadOnce<F>,
     options: Options<'_>,
     arguments: &ServeArguments<'_>,
+    allowed: Option<&[&str]>,
     fault: BeginFault,
 ) -> Result<Outcome, Fault> {
+    let key_names = allowed.unwrap_or(&[]);
     if !options.verbose {
-        return Ok(outcome_with(alloc, &[], answered(fault), String::new(alloc))?);
+        return Ok(outcome_with(alloc, key_names, answered(fault), String::new(alloc))?);
     }
     let read = ServiceFiles::read(files, alloc, options.names, arguments)?;
-    Ok(detailed_outcome::<T>(alloc, arguments, &read, fault)?)
+    Ok(detailed_outcome::<T>(alloc, arguments, key_names, &read, fault)?)
 }
 
 /// The same outcome, with what there is to say of it.
 fn detailed_outcome<T: ComposeTable>(
     alloc: Global,
     arguments: &ServeArguments<'_>,
+    key_names: &[&str],
     files: &ServiceFiles<'_>,
     fault: BeginFault,
 ) -> Result<Outcome, AllocError> {
@@ -206,7 +226,7 @@ fn detailed_outcome<T: ComposeTable>(
     let given = Given {
         headers: &files.names.files,
         header: &files.names.lines,
-        arguments: &[],
+        arguments: key_names,
         tables: &[table, table],
         repertoire,
         certificate,

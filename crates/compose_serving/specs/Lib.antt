@@ -1,2 +1,3 @@
 pub mod Begin
 pub mod Connection
+pub mod Fresh

@@ -10,7 +10,9 @@
 #![tactic(auto)]
 
 mod connection;
+mod fresh;
 mod start;
 
 pub use connection::connection_line;
+pub use fresh::allow_fresh;
 pub use start::{BeginFault, BeginInput, begin};
