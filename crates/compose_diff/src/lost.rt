@@ -14,10 +14,7 @@ pub fn is_lost(row: &DiffRow) -> bool
 }
 
 /// The rows of such sequences, in order. O(rows).
-pub fn lost_rows<'r>(
-    alloc: Global,
-    rows: &[DiffRow<'r>],
-) -> Result<Vec<DiffRow<'r>>, AllocError>
+pub fn lost_rows<'r>(alloc: Global, rows: &[DiffRow<'r>]) -> Result<Vec<DiffRow<'r>>, AllocError>
     ensures { IfOk result (λ lost. lost.items ≡ words.lost_rows rows.now) }
 {
     let mut lost = Vec::new(alloc);

@@ -157,13 +157,13 @@ module _ (names : KeysymNames) (fresh : List ℕ) (old new : Written) (whole : B
 
   told_each : list_all passes_told (told_rows whole names fresh old new) ≡ true → (s : List ℕ) → is_sequence old.table s || is_sequence new.table s ≡ true → passes_told (row s) ≡ true
   told_each h s either =
-    let parts = and_parts (list_all (λ t. not (test t) || passes_told (row t)) (leaves old.table)) (list_all (λ t. not (not (is_sequence old.table t)) || passes_told (row t)) (leaves new.table)) (sym all_told ∙ h) in
-    elim (cases_Bool (is_sequence old.table s)) [
-      | inl o ↦ by_test (test s) refl (all_at (λ t. not (test t) || passes_told (row t)) (leaves old.table) s parts.0 (leaf_means old.table s ∙ o))
-      | inr o ↦
-          ap (λ b. not (not b) || passes_told (row s)) (sym o)
-          ∙ all_at (λ t. not (not (is_sequence old.table t)) || passes_told (row t)) (leaves new.table) s parts.1 (leaf_means new.table s ∙ ap (λ b. b || is_sequence new.table s) (sym o) ∙ either)
-    ]
+      let parts = and_parts (list_all (λ t. not (test t) || passes_told (row t)) (leaves old.table)) (list_all (λ t. not (not (is_sequence old.table t)) || passes_told (row t)) (leaves new.table)) (sym all_told ∙ h) in
+      elim (cases_Bool (is_sequence old.table s)) [
+        | inl o ↦ by_test (test s) refl (all_at (λ t. not (test t) || passes_told (row t)) (leaves old.table) s parts.0 (leaf_means old.table s ∙ o))
+        | inr o ↦
+            ap (λ b. not (not b) || passes_told (row s)) (sym o)
+            ∙ all_at (λ t. not (not (is_sequence old.table t)) || passes_told (row t)) (leaves new.table) s parts.1 (leaf_means new.table s ∙ ap (λ b. b || is_sequence new.table s) (sym o) ∙ either)
+      ]
     where
       by_test : (b : Bool) → test s ≡ b → not (test s) || passes_told (row s) ≡ true → passes_told (row s) ≡ true
       by_test true e at = ap (λ b. not b || passes_told (row s)) (sym e) ∙ at

@@ -101,7 +101,7 @@ fn add_new_rows<'a>(
             keys: sequence.keys.as_slice(),
             old: None,
             new: sequence.entry,
-                typing: None,
+            typing: None,
         })?;
     }
     Ok(())

@@ -271,7 +271,8 @@ fn lost_rows_are_printed_alone(rt: HostRuntime) -> Result<(), Fail> {
     assert!(rt; is_loss(Change::Changed));
     assert!(rt; !is_loss(Change::NewStart));
     let lost = lost_rows(rt.alloc(), &rows)?;
-    let lines = "waiting: <a> <b> \"\\\"\" OLD:3 now: none\nremoved: <Multi_key> <parenleft> <1> \"①\" OLD:9 now: none\n";
+    let lines =
+        "waiting: <a> <b> \"\\\"\" OLD:3 now: none\nremoved: <Multi_key> <parenleft> <1> \"①\" OLD:9 now: none\n";
     assert_eq!(rt; diff_text(rt.alloc(), &lost)?.as_str(), lines);
     let printed = Printed {
         folds: false,
@@ -280,7 +281,10 @@ fn lost_rows_are_printed_alone(rt: HostRuntime) -> Result<(), Fail> {
     let accepted = Accepted::read(rt.alloc(), b"")?;
     let counts = Counts::of(&rows, 0);
     let no = format!(in rt.alloc(); "{lines}{counts}")?;
-    assert_eq!(rt; answer_diff(rt.alloc(), &rows, &accepted, printed)?, Answer::No(no));
+    assert_eq!(rt;
+        answer_diff(rt.alloc(), &rows, &accepted, printed)?,
+        Answer::No(no)
+    );
     Ok(())
 }
 
