@@ -3,5 +3,3 @@ pub mod NextLine
 pub mod OneMore
 pub mod LastOnes
 pub mod OneSource
-pub mod LongerOnes
-pub mod AllLines

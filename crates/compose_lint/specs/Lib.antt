@@ -4,7 +4,6 @@ pub mod Texts
 pub mod Readers
 pub mod FileLines
 pub mod Faults
-pub mod Longer
 pub mod Counting
 pub mod Findings
 pub mod Lost

@@ -1,7 +1,6 @@
 //! What is wrong in a table, and which readers of Compose files don't take it.
 #![tactic(auto)]
 
-mod all_lines;
 mod answer;
 mod classes;
 mod counting;
@@ -12,7 +11,6 @@ mod finding;
 mod kinds;
 mod lines;
 mod lint;
-mod longer;
 mod lost;
 mod production;
 mod reader;

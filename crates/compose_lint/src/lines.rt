@@ -61,13 +61,6 @@ impl<'a> LintLine<'a> {
         self.line
     }
 
-    /// The index of its source, and its number there.
-    pub(crate) fn place(&self) -> (usize, usize)
-        ensures { result ≡ (self.now.source, self.now.line) }
-    {
-        (self.source, self.line)
-    }
-
     /// Its bytes, without the newline.
     pub(crate) fn bytes(&self) -> &'a [u8]
         ensures { result.now ≡ self.now.bytes }
