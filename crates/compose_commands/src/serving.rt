@@ -36,7 +36,14 @@ pub fn serve_files<T: ComposeTable, F: Folder>(
     match begun.begin_allowing::<T>(rt.alloc(), allowed) {
         Ok(mut service) => serve_on_socket(rt, process_id, &mut service, arguments),
         Err(fault) => {
-            let outcome = start_outcome::<T, F>(rt.alloc(), files, options, arguments, fault);
+            let outcome = start_outcome::<T, F>(
+                rt.alloc(),
+                files,
+                options,
+                arguments,
+                allowed,
+                fault,
+            );
             put(rt, options.verbose, outcome)
         }
     }
