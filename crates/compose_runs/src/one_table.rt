@@ -1,9 +1,5 @@
 //! What a command on one Compose file reads.
-ghost use Rattle.std.specs.Prelude.{◌≡◌, ◌++◌, None, map, IfOk, option_copied, string_bytes};
-ghost use Rattle.compose_runs.specs.Environment.{GivesPlaces};
-ghost use Rattle.compose_runs.specs.Environment as said;
-ghost use Rattle.compose_runs.specs.OneTable as words;
-ghost use Rattle.compose_runs.specs.OneTable.{IsChosen, IsTableRead, IsTableOutcome, table_places};
+ghost use Rattle.std.specs.Prelude.{◌≡◌, ◌++◌, IfOk, string_bytes};
 
 use crate::differing::read_names;
 use crate::environment::{Environment, PlaceArguments};
@@ -37,9 +33,6 @@ impl<'n> TableRead<'n> {
         arguments: &TableArguments<'_>,
     ) -> Result<TableRead<'n>, Fault>
         ensures kept { files.new.holds ≡ files.old.holds }
-        ensures read { IfOk result
-            (λ read. IsTableRead files.old.holds environment.now
-            (map (λ name. name.now) names.now) arguments.now read) }
     {
         let places = places_of(environment, arguments)?;
         let names = read_names(files, alloc, names)?;
@@ -59,9 +52,7 @@ impl<'n> TableRead<'n> {
         self,
         alloc: Global,
         answered: Result<Answer, Refusal>,
-    ) -> Result<Outcome, AllocError>
-        ensures { IfOk result (λ outcome. IsTableOutcome self answered outcome) }
-    {
+    ) -> Result<Outcome, AllocError> {
         let verbose = is_refused(&answered);
         let tables = [GivenTable::of(&self.table)];
         let given = Given::of(&self.names, &[], &tables);
@@ -71,9 +62,7 @@ impl<'n> TableRead<'n> {
 }
 
 /// Whether there is no answer.
-fn is_refused(answered: &Result<Answer, Refusal>) -> bool
-    ensures { result ≡ words.is_refused answered.now }
-{
+fn is_refused(answered: &Result<Answer, Refusal>) -> bool {
     match answered {
         Ok(_) => false,
         Err(_) => true,
@@ -93,9 +82,7 @@ pub(crate) fn joined(alloc: Global, first: &str, second: &str) -> Result<String,
 fn places_of<'a>(
     environment: &'a Environment,
     arguments: &TableArguments<'a>,
-) -> Result<Places<'a>, Fault>
-    ensures { GivesPlaces (table_places arguments.now) result (said.places_of environment.now) }
-{
+) -> Result<Places<'a>, Fault> {
     environment.places(PlaceArguments {
         system: arguments.system,
         locale: arguments.locale,
@@ -104,9 +91,7 @@ fn places_of<'a>(
 }
 
 /// What is done with overlaps.
-fn rule_of(arguments: &TableArguments<'_>) -> Rule
-    ensures { result ≡ words.rule_of arguments.now }
-{
+fn rule_of(arguments: &TableArguments<'_>) -> Rule {
     if arguments.refuse_overlaps {
         Rule::Refuse
     } else {
@@ -130,7 +115,6 @@ pub(crate) fn file_or_own<F: Folder>(
     given: Option<&str>,
 ) -> Result<ChosenFile, Fault>
     ensures kept { files.new.holds ≡ files.old.holds }
-    ensures chosen { IfOk result (IsChosen (option_copied given.entry)) }
 {
     match given {
         Some(path) => Ok(ChosenFile {
@@ -145,9 +129,7 @@ pub(crate) fn file_or_own<F: Folder>(
 }
 
 /// A file that was not given, and the line that notes it.
-fn noted_file(alloc: Global, path: String) -> Result<ChosenFile, AllocError>
-    ensures { IfOk result (IsChosen None) }
-{
+fn noted_file(alloc: Global, path: String) -> Result<ChosenFile, AllocError> {
     let shown = Shown(&path);
     let note = format!(in alloc; "note: the Compose file is {shown}\n")?;
     Ok(ChosenFile { path, note })

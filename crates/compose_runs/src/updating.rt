@@ -1,6 +1,5 @@
 //! `update`: what is read, and what is then done with the table in use.
-ghost use Rattle.std.specs.Prelude.{◌≡◌, map, IfOk, option_copied};
-ghost use Rattle.compose_runs.specs.Updating.{AreUpdateFiles, IsUpdateRun, Shows};
+ghost use Rattle.std.specs.Prelude.{◌≡◌};
 
 use crate::environment::{Environment, PlaceArguments};
 use compose_answer::{Ended, Refusal};
@@ -50,8 +49,6 @@ impl UpdateFiles {
         arguments: &UpdateArguments<'_>,
     ) -> Result<UpdateFiles, Fault>
         ensures kept { files.new.holds ≡ files.old.holds }
-        ensures read { IfOk result
-            (λ read. AreUpdateFiles files.old.holds environment.now arguments.now read) }
     {
         let places = environment.places(PlaceArguments {
             system: arguments.system,
@@ -112,11 +109,7 @@ fn update_of<T: ComposeTable>(
     verbose: bool,
     fresh: &[&str],
     current: Option<&Sources>,
-) -> Result<UpdateRun, AllocError>
-    ensures { IfOk result
-        (λ run. IsUpdateRun files.now (map (λ name. name.now) fresh.now)
-        (option_copied current.entry) run) }
-{
+) -> Result<UpdateRun, AllocError> {
     let input = UpdateInput {
         header: &files.names.lines,
         fresh,
@@ -135,9 +128,7 @@ fn shown<T: ComposeTable>(
     verbose: bool,
     fresh: &[&str],
     decided: Result<Update, UpdateFault>,
-) -> Result<UpdateRun, AllocError>
-    ensures { IfOk result (λ run. Shows decided run) }
-{
+) -> Result<UpdateRun, AllocError> {
     match decided {
         Ok(
             Update::Replaced {
