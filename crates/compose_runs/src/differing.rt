@@ -276,12 +276,19 @@ fn answer_outcome(
     ensures { IfOk result
         (λ outcome. ShowsAnswer colored answer (map (λ name. name.now) fresh.now) outcome) }
 {
-    let answer = if colored {
-        in_colors(alloc, answer)?
+    let shown = shown_answer(alloc, answer, colored)?;
+    outcome_with(alloc, fresh, Ok(shown), String::new(alloc))
+}
+
+/// The answer, with its lines in colours or not.
+fn shown_answer(alloc: Global, answer: Answer, colored: bool) -> Result<Answer, AllocError>
+    ensures { IfOk result (λ shown. words.IsShown colored answer shown) }
+{
+    if colored {
+        in_colors(alloc, answer)
     } else {
-        answer
-    };
-    outcome_with(alloc, fresh, Ok(answer), String::new(alloc))
+        Ok(answer)
+    }
 }
 
 /// The answer with its lines in colours.
