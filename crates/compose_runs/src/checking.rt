@@ -127,8 +127,9 @@ fn check_answer<T: ComposeTable>(
 ) -> Result<Answer, Refusal>
     ensures { AnswersCheck (allowed_names allowed.entry) result check.now }
 {
+    let input = check.input();
     match allowed {
-        Some(allowed) => check_allowed::<T>(alloc, &check.input(), allowed),
-        None => check_migration::<T>(alloc, &check.input()),
+        Some(allowed) => check_allowed::<T>(alloc, &input, allowed),
+        None => check_migration::<T>(alloc, &input),
     }
 }

@@ -1,5 +1,5 @@
 //! `diff`: what a new Compose file changes for those who type with the old one.
-ghost use Rattle.std.specs.Prelude.{◌≡◌, ◌++◌, map, IfOk, option_copied, string_bytes};
+ghost use Rattle.std.specs.Prelude.{◌≡◌, ◌++◌, ◌∷◌, [], map, IfOk, option_copied, string_bytes, codes};
 ghost use Rattle.compose_diff_rows.specs.Answers.{AnswersDiff};
 ghost use Rattle.compose_input.specs.Names.{AreNames};
 ghost use Rattle.compose_runs.specs.DiffFiles.{IsAccepted, IsDiffTable, names_or_builtin, rule_by};
@@ -327,9 +327,25 @@ fn accept_outcome(
         (λ outcome. IsAcceptRefusal (option_copied path.entry) fault.now outcome) }
 {
     let own = format!(in alloc; "{fault}")?;
-    let mut lines = format!(in alloc; "refused: accept: {own}\n")?;
-    lines.push_str(&accept_details(alloc, path.unwrap_or(""), fault)?)?;
+    let lines = accept_lines(alloc, &own, path.unwrap_or(""), fault)?;
     Ok(Outcome::of_errors(alloc, lines, Ended::Refused))
+}
+
+/// The line of the refusal, by what the fault is printed as, and below it the line of the list.
+fn accept_lines(
+    alloc: Global,
+    own: &str,
+    path: &str,
+    fault: &AcceptFault,
+) -> Result<String, AllocError>
+    ensures { IfOk result
+        (λ lines. string_bytes lines
+        ≡ (codes "refused: accept: " ++ (own.now ++ 10 ∷ []))
+        ++ words.accept_details path.now fault.now) }
+{
+    let mut lines = format!(in alloc; "refused: accept: {own}\n")?;
+    lines.push_str(&accept_details(alloc, path, fault)?)?;
+    Ok(lines)
 }
 
 /// What is wrong with which line of the list of the changes that are meant.

@@ -63,9 +63,10 @@ fn explain_answer<T: ComposeTable>(
     ensures { AnswersExplain all result
         (migration_given both.now (map (λ name. name.now) fresh.now)) }
 {
+    let input = both.input(fresh);
     if all {
-        explain_all_migration::<T>(alloc, &both.input(fresh))
+        explain_all_migration::<T>(alloc, &input)
     } else {
-        explain_migration::<T>(alloc, &both.input(fresh))
+        explain_migration::<T>(alloc, &input)
     }
 }

@@ -79,10 +79,11 @@ fn make_answer<T: ComposeTable>(
         (migration_given both.now (map (λ name. name.now) making.entry.fresh.now))
         repertoire.now }
 {
+    let input = both.input(making.fresh);
     if making.all {
-        make_all_migration::<T>(alloc, &both.input(making.fresh), repertoire)
+        make_all_migration::<T>(alloc, &input, repertoire)
     } else {
-        make_migration::<T>(alloc, &both.input(making.fresh), repertoire)
+        make_migration::<T>(alloc, &input, repertoire)
     }
 }
 

@@ -1,4 +1,4 @@
-use Rattle.std.proofs.Common.{refl, map, sym, ap, ◌∙◌, [], ◌∷◌}
+use Rattle.std.proofs.Common.{refl, map, ap, ◌∙◌, ℕ, List, [], ◌∷◌, Bor}
 use Rattle.compose_report.specs.Outcomes.{IsReported}
 use Rattle.compose_report.proofs.Results.{ok_map}
 use Rattle.compose_runs.specs.Checking.{IsCheckOutcome, allowed_names}
@@ -18,7 +18,7 @@ returns g c =
       parts = record {
         headers = parts.headers;
         header = parts.header;
-        arguments = parts.arguments ∙ ap (λ l. map (λ name. name.now) l.now) c.unwrap_or.ensures ∙ names_or_none c.args.allowed _ refl;
+        arguments = parts.arguments ∙ (ap (λ (l : Bor (List (Bor (List ℕ)))). map (λ name. name.now) l.now) c.unwrap_or.ensures ∙ names_or_none c.args.allowed _ refl);
         tables = parts.tables;
         repertoire = refl;
         certificate = refl;
