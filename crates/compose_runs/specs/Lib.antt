@@ -1,11 +1,2 @@
 pub mod Variables
 pub mod Environment
-pub mod Files
-pub mod Typing
-pub mod Explaining
-pub mod CheckFiles
-pub mod Checking
-pub mod Making
-pub mod Manifest
-pub mod DiffFiles
-pub mod Differing

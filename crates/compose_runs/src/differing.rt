@@ -1,11 +1,5 @@
 //! `diff`: what a new Compose file changes for those who type with the old one.
-ghost use Rattle.std.specs.Prelude.{◌≡◌, ◌++◌, ◌∷◌, [], map, IfOk, option_copied, string_bytes, codes};
-ghost use Rattle.compose_diff_rows.specs.Answers.{AnswersDiff};
-ghost use Rattle.compose_input.specs.Names.{AreNames};
-ghost use Rattle.compose_runs.specs.DiffFiles.{IsAccepted, IsDiffTable, names_or_builtin, rule_by};
-ghost use Rattle.compose_runs.specs.Differing as words;
-ghost use Rattle.compose_runs.specs.Differing.{IsAcceptRefusal, IsDiffOutcome, IsDiffPrinted, IsDiffRun, IsRefusalOutcome, ShowsAnswer, diff_asked};
-ghost use Rattle.compose_runs.specs.Environment.{GivesColor};
+ghost use Rattle.std.specs.Prelude.{◌≡◌};
 
 use crate::environment::{Environment, PlaceArguments};
 use compose_answer::{Answer, Ended, Refusal};
@@ -34,9 +28,6 @@ pub fn run_diff<T: ComposeTable, F: Folder>(
     fresh: &[&str],
 ) -> Result<Outcome, Fault>
     ensures kept { files.new.holds ≡ files.old.holds }
-    ensures outcome { IfOk result
-        (λ outcome. IsDiffRun files.old.holds environment.now (map (λ name. name.now) names.now)
-        arguments.now (map (λ name. name.now) fresh.now) outcome) }
 {
     let colored = is_colored(environment, arguments)?;
     let read = DiffFiles::read(files, alloc, environment, names, arguments)?;
@@ -53,9 +44,6 @@ struct DiffFiles<'n> {
 }
 
 impl<'n> DiffFiles<'n> {
-    ghost use Rattle.compose_runs.specs.DiffFiles.{AreDiffFiles, diff_migration_given};
-    ghost use Rattle.compose_migration.specs.MigrationGives.{given_of};
-
     /// Reads the files of names, both tables as they lie on the system, and the list of the changes that are meant.
     fn read<F: Folder>(
         files: &mut ReadOnce<F>,
@@ -65,9 +53,6 @@ impl<'n> DiffFiles<'n> {
         arguments: &DiffArguments<'_>,
     ) -> Result<DiffFiles<'n>, Fault>
         ensures kept { files.new.holds ≡ files.old.holds }
-        ensures read { IfOk result
-            (λ read. AreDiffFiles files.old.holds environment.now
-            (map (λ name. name.now) names.now) arguments.now read) }
     {
         let (old_root, new_root) = (arguments.old_root, arguments.new_root);
         let names = read_names(files, alloc, names)?;
@@ -97,10 +82,7 @@ impl<'n> DiffFiles<'n> {
     }
 
     /// The migration that they are to give, with these names of fresh keysyms.
-    fn input<'a, 'w>(&'a self, fresh: &'a [&'w str]) -> MigrationInput<'a, 'w>
-        ensures { given_of result
-            ≡ diff_migration_given self.now (map (λ name. name.now) fresh.now) }
-    {
+    fn input<'a, 'w>(&'a self, fresh: &'a [&'w str]) -> MigrationInput<'a, 'w> {
         MigrationInput {
             header: &self.names.lines,
             key_names: fresh,
@@ -117,9 +99,6 @@ pub(crate) fn read_names<'n, F: Folder>(
     names: &[&'n str],
 ) -> Result<NameFiles<'n>, Fault>
     ensures kept { files.new.holds ≡ files.old.holds }
-    ensures read { IfOk result
-        (λ read. AreNames files.old.holds
-        (names_or_builtin (map (λ name. name.now) names.now)) read) }
 {
     if names.is_empty() {
         let builtin: &'n str = "builtin";
@@ -138,9 +117,6 @@ fn read_table<F: Folder>(
     path: &str,
 ) -> Result<TableFiles, Fault>
     ensures kept { files.new.holds ≡ files.old.holds }
-    ensures read { IfOk result
-        (λ table. IsDiffTable files.old.holds environment.now arguments.now root.entry path.now
-        table) }
 {
     let places = environment.places(PlaceArguments {
         system: arguments.system,
@@ -157,8 +133,6 @@ fn read_accepted<F: Folder>(
     path: Option<&str>,
 ) -> Result<Vec<u8>, Fault>
     ensures kept { files.new.holds ≡ files.old.holds }
-    ensures read { IfOk result
-        (λ accepted. IsAccepted files.old.holds (option_copied path.entry) accepted.items) }
 {
     match path {
         Some(path) => read_text(files, alloc, path),
@@ -167,16 +141,12 @@ fn read_accepted<F: Folder>(
 }
 
 /// What is done with overlaps.
-fn rule_of(longest: bool) -> Rule
-    ensures { result ≡ rule_by longest }
-{
+fn rule_of(longest: bool) -> Rule {
     if longest { Rule::Longest } else { Rule::Refuse }
 }
 
 /// How the changes are printed.
-fn form_of(form: DiffForm) -> Form
-    ensures { result ≡ words.form_of form }
-{
+fn form_of(form: DiffForm) -> Form {
     match form {
         DiffForm::Folded => Form::Folded,
         DiffForm::Lines => Form::Lines,
@@ -186,9 +156,7 @@ fn form_of(form: DiffForm) -> Form
 }
 
 /// Whether the lines are in colours: those for programs never are.
-fn is_colored(environment: &Environment, arguments: &DiffArguments<'_>) -> Result<bool, Fault>
-    ensures { GivesColor result (words.is_colored environment.now arguments.now) }
-{
+fn is_colored(environment: &Environment, arguments: &DiffArguments<'_>) -> Result<bool, Fault> {
     match (arguments.form, arguments.color) {
         (DiffForm::Json | DiffForm::AcceptList, _) => Ok(false),
         (_, DiffColor::Always) => Ok(true),
@@ -204,11 +172,7 @@ fn diff_outcome<T: ComposeTable>(
     arguments: &DiffArguments<'_>,
     fresh: &[&str],
     colored: bool,
-) -> Result<Outcome, AllocError>
-    ensures { IfOk result
-        (λ outcome. IsDiffOutcome files.now arguments.now (map (λ name. name.now) fresh.now)
-        colored outcome) }
-{
+) -> Result<Outcome, AllocError> {
     let answered = diff_answer::<T>(alloc, files, arguments, fresh);
     let printed = printed_outcome::<T>(alloc, files, arguments, fresh, colored, answered)?;
     Ok(printed.with_notes(notes_of(alloc, files)?))
@@ -222,11 +186,7 @@ fn printed_outcome<T: ComposeTable>(
     fresh: &[&str],
     colored: bool,
     answered: Result<Answer, DiffFault>,
-) -> Result<Outcome, AllocError>
-    ensures { IfOk result
-        (λ outcome. IsDiffPrinted files.now arguments.now (map (λ name. name.now) fresh.now)
-        colored answered outcome) }
-{
+) -> Result<Outcome, AllocError> {
     match answered {
         Ok(answer) => answer_outcome(alloc, fresh, answer, colored),
         Err(DiffFault::Input(refusal)) => refusal_outcome::<T>(alloc, files, fresh, refusal),
@@ -235,11 +195,7 @@ fn printed_outcome<T: ComposeTable>(
 }
 
 /// Notes on the files of both tables.
-fn notes_of(alloc: Global, files: &DiffFiles<'_>) -> Result<String, AllocError>
-    ensures { IfOk result
-        (λ notes. string_bytes notes
-        ≡ string_bytes files.now.old.note ++ string_bytes files.now.new.note) }
-{
+fn notes_of(alloc: Global, files: &DiffFiles<'_>) -> Result<String, AllocError> {
     let mut notes = String::from_str(alloc, &files.old.note)?;
     notes.push_str(&files.new.note)?;
     Ok(notes)
@@ -251,10 +207,7 @@ fn diff_answer<T: ComposeTable>(
     files: &DiffFiles<'_>,
     arguments: &DiffArguments<'_>,
     fresh: &[&str],
-) -> Result<Answer, DiffFault>
-    ensures { AnswersDiff
-        (diff_asked files.now arguments.now (map (λ name. name.now) fresh.now)) result }
-{
+) -> Result<Answer, DiffFault> {
     let (old_paths, new_paths) = (files.old.path_texts(alloc)?, files.new.path_texts(alloc)?);
     let input = DiffInput {
         tables: files.input(fresh),
@@ -273,18 +226,13 @@ fn answer_outcome(
     fresh: &[&str],
     answer: Answer,
     colored: bool,
-) -> Result<Outcome, AllocError>
-    ensures { IfOk result
-        (λ outcome. ShowsAnswer colored answer (map (λ name. name.now) fresh.now) outcome) }
-{
+) -> Result<Outcome, AllocError> {
     let shown = shown_answer(alloc, answer, colored)?;
     outcome_with(alloc, fresh, Ok(shown), String::new(alloc))
 }
 
 /// The answer, with its lines in colours or not.
-fn shown_answer(alloc: Global, answer: Answer, colored: bool) -> Result<Answer, AllocError>
-    ensures { IfOk result (λ shown. words.IsShown colored answer shown) }
-{
+fn shown_answer(alloc: Global, answer: Answer, colored: bool) -> Result<Answer, AllocError> {
     if colored {
         in_colors(alloc, answer)
     } else {
@@ -293,9 +241,7 @@ fn shown_answer(alloc: Global, answer: Answer, colored: bool) -> Result<Answer, 
 }
 
 /// The answer with its lines in colours.
-fn in_colors(alloc: Global, answer: Answer) -> Result<Answer, AllocError>
-    ensures { IfOk result (λ shown. words.IsColored answer shown) }
-{
+fn in_colors(alloc: Global, answer: Answer) -> Result<Answer, AllocError> {
     match answer {
         Answer::Yes(text) => Ok(Answer::Yes(colored_text(alloc, &text)?)),
         Answer::No(text) => Ok(Answer::No(colored_text(alloc, &text)?)),
@@ -309,10 +255,7 @@ fn refusal_outcome<T: ComposeTable>(
     files: &DiffFiles<'_>,
     fresh: &[&str],
     refusal: Refusal,
-) -> Result<Outcome, AllocError>
-    ensures { IfOk result
-        (λ outcome. IsRefusalOutcome files.now (map (λ name. name.now) fresh.now) refusal outcome) }
-{
+) -> Result<Outcome, AllocError> {
     let tables = [GivenTable::of(&files.old), GivenTable::of(&files.new)];
     let given = Given::of(&files.names, fresh, &tables);
     outcome_of::<T>(alloc, true, &given, Err(refusal))
@@ -323,10 +266,7 @@ fn accept_outcome(
     alloc: Global,
     path: Option<&str>,
     fault: &AcceptFault,
-) -> Result<Outcome, AllocError>
-    ensures { IfOk result
-        (λ outcome. IsAcceptRefusal (option_copied path.entry) fault.now outcome) }
-{
+) -> Result<Outcome, AllocError> {
     let own = format!(in alloc; "{fault}")?;
     let lines = accept_lines(alloc, &own, path.unwrap_or(""), fault)?;
     Ok(Outcome::of_errors(alloc, lines, Ended::Refused))
@@ -338,22 +278,14 @@ fn accept_lines(
     own: &str,
     path: &str,
     fault: &AcceptFault,
-) -> Result<String, AllocError>
-    ensures { IfOk result
-        (λ lines. string_bytes lines
-        ≡ (codes "refused: accept: " ++ (own.now ++ 10 ∷ []))
-        ++ words.accept_details path.now fault.now) }
-{
+) -> Result<String, AllocError> {
     let mut lines = format!(in alloc; "refused: accept: {own}\n")?;
     lines.push_str(&accept_details(alloc, path, fault)?)?;
     Ok(lines)
 }
 
 /// What is wrong with which line of the list of the changes that are meant.
-fn accept_details(alloc: Global, path: &str, fault: &AcceptFault) -> Result<String, AllocError>
-    ensures { IfOk result
-        (λ lines. string_bytes lines ≡ words.accept_details path.now fault.now) }
-{
+fn accept_details(alloc: Global, path: &str, fault: &AcceptFault) -> Result<String, AllocError> {
     let (line, words) = match fault {
         AcceptFault::Stale { line } => (*line, "no change of these tables is told by the line"),
         AcceptFault::BadLine { line } => {

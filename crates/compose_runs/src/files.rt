@@ -1,6 +1,5 @@
 //! The files of an old and a new table.
-ghost use Rattle.std.specs.Prelude.{◌≡◌, map, IfOk};
-ghost use Rattle.compose_migration.specs.MigrationGives.{given_of};
+ghost use Rattle.std.specs.Prelude.{◌≡◌};
 
 use compose_arguments::TablePaths;
 use compose_details::{Given, GivenTable};
@@ -18,8 +17,6 @@ pub(crate) struct MigrationFiles<'n> {
 }
 
 impl<'n> MigrationFiles<'n> {
-    ghost use Rattle.compose_runs.specs.Files.{AreMigrationFiles, migration_given};
-
     /// Reads the files of names, those of the old table, and those of the new one.
     pub(crate) fn read<F: Folder>(
         files: &mut ReadOnce<F>,
@@ -28,9 +25,6 @@ impl<'n> MigrationFiles<'n> {
         paths: &TablePaths<'_>,
     ) -> Result<MigrationFiles<'n>, Fault>
         ensures kept { files.new.holds ≡ files.old.holds }
-        ensures read { IfOk result
-            (λ read. AreMigrationFiles files.old.holds (map (λ name. name.now) names.now)
-            paths.now.old.now paths.now.new.now read) }
     {
         let names = NameFiles::read(files, alloc, names)?;
         let old = TableFiles::listed(files, alloc, "old", paths.old)?;
@@ -39,10 +33,7 @@ impl<'n> MigrationFiles<'n> {
     }
 
     /// The migration that they are to give, with these names of fresh keysyms.
-    pub(crate) fn input<'a, 'w>(&'a self, fresh: &'a [&'w str]) -> MigrationInput<'a, 'w>
-        ensures { given_of result
-            ≡ migration_given self.now (map (λ name. name.now) fresh.now) }
-    {
+    pub(crate) fn input<'a, 'w>(&'a self, fresh: &'a [&'w str]) -> MigrationInput<'a, 'w> {
         MigrationInput {
             header: &self.names.lines,
             key_names: fresh,

@@ -1,6 +1,5 @@
 //! `manifest`: the sources of a Compose file on the system.
-ghost use Rattle.std.specs.Prelude.{◌≡◌, IfOk};
-ghost use Rattle.compose_runs.specs.Manifest.{IsManifestOutcome, IsWrittenManifest};
+ghost use Rattle.std.specs.Prelude.{◌≡◌};
 
 use crate::environment::{Environment, PlaceArguments};
 use crate::one_table::{file_or_own, joined};
@@ -41,18 +40,13 @@ fn manifest_outcome(
     places: Places<'_>,
     file: &str,
     found: &[FoundSource],
-) -> Result<Outcome, AllocError>
-    ensures { IfOk result
-        (λ outcome. IsManifestOutcome places.entry file.now found.now outcome) }
-{
+) -> Result<Outcome, AllocError> {
     let notes = files_note(alloc, places, file, found)?;
     Ok(written_manifest(alloc, found)?.with_notes(notes))
 }
 
 /// The manifest of these sources on standard output; a refusal where a name or a path can't stand in one.
-fn written_manifest(alloc: Global, found: &[FoundSource]) -> Result<Outcome, AllocError>
-    ensures { IfOk result (λ outcome. IsWrittenManifest found.now outcome) }
-{
+fn written_manifest(alloc: Global, found: &[FoundSource]) -> Result<Outcome, AllocError> {
     match manifest_text(alloc, found) {
         Ok(text) => Ok(Outcome::of_output(alloc, text, Ended::Yes)),
         Err(WriteFault::NoMemory) => Err(AllocError),

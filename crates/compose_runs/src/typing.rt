@@ -1,6 +1,5 @@
 //! `type`: what happens at keys.
-ghost use Rattle.std.specs.Prelude.{◌≡◌, map, IfOk};
-ghost use Rattle.compose_runs.specs.Typing.{IsTypeRun, IsTypeOutcome};
+ghost use Rattle.std.specs.Prelude.{◌≡◌};
 
 use crate::options::Options;
 use compose_details::{Given, GivenTable};
@@ -21,9 +20,6 @@ pub fn run_type<T: ComposeTable, F: Folder>(
     keys: &[&str],
 ) -> Result<Outcome, Fault>
     ensures kept { files.new.holds ≡ files.old.holds }
-    ensures outcome { IfOk result
-        (λ outcome. IsTypeRun files.old.holds options.entry table.now
-        (map (λ key. key.now) keys.now) outcome) }
 {
     let names = NameFiles::read(files, alloc, options.names)?;
     let table = TableFiles::listed(files, alloc, "table", table)?;
@@ -37,11 +33,7 @@ fn type_outcome<T: ComposeTable>(
     names: &NameFiles<'_>,
     table: &TableFiles,
     keys: &[&str],
-) -> Result<Outcome, AllocError>
-    ensures { IfOk result
-        (λ outcome. IsTypeOutcome verbose names.now table.now (map (λ key. key.now) keys.now)
-        outcome) }
-{
+) -> Result<Outcome, AllocError> {
     let answered = type_keys::<T>(alloc, &names.lines, keys, &table.input());
     let tables = [GivenTable::of(table)];
     let given = Given::of(names, keys, &tables);

@@ -35,13 +35,14 @@ is_root (Some x) (Some y) h = h
 
 pub returns : goal.returns
 returns c =
-    let arguments = c.args.arguments in let system = c.in_ok-system.system in let locale = c.in_ok-locale.locale in let home = c.in_ok-home.home in
-    (parts (option_copied system) (option_copied locale) (option_copied home),
-     says c.args.self.now (option_copied system) (option_copied locale) (option_copied home) c.in_ok-system.ensures c.in_ok-locale.ensures c.in_ok-home.ensures,
-     record {
-       system = now_or c.unwrap_or.result c.or.result arguments.system system _ c.unwrap_or.ensures c.or.ensures;
-       tree = refl;
-       locale = ap option_copied c.or-2.ensures ∙ copied_or arguments.locale locale;
-       home = refl;
-       root = is_root arguments.root c.map.result c.map.ensures.cases;
-     })
+    let arguments = c.args.arguments in let system = c.in_ok-system.system in let locale = c.in_ok-locale.locale in let home = c.in_ok-home.home in (
+      parts (option_copied system) (option_copied locale) (option_copied home),
+      says c.args.self.now (option_copied system) (option_copied locale) (option_copied home) c.in_ok-system.ensures c.in_ok-locale.ensures c.in_ok-home.ensures,
+      record {
+        system = now_or c.unwrap_or.result c.or.result arguments.system system _ c.unwrap_or.ensures c.or.ensures;
+        tree = refl;
+        locale = ap option_copied c.or-2.ensures ∙ copied_or arguments.locale locale;
+        home = refl;
+        root = is_root arguments.root c.map.result c.map.ensures.cases;
+      },
+    )
