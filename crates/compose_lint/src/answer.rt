@@ -89,11 +89,7 @@ fn answer_with(
 }
 
 /// The answer that tells these findings.
-fn answer_of(
-    alloc: Global,
-    found_in: FoundIn<'_>,
-    found: &[Finding],
-) -> Result<Answer, AllocError>
+fn answer_of(alloc: Global, found_in: FoundIn<'_>, found: &[Finding]) -> Result<Answer, AllocError>
     ensures { IfOk result
         (Tells
         (findings_text found_in.entry.sources.now found_in.entry.faults.now

@@ -25,7 +25,10 @@ pub(crate) fn has_eleven_keysyms(definition: &LineDefinition) -> bool
 pub(crate) fn has_no_symbol(definition: &LineDefinition) -> bool
     ensures { result ≡ words.has_no_symbol definition.now }
 {
-    definition.sequence().iter().any(|keysym| keysym.value() == 0)
+    definition
+        .sequence()
+        .iter()
+        .any(|keysym| keysym.value() == 0)
 }
 
 /// Whether the text has 255 bytes. O(1).
@@ -39,7 +42,10 @@ pub(crate) fn has_longest_text(definition: &LineDefinition) -> bool
 pub(crate) fn has_wide_keysym(definition: &LineDefinition) -> bool
     ensures { result ≡ words.has_wide_keysym definition.now }
 {
-    definition.sequence().iter().any(|keysym| keysym.value() > 0xffff)
+    definition
+        .sequence()
+        .iter()
+        .any(|keysym| keysym.value() > 0xffff)
 }
 
 /// Whether the name of the result begins with a digit. O(1).

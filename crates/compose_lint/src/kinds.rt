@@ -173,10 +173,18 @@ fn push_gtk_kinds(
         ≡ kinds.old.items ++ words.gtk_kinds readers production.now definition.now) }
 {
     let none = has_no_string(production);
-    push_when(kinds, readers.gtk3 && none, Kind::Reader(Reader::Gtk3, Class::NoString))?;
+    push_when(
+        kinds,
+        readers.gtk3 && none,
+        Kind::Reader(Reader::Gtk3, Class::NoString),
+    )?;
     let wide = readers.gtk4 && has_wide_keysym(definition);
     push_when(kinds, wide, Kind::Reader(Reader::Gtk4, Class::WideKeysym))?;
-    push_when(kinds, readers.gtk4 && none, Kind::Reader(Reader::Gtk4, Class::NoString))
+    push_when(
+        kinds,
+        readers.gtk4 && none,
+        Kind::Reader(Reader::Gtk4, Class::NoString),
+    )
 }
 
 /// Adds what other readers make of how the file is written.
@@ -193,11 +201,19 @@ fn push_file_kinds(
 {
     let marked = is_after_mark(bytes, line);
     let class = Class::ByteOrderMark;
-    push_when(kinds, readers.libx11 && marked, Kind::Reader(Reader::LibX11, class))?;
+    push_when(
+        kinds,
+        readers.libx11 && marked,
+        Kind::Reader(Reader::LibX11, class),
+    )?;
     let is_lost = readers.libxkbcommon && marked;
     push_when(kinds, is_lost, Kind::Reader(Reader::Libxkbcommon, class))?;
     let is_last = readers.libxkbcommon && is_without_newline(bytes, lines, line);
-    push_when(kinds, is_last, Kind::Reader(Reader::Libxkbcommon, Class::NoNewline))
+    push_when(
+        kinds,
+        is_last,
+        Kind::Reader(Reader::Libxkbcommon, Class::NoNewline),
+    )
 }
 
 /// Adds what other readers make of blanks in a production.
@@ -212,9 +228,17 @@ fn push_blank_kinds(
         ≡ kinds.old.items ++ words.blank_kinds readers line.now production.now) }
 {
     let returned = readers.libx11 && has_return(line, production);
-    push_when(kinds, returned, Kind::Reader(Reader::LibX11, Class::CarriageReturn))?;
+    push_when(
+        kinds,
+        returned,
+        Kind::Reader(Reader::LibX11, Class::CarriageReturn),
+    )?;
     let spaced = readers.libxkbcommon && has_spaced_name(line);
-    push_when(kinds, spaced, Kind::Reader(Reader::Libxkbcommon, Class::SpacedName))
+    push_when(
+        kinds,
+        spaced,
+        Kind::Reader(Reader::Libxkbcommon, Class::SpacedName),
+    )
 }
 
 /// The names, the readers that are asked for, the faults that are read, and a file: its bytes and

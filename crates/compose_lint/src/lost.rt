@@ -11,11 +11,7 @@ use std::alloc::{AllocError, Global};
 
 /// How many lines of the sources libX11 skips and how many libxkbcommon, together, though they are
 /// read here. At the cost of [`find_findings`].
-pub fn lost_count(
-    alloc: Global,
-    names: &Names,
-    sources: &Sources,
-) -> Result<usize, AllocError>
+pub fn lost_count(alloc: Global, names: &Names, sources: &Sources) -> Result<usize, AllocError>
     ensures { IfOk result (λ count. count ≡ lost_count names.now sources.now) }
 {
     let readers = Readers {

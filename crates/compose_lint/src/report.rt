@@ -82,9 +82,14 @@ impl fmt::Display for Kind {
                 "overridden: line {line} gives the sequence another text, which counts"
             ),
             Kind::Repeated { line } => {
-                write!(f, "repeated: line {line} gives the sequence the same text again")
+                write!(
+                    f,
+                    "repeated: line {line} gives the sequence the same text again"
+                )
             }
-            Kind::Keysym => f.write_str("keysym: the keysym after the string has another character"),
+            Kind::Keysym => f.write_str(
+                "keysym: the keysym after the string has another character",
+            ),
             Kind::Mark => f.write_str("mark: the text has one combining mark twice in a row"),
             Kind::Form => f.write_str("form: the text is not in normal form C"),
             Kind::Reader(reader, class) => write!(f, "{reader}: {class}"),
@@ -119,11 +124,7 @@ pub(crate) fn findings_text(
 }
 
 /// Adds the line of a finding.
-fn push_line(
-    text: &mut String,
-    found_in: FoundIn<'_>,
-    finding: Finding,
-) -> Result<(), AllocError>
+fn push_line(text: &mut String, found_in: FoundIn<'_>, finding: Finding) -> Result<(), AllocError>
     ensures { OnOk result
         (string_bytes text.new
         ≡ string_bytes text.old
@@ -137,11 +138,7 @@ fn push_line(
 }
 
 /// Adds the line of the fault with this index, if there is one.
-fn push_fault_at(
-    text: &mut String,
-    found_in: FoundIn<'_>,
-    index: usize,
-) -> Result<(), AllocError>
+fn push_fault_at(text: &mut String, found_in: FoundIn<'_>, index: usize) -> Result<(), AllocError>
     ensures { OnOk result
         (string_bytes text.new
         ≡ string_bytes text.old

@@ -12,11 +12,7 @@ use std::alloc::{AllocError, Global};
 
 /// The outcome of arguments of which clap says this text, which is of this kind: the help that they ask for on standard output, or why
 /// they are refused on standard error. O(bytes).
-pub fn arguments_outcome(
-    alloc: Global,
-    kind: ErrorKind,
-    text: &str,
-) -> Result<Outcome, AllocError>
+pub fn arguments_outcome(alloc: Global, kind: ErrorKind, text: &str) -> Result<Outcome, AllocError>
     ensures { IfOk result (λ outcome. IsArgumentsOutcome kind text.now outcome) }
 {
     Ok(Outcome {

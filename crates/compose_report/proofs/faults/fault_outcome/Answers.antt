@@ -5,6 +5,8 @@ use Rattle.compose_report.proofs.faults.fault_outcome.Goals as goal
 
 pub returns : goal.returns
 returns c =
-    let own = c.in_ok-text.ensures.0 in let lines = fault_lines own c.args.verbose c.args.fault.now in
-    (own, subst (λ ended. PrintsErrors lines ended c.of_errors.result) c.end_of_fault.ensures
-        (subst (λ text. PrintsErrors text c.end_of_fault.result c.of_errors.result) c.in_ok-text.ensures.1 c.of_errors.ensures))
+    let own = c.in_ok-text.ensures.0 in let lines = fault_lines own c.args.verbose c.args.fault.now in (
+      own,
+      subst (λ ended. PrintsErrors lines ended c.of_errors.result) c.end_of_fault.ensures
+          (subst (λ text. PrintsErrors text c.end_of_fault.result c.of_errors.result) c.in_ok-text.ensures.1 c.of_errors.ensures),
+    )
