@@ -262,7 +262,7 @@ def check_counts(program, results):
 
 def check_headings(program, results):
     """Many locales that include a table, and have its change, are counted in a heading and named below it."""
-    line = '    removed: <Multi_key> <b> "y" old/en_US.UTF-8/Compose:2\n'
+    line = '    removed: <Multi_key> <b> "y" old/en_US.UTF-8/Compose:2 now: none\n'
     new = {**MANY, "en_US.UTF-8": NEW["en_US.UTF-8"]}
     with Trees(MANY, new, {}) as trees:
         heading = "\n## en_US.UTF-8 and 4 that include it\n\nfi_FI.UTF-8, pt_PT.UTF-8, ru_RU.UTF-8, th_TH.UTF-8\n\n"
@@ -345,7 +345,7 @@ def check_sources(program, results):
     """Source trees are made into tables first, and the places are those of Compose.pre."""
     old = {"en_US.UTF-8": 'XCOMM English\n<Multi_key> <a> : "x"\n', "fi_FI.UTF-8": SOURCE.format(blanks="\n" * 20, text="c")}
     new = {**old, "fi_FI.UTF-8": SOURCE.format(blanks="\n" * 22, text="C")}
-    line = '    changed: <Multi_key> <c> "c" "C" old/fi_FI.UTF-8/Compose.pre:26 new/fi_FI.UTF-8/Compose.pre:28\n'
+    line = '    changed: <Multi_key> <c> "c" "C" old/fi_FI.UTF-8/Compose.pre:26 new/fi_FI.UTF-8/Compose.pre:28 now: none\n'
     wanted = f"{HEADING}\n## fi_FI.UTF-8\n\n{line}{TWO}"
     for folder in ("", "nls/"):
         with Trees({}, {}, {}) as trees:

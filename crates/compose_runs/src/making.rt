@@ -77,9 +77,7 @@ fn make_answer<T: ComposeTable>(
 }
 
 /// The same outcome, whose output is written to the file at this path, if there is one, where it is a certificate.
-fn written_to(alloc: Global, path: Option<&str>, outcome: Outcome) -> Result<Outcome, AllocError>
-    requires { outcome.file ≡ None }
-{
+fn written_to(alloc: Global, path: Option<&str>, outcome: Outcome) -> Result<Outcome, AllocError> {
     let Some(path) = path else {
         return Ok(outcome);
     };
