@@ -164,32 +164,6 @@ def loads(results, library):
     results.expect(fault and fault.part == 9, "a certificate for another table")
 
 
-def result_keysyms(results, library):
-    """The keysym that the line names which counts, else the first one of a text of one character, else none."""
-    lines = (
-        ('<a> : "x" y', 0x61, 0x79), ('<b> : "x"', 0x62, 0x78), ('<c> : "xy"', 0x63, 0), ("<d> : eacute", 0x64, 0xE9), ('<e> : "xy" z', 0x65, 0x7A),
-        ('<f> : "x" y\n<f> : "x" z', 0x66, 0x7A), ('<g> : "x" y\n<g> : "x"', 0x67, 0x78), ('<h> : "α"', 0x68, 0x7E1), ('<i> : "ẞ"', 0x69, 0x1001E9E),
-    )  # fmt: skip
-    table, state = library.Table({"r": "".join(f"{line}\n" for line, _, _ in lines) + '<j> <a> : "x" y\n'}), library.State()
-    for line, keysym, wanted in lines:
-        got = state.result(table, keysym)
-        results.expect(got == wanted, f"the result of {line!r} is {got:#x}")
-    results.expect(state.result(table, 0x6A) == 0 and state.result(table, 0x7A) == 0, "a result where no sequence ends")
-    state.feed(table, 0x6A)
-    results.expect(state.result(table, 0x61) == 0x79 and state.result(table, 0x62) == 0, "the result of a sequence of two keysyms")
-    results.expect(state.result(table, 0x20000000) == 0, "the result of what is no keysym")
-
-
-def plain_keys(results, library):
-    """The characters of keysyms, by the names that are built in and by a header."""
-    keysyms = [0x61, 0x7E1, 0xFFB5, 0x100263A, 0xFE51, 0x20000000, 0x1000001]
-    results.expect(library.characters(keysyms) == ["a", "α", "5", "☺", "", "", ""], f"the characters of keysyms: {library.characters(keysyms)}")
-    results.expect(library.characters([0x1000001], "#define XK_own 0x1000001 /* U+2603 */\n") == ["☃"], "a character that a header gives")
-    results.expect(library.characters([]) == [], "no keysyms")
-    fault, _ = refusal(lambda: library.characters([0x61], "#define XK_own 0xffffffff\n"))
-    results.expect(fault and (fault.part, fault.code, fault.line) == (1, 3, 1), "the header's fault for characters")
-
-
 # ---- beside libxkbcommon
 
 
@@ -210,7 +184,6 @@ def compose_calls(path):
         ("state_feed", ctypes.c_int, (pointer, ctypes.c_uint32)),
         ("state_get_status", ctypes.c_int, (pointer,)),
         ("state_get_utf8", ctypes.c_int, (pointer, text, ctypes.c_size_t)),
-        ("state_get_one_sym", ctypes.c_uint32, (pointer,)),
     ):
         function = getattr(library, f"xkb_compose_{name}")
         function.restype, function.argtypes = result, arguments
@@ -230,9 +203,6 @@ class Typed:
         length = self.library.xkb_compose_state_get_utf8(self.state, self.buffer, len(self.buffer))
         return fed, self.library.xkb_compose_state_get_status(self.state), length, self.buffer.value
 
-    def keysym(self):
-        return self.library.xkb_compose_state_get_one_sym(self.state)
-
     def end(self):
         if self.state:
             self.library.xkb_compose_state_unref(self.state)
@@ -240,11 +210,10 @@ class Typed:
 
 
 def differences(mine, theirs, keys):
-    """How many of the keys are answered in another way, or give another keysym than their line names; both are put at rest now and then."""
+    """How many of the keys are answered in another way; both are put at rest now and then."""
     wrong = 0
     for index, key in enumerate(keys):
         wrong += mine.feed(key) != theirs.feed(key)
-        wrong += theirs.keysym() not in (0, mine.keysym())
         if index % 997 == 0:
             for it in (mine, theirs):
                 it.library.xkb_compose_state_reset(it.state)
@@ -351,7 +320,7 @@ def main():
         os.environ["COMPOSECHECK_LIBRARY"] = f"{folder}/lib/libcomposecheck.so.1"
         import composecheck as library
 
-        for test in (refusals, loads, result_keysyms, plain_keys, random_keys):
+        for test in (refusals, loads, random_keys):
             test(results, library)
         beside(results, folder, count, locales)
         symbols(results, f"{folder}/lib")
