@@ -75,18 +75,18 @@ test-whole:
 # Where $(PYTHON) looks for modules below PREFIX, if it does.
 MODULES = $(shell $(PYTHON) -c 'import site, sys; print(next((it for it in site.getsitepackages() if it.startswith(sys.argv[1])), ""))' $(PREFIX)/lib/ 2> /dev/null)
 IBUS_ID = org.freedesktop.ibus.engine.composecheck
+UNITS = composecheck.service composecheck.socket composecheck-update@.path composecheck-update@.service
 
 install: composecheck install-lib install-ibus
 	install -D composecheck $(DESTDIR)$(PREFIX)/bin/composecheck
 	install -D -m 644 docs/composecheck.1 $(DESTDIR)$(PREFIX)/share/man/man1/composecheck.1
 	install -D -m 644 docs/composecheck.5 $(DESTDIR)$(PREFIX)/share/man/man5/composecheck.5
 	install -D -m 644 -t $(DESTDIR)$(PREFIX)/share/composecheck $(wildcard share/composecheck/*.*)
-	chmod 755 $(DESTDIR)$(PREFIX)/share/composecheck/ci.sh
+	chmod 755 $(DESTDIR)$(PREFIX)/share/composecheck/ci.sh $(DESTDIR)$(PREFIX)/share/composecheck/update.sh
 	install -D -m 644 -t $(DESTDIR)$(PREFIX)/share/composecheck/repertoires $(wildcard share/composecheck/repertoires/*)
 	install -D -m 644 -t $(DESTDIR)$(PREFIX)/share/composecheck/ci $(wildcard share/composecheck/ci/*)
-	install -D -m 644 share/composecheck/composecheck.socket $(DESTDIR)$(PREFIX)/lib/systemd/user/composecheck.socket
-	install -D -m 644 share/composecheck/composecheck.service $(DESTDIR)$(PREFIX)/lib/systemd/user/composecheck.service
-	sed -i 's|/usr/local/|$(PREFIX)/|' $(DESTDIR)$(PREFIX)/lib/systemd/user/composecheck.service
+	install -D -m 644 -t $(DESTDIR)$(PREFIX)/lib/systemd/user $(addprefix share/composecheck/,$(UNITS))
+	sed -i 's|/usr/local/|$(PREFIX)/|' $(addprefix $(DESTDIR)$(PREFIX)/lib/systemd/user/,$(filter %.service,$(UNITS)))
 	install -D -m 644 share/completions/composecheck.bash $(DESTDIR)$(PREFIX)/share/bash-completion/completions/composecheck
 	install -D -m 644 share/completions/_composecheck $(DESTDIR)$(PREFIX)/share/zsh/site-functions/_composecheck
 	install -D -m 644 share/completions/composecheck.fish $(DESTDIR)$(PREFIX)/share/fish/vendor_completions.d/composecheck.fish
@@ -113,7 +113,7 @@ uninstall:
 	rm -f $(DESTDIR)$(PREFIX)/share/glib-2.0/schemas/$(IBUS_ID).gschema.xml $(DESTDIR)$(PREFIX)/share/metainfo/$(IBUS_ID).metainfo.xml
 	$(if $(MODULES),rm -f $(DESTDIR)$(MODULES)/composecheck_client.py $(DESTDIR)$(MODULES)/composecheck_typing.py)
 	rm -f $(DESTDIR)$(PREFIX)/bin/composecheck $(DESTDIR)$(PREFIX)/share/man/man1/composecheck.1 $(DESTDIR)$(PREFIX)/share/man/man5/composecheck.5
-	rm -f $(DESTDIR)$(PREFIX)/lib/systemd/user/composecheck.service $(DESTDIR)$(PREFIX)/lib/systemd/user/composecheck.socket
+	rm -f $(addprefix $(DESTDIR)$(PREFIX)/lib/systemd/user/,$(UNITS))
 	rm -f $(DESTDIR)$(PREFIX)/lib/libcomposecheck.a $(DESTDIR)$(PREFIX)/lib/libcomposecheck.so $(DESTDIR)$(PREFIX)/lib/libcomposecheck.so.1
 	rm -f $(DESTDIR)$(PREFIX)/lib/libcomposecheck-xkb.so $(DESTDIR)$(PREFIX)/lib/pkgconfig/composecheck.pc $(DESTDIR)$(PREFIX)/include/composecheck.h
 	rm -f $(DESTDIR)$(PREFIX)/share/bash-completion/completions/composecheck
@@ -143,6 +143,7 @@ real: composecheck compose_trials $(LIBRARY)
 	python3 tests/real.py ./composecheck ./compose_trials
 	python3 tests/real_service.py ./composecheck
 	python3 tests/streams.py ./composecheck 100000
+	python3 tests/network.py ./compose_trials 100000
 	python3 tests/library.py 100000
 
 bench: composecheck compose_trials
@@ -150,6 +151,8 @@ bench: composecheck compose_trials
 	python3 bench/growth.py ./composecheck docs/growth.svg
 	python3 bench/service.py ./composecheck
 	python3 bench/at_once.py ./composecheck
+	python3 bench/beside.py ./composecheck
+	python3 bench/hostile.py ./composecheck
 
 clean:
 	rm -rf composecheck compose_trials packages build crates/*/out

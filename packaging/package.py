@@ -34,7 +34,7 @@ COMPLETIONS = {
     "_composecheck": "share/zsh/site-functions/_composecheck",
     "composecheck.fish": "share/fish/vendor_completions.d/composecheck.fish",
 }
-UNITS = ("composecheck.service", "composecheck.socket")
+UNITS = ("composecheck.service", "composecheck.socket", "composecheck-update@.path", "composecheck-update@.service")
 IBUS_ID = "org.freedesktop.ibus.engine.composecheck"
 # The files of the engine of IBus by their places.
 IBUS_FILES = {
@@ -48,7 +48,7 @@ IBUS_FILES = {
 }
 # Which files of the C library programs are built with; the others are needed where they run.
 DEVELOPMENT = (".a", ".h", ".pc", "/libcomposecheck.so")
-PROGRAMS = ("bin/composecheck", "/ci.sh", "/ibus-engine-composecheck", "/ibus-setup-composecheck")
+PROGRAMS = ("bin/composecheck", "/ci.sh", "/update.sh", "/ibus-engine-composecheck", "/ibus-setup-composecheck")
 
 
 class Package(NamedTuple):

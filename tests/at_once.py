@@ -4,7 +4,6 @@ here, or with a second reading of sessions. The last line is `N passed, M failed
 import array
 import contextlib
 import fcntl
-import multiprocessing
 import os
 import random
 import resource
@@ -26,9 +25,10 @@ LARGE_AT_ONCE, LARGE = 8, 100_000
 LOADS = 40
 # A client that reads nothing sends so many requests; their replies are more than sockets hold.
 UNREAD = 200_000
-# So many keys are timed; beside a client that sends keys without a pause the 99th of them takes no longer than this, in seconds, and beside
-# clients that send loads no longer than one load of each and this, on a machine that does nothing else.
-TIMED_KEYS, BESIDE_KEYS, BESIDE_LOADS = 100, 0.050, 0.005
+# A connection may be idle for so many seconds; so many ends of connections are more than a pipe of so many bytes holds.
+IDLE, ENDS, PIPE = 2, 400, 8192
+# So many connections hold several loads each.
+LOADING = 8
 TABLE = {(GRAVE, ACUTE, E): b"x", (ACUTE, E): b"x"}
 NOTHING, COMPOSING, COMPOSED, CANCELLED = range(4)
 
@@ -276,9 +276,12 @@ def check_few_descriptors(program, results, options):
     """Where no descriptor is left a client waits, and is served once there is one."""
     with Serving(program, connections=2, options=options) as service:
         process = service.process.pid
-        results.expect(f"a client before, {options}", service.exchange(OPEN_7), OPENED_7)
         _, most = resource.prlimit(process, resource.RLIMIT_NOFILE)
-        resource.prlimit(process, resource.RLIMIT_NOFILE, (len(os.listdir(f"/proc/{process}/fd")), most))
+        with Peer(service) as first:
+            results.expect(f"a client before, {options}", first.ask(OPEN_7, OPENED_7), OPENED_7)
+            # once it ends its descriptor is past the limit
+            resource.prlimit(process, resource.RLIMIT_NOFILE, (len(os.listdir(f"/proc/{process}/fd")) - 1, most))
+            results.expect(f"its end before, {options}", first.finish(), b"")
         with Peer(service) as waiting:
             waiting.send(frame(6, 7))
             results.expect(f"a client waits for a descriptor, {options}", waiting.waits(1.5), True)
@@ -288,64 +291,101 @@ def check_few_descriptors(program, results, options):
         results.expect(f"what is printed then, {options}", service.ended(), ("listening\nconnection 1: ended\nconnection 2: ended\n", "", 0))
 
 
-# ---- a key beside others
+# ---- connections that send nothing
 
-def send_keys(service, session):
-    """Sends keys without a pause, until it is stopped."""
-    with Peer(service) as peer:
-        peer.ask(frame(1, session), frame(0x81, session))
-        sent, wanted = key(session, X) * 500, fed(session, NOTHING, b"x") * 500
-        while True:
-            peer.ask(sent, wanted)
-
-
-def send_loads(service, _):
-    """Sends small loads without a pause, until it is stopped."""
-    with Peer(service) as peer:
-        sent, size = load(OLD, ITSELF), len(loaded(1))
-        while True:
-            peer.send(sent)
-            peer.read(size)
+def check_idle(program, results):
+    """A connection that sends nothing is ended, in the middle of a frame too, and one that sends is not."""
+    with Serving(program, connections=3, options=at_once(3, "--idle", str(IDLE))) as service:
+        with Peer(service) as silent, Peer(service) as half, Peer(service) as typing:
+            results.expect("before it is idle", silent.ask(OPEN_7 + key(7, GRAVE), OPENED_7 + fed(7, 1)), OPENED_7 + fed(7, 1))
+            half.send(load(NEW, DROPPED)[:40])
+            got = []
+            for _ in range(6 * IDLE):
+                got.append(typing.ask(frame(6, 7), state(7, 1, GRAVE)))
+                time.sleep(0.25)
+            results.expect("a connection that sends beside those that are idle", got, [state(7, 1, GRAVE)] * (6 * IDLE))
+            results.expect("those that are idle are ended", (silent.read(1), half.read(1), typing.finish()), (b"", b"", b""))
+        lines = sorted(service.ended()[0].splitlines())
+        results.expect("what is printed of them", lines, ["connection 1: idle", "connection 2: idle", "connection 3: ended", "listening"])
 
 
-@contextlib.contextmanager
-def beside(clients, service, work):
-    """So many processes do this work meanwhile."""
-    processes = [multiprocessing.get_context("fork").Process(target=work, args=(service, 100 + it), daemon=True) for it in range(clients)]
-    for it in processes:
-        it.start()
-    time.sleep(0.3)
-    try:
-        yield
-    finally:
-        for it in processes:
-            os.kill(it.pid, signal.SIGKILL)
-            it.join()
+def check_idle_one_by_one(program, results):
+    """Without --at-once a client waits until the one before it was idle for so long."""
+    with Serving(program, connections=2, options=("--idle", "1")) as service:
+        with Peer(service) as silent, Peer(service) as waiting:
+            results.expect("the first alone", silent.ask(OPEN_7, OPENED_7), OPENED_7)
+            results.expect("the second once the first was idle", waiting.ask(frame(6, 7), state(7, 0)), state(7, 0))
+            results.expect("both end", (silent.read(1), waiting.finish()), (b"", b""))
+        results.expect("what is printed, one after another", service.ended(), ("listening\nconnection 1: idle\nconnection 2: ended\n", "", 0))
 
 
-def times_of(peer, sent, size, count):
-    """How long each of so many answers takes, in order of length."""
-    times = []
-    for _ in range(count):
-        start = time.perf_counter()
-        peer.send(sent)
-        peer.read(size)
-        times.append(time.perf_counter() - start)
-        time.sleep(0.002)
-    return sorted(times)
+# ---- standard output that takes nothing
+
+def wait_for(path):
+    """Waits until there is a file at the path."""
+    end = time.monotonic() + 60
+    while not os.path.exists(path) and time.monotonic() < end:
+        time.sleep(0.01)
 
 
-def check_keys_beside(program, results, clients, work):
-    """A key waits little for clients that send without a pause; where the machine is busy with other things, longer."""
-    with Serving(program, connections=clients + 2, options=at_once(clients + 2)) as service, Peer(service) as typing, Peer(service) as loading:
-        typing.ask(OPEN_7, OPENED_7)
-        one_load = times_of(loading, load(OLD, ITSELF), len(loaded(1)), 20)[10]
-        most = BESIDE_KEYS if work is send_keys else clients * one_load + BESIDE_LOADS
-        busy = max(1, 4 * os.getloadavg()[0] / os.cpu_count())
-        with beside(clients, service, work):
-            times = times_of(typing, key(7, X), len(fed(7, NOTHING, b"x")), TIMED_KEYS)
-        waited = times[TIMED_KEYS * 99 // 100 - 1]
-        results.expect(f"a key beside {clients} of {work.__name__}: {waited:.4f} of {most * busy:.4f} seconds", waited <= most * busy, True)
+def read_to_count(lines):
+    """The lines up to that of how many ends were not printed, and how many these were."""
+    printed = []
+    for line in lines:
+        if line.startswith("ends not printed: "):
+            return printed, int(line.rpartition(" ")[2])
+        printed.append(line)
+    return printed, None
+
+
+def check_unread_output(program, results, options):
+    """Where nobody reads what is printed, everybody is served, and how many ends were not printed is printed once somebody reads."""
+    reading, writing = os.pipe()
+    fcntl.fcntl(writing, fcntl.F_SETPIPE_SZ, PIPE)
+    with open(reading, encoding="ascii") as lines, Serving(program, connections=ENDS + 1, options=options, output=writing) as service:
+        os.close(writing)
+        wait_for(service.path)
+        got = [service.exchange(frame(6, 7)) for _ in range(ENDS)]
+        results.expect(f"replies while nobody reads what is printed, {options}", got, [refused(7, 2)] * ENDS)
+        printed, count = read_to_count(lines)
+        wanted = ["listening\n", *(f"connection {it}: ended\n" for it in range(1, len(printed)))]
+        results.expect(f"what a pipe held, {options}", (printed, 100 < len(printed) < ENDS), (wanted, True))
+        results.expect(f"a client after that, {options}", service.exchange(frame(6, 7)), refused(7, 2))
+        wanted = [f"connection {it}: ended\n" for it in range(len(printed) + count, ENDS + 2)]
+        results.expect(f"the ends that were counted, and no others, {options}", (list(lines), count > 100), (wanted, True))
+        results.expect(f"the end after that, {options}", service.ended(), ("", "", 0))
+
+
+def check_closed_output(program, results, options):
+    """Where nobody can read what is printed, everybody is served; the status says that lines are missing."""
+    reading, writing = os.pipe()
+    with Serving(program, connections=3, options=options, output=writing) as service:
+        os.close(writing)
+        results.expect(f"before it is closed, {options}", os.read(reading, 100), b"listening\n")
+        os.close(reading)
+        got = [service.exchange(frame(6, 7)) for _ in range(3)]
+        results.expect(f"replies where what is printed is closed, {options}", got, [refused(7, 2)] * 3)
+        results.expect(f"the end where it is closed, {options}", service.ended(), ("", "", 2))
+
+
+# ---- turns
+
+def check_turns(program, results):
+    """Where each of some connections holds several loads, each answers one before any answers its second."""
+    with Serving(program, connections=LOADING + 1, options=at_once(LOADING + 1)) as service, contextlib.ExitStack() as stack:
+        *loading, last = (stack.enter_context(Peer(service)) for _ in range(LOADING + 1))
+        results.expect("all are served", [it.ask(frame(6, 5), refused(5, 2)) for it in (*loading, last)], [refused(5, 2)] * (LOADING + 1))
+        os.kill(service.process.pid, signal.SIGSTOP)
+        for it in loading:
+            it.send(load(OLD, ITSELF) * 3)
+        last.send(load(OLD, ITSELF))
+        os.kill(service.process.pid, signal.SIGCONT)
+        counts = [[it.read(len(loaded(1)))[-8:] for _ in range(3)] for it in loading] + [[last.read(len(loaded(1)))[-8:]]]
+        counts = [[int.from_bytes(count, "big") for count in each] for each in counts]
+        results.expect("all loads are counted", sorted(sum(counts, [])), list(range(1, 3 * LOADING + 2)))
+        for turn in range(3):
+            ranks = [each[turn] for each in counts if turn < len(each)]
+            results.expect(f"loads {turn + 1} of each come together", max(ranks) - min(ranks) < LOADING + 1, True)
 
 
 def main():
@@ -353,9 +393,13 @@ def main():
     assert OLD.count(b"\n") == len(TABLE)
     for check in (check_worked, check_load_beside, check_faults_beside, check_waiting, check_large_loads):
         check(program, results)
-    check_few_descriptors(program, results, at_once(4))
-    for clients, work in ((1, send_keys), (1, send_loads), (8, send_loads)):
-        check_keys_beside(program, results, clients, work)
+    for options in ((), at_once(4)):
+        check_few_descriptors(program, results, options)
+        check_unread_output(program, results, options)
+        check_closed_output(program, results, options)
+    check_idle(program, results)
+    check_idle_one_by_one(program, results)
+    check_turns(program, results)
     for unsent in (65_536, 1):
         check_unread(program, results, unsent)
         check_many(program, results, unsent)

@@ -31,7 +31,7 @@ Where each public call that takes memory is called with ample memory, and its an
   Service::answer (Open, Load, LoadLongest)          here; service.py, streams.py
   Service::run                                       here
   Service::serve                                     devices.py, service.py
-  begin, allow_fresh, connection_line,
+  begin, allow_fresh, end_text, unprinted_text, unprinted_after,
     SocketFile::bind                                 service.py
   read_manifest, read_named, read_only_table,
     read_migration, read_repertoire, in_rising_order,

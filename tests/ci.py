@@ -253,8 +253,8 @@ def check_copied(program, results):
 def check_counts(program, results):
     """Each locale has its counts, and all together."""
     with Trees(OLD, NEW, {"fi_FI.UTF-8": DROPPED}) as trees:
-        dropped = {"kept": 1, "removed": 1}
-        wanted = {"cs_CZ.UTF-8": {"kept": 2}, "en_US.UTF-8": dropped, "fi_FI.UTF-8": {"kept": 1, "accepted": 1}, "all": {"kept": 4, "removed": 1, "accepted": 1}}
+        dropped = {"kept": 1, "removed": 1, "texts lost": 1}
+        wanted = {"cs_CZ.UTF-8": {"kept": 2}, "en_US.UTF-8": dropped, "fi_FI.UTF-8": {"kept": 1, "accepted": 1}, "all": {"kept": 4, "removed": 1, "accepted": 1, "texts lost": 1}}
         results.expect("counts", parted(trees.compare(program)[0])[1], wanted)
     with Trees(OLD, {"en_US.UTF-8": ENGLISH}, {}) as trees:
         results.expect("counts of one locale", parted(trees.compare(program)[0])[1], {"en_US.UTF-8": {"kept": 2}})
@@ -281,7 +281,8 @@ FINDING = """#!/bin/sh
 [ $1 = diff ] || exit 1
 echo 'removed: <a> <b> "x" OLD:1 now: <b> <a> NEW:1'
 case $* in *fi_FI*) printf '%s\\n' 'added: <a> <c> "y" NEW:2' 'changed: <a> <d> "z" "q" OLD:3 NEW:3 now: none' ;; esac
-echo 'diff: 5 kept, 1 new start, 1 text lost'
+echo 'overlaps: 1 in the old table, 0 in the new one; the longer sequences count'
+echo 'diff: 5 kept, 1 new start; 1 text lost'
 exit 1
 """
 
@@ -297,7 +298,7 @@ def check_order(_, results):
         otherwise = '    removed: <a> <b> "x" OLD:1 now: <b> <a> NEW:1\n'
         wanted = f"{HEADING}\n## fi_FI.UTF-8\n\n{lost}{rest}\n## en_US.UTF-8, fi_FI.UTF-8\n\n{otherwise}{TWO}"
         results.expect("the order of lines", (parted(printed)[0], said, status), (wanted, "", 1))
-        results.expect("other counts", parted(printed)[1]["all"], {"kept": 10, "new starts": 2, "texts lost": 2})
+        results.expect("other counts", parted(printed)[1]["all"], {"kept": 10, "new starts": 2, "texts lost": 2, "overlaps before": 2})
 
 
 def check_tables_of_locales(program, results):

@@ -1,8 +1,8 @@
 #!/usr/bin/env python3
 """diff.py PROGRAM [COUNT]: what `diff` tells of random tables, against a second reading of what happens to a sequence.
 
-Both tables of a pair are files of some lines with few keysyms, some of them written in several ways, with repeated sequences, comments
-and an include; the new one is mostly the old one with some lines changed. What is told of each sequence is worked out here by going
+Both tables of a pair are files of some lines with few keysyms, some of them written in several ways, with repeated and overlapping sequences, and
+comments; the new one is mostly the old one with some lines changed. What is told of each sequence is worked out here by going
 through its keys with a list of definitions. COUNT pairs are tried, 300 if none is given. The last line is `N passed, M failed`."""
 import json
 import os
@@ -56,20 +56,25 @@ def change(old, new, fresh, sequence):
     return "added" if is_known or types_itself else "new start"
 
 
+def is_extended(sequence, sequences):
+    """Whether a longer one of the sequences begins with this one."""
+    return any(it != sequence and it.startswith(sequence) for it in sequences)
+
+
 def is_prefix_free(sequences):
-    return not any(a != b and b.startswith(a) for a in sequences for b in sequences)
+    return not any(is_extended(it, sequences) for it in sequences)
 
 
 class Table:
     """A random Compose file: the definition of each sequence that counts, and where it stands."""
 
     def __init__(self, name):
-        self.name, self.lines = name, []
+        self.name, self.lines, self.overlaps = name, [], 0
         self.texts, self.places, self.keys = {}, {}, {}
 
     def define(self, chance, sequence, text):
-        """Adds a line, unless two sequences would then overlap."""
-        if not is_prefix_free({*self.texts, sequence}):
+        """Adds a line. Where two sequences would then overlap, mostly not."""
+        if not is_prefix_free({*self.texts, sequence}) and chance.random() < 0.8:
             return
         if chance.random() < 0.2:
             self.lines.append(chance.choice(["", "# a comment"]))
@@ -77,6 +82,13 @@ class Table:
         quoted = text.replace("\\", "\\\\").replace('"', '\\"')
         self.lines.append(" ".join(f"<{it}>" for it in written) + f' : "{quoted}"')
         self.texts[sequence], self.places[sequence], self.keys[sequence] = text, len(self.lines), written
+
+    def settle(self):
+        """Leaves out the sequences with which longer ones begin."""
+        shorter = [it for it in self.texts if is_extended(it, self.texts)]
+        self.overlaps = len(shorter)
+        for it in shorter:
+            del self.texts[it], self.places[it], self.keys[it]
 
     def write(self, folder):
         with open(os.path.join(folder, self.name), "w", encoding="utf-8") as file:
@@ -99,6 +111,8 @@ def random_pair(chance):
             new.define(chance, sequence, text if chance.random() < 0.8 else chance.choice(TEXTS))
     for _ in range(chance.randint(0, 4)):
         new.define(chance, random_sequence(chance, "abDE"), chance.choice(TEXTS))
+    old.settle()
+    new.settle()
     return old, new, fresh
 
 
@@ -108,6 +122,12 @@ def typed_now(old, new, sequence):
     return min(giving, key=lambda it: (len(it), [NUMBER[key] for key in it]), default=None)
 
 
+def first_longer(new, sequence):
+    """Of the new table's sequences that begin with this one and go on, the shortest, and of these the first."""
+    longer = [it for it in new.texts if it != sequence and it.startswith(sequence)]
+    return min(longer, key=lambda it: (len(it), [NUMBER[key] for key in it]))
+
+
 def told(old, new, fresh):
     """What `--format json` says of each sequence of either table."""
     found = []
@@ -115,6 +135,7 @@ def told(old, new, fresh):
         what = change(old.texts, new.texts, fresh, sequence)
         written = old.keys.get(sequence) or new.keys[sequence]
         is_in = [sequence in it.texts for it in (old, new)]
+        longer = first_longer(new, sequence) if what == "waiting" else None
         now = typed_now(old, new, sequence) if what in LOSSES else None
         found.append({
             "change": what,
@@ -125,6 +146,9 @@ def told(old, new, fresh):
             "old_line": old.places.get(sequence),
             "new_file": "new" if is_in[1] else None,
             "new_line": new.places.get(sequence),
+            "longer": new.keys.get(longer),
+            "longer_file": None if longer is None else "new",
+            "longer_line": new.places.get(longer),
             "now": new.keys.get(now),
             "now_file": None if now is None else "new",
             "now_line": new.places.get(now),
@@ -147,10 +171,18 @@ def line_of(row, with_places=True):
         parts.append(f"old:{row['old_line']}")
     if with_places and row["change"] in ("changed", "new start", "added"):
         parts.append(f"new:{row['new_line']}")
+    if with_places and row["change"] == "waiting":
+        parts += ["longer:", *(f"<{it}>" for it in row["longer"]), f"new:{row['longer_line']}"]
     if with_places and row["change"] in LOSSES:
         typing = [f"<{it}>" for it in row["now"]] + [f"new:{row['now_line']}"] if row["now"] else ["none"]
         parts += ["now:", *typing]
     return " ".join(parts)
+
+
+def overlaps_of(old, new):
+    """The line of the overlaps, if there are any."""
+    line = f"overlaps: {old.overlaps} in the old table, {new.overlaps} in the new one; the longer sequences count"
+    return [line] if old.overlaps or new.overlaps else []
 
 
 def rows_in_order(rows):
@@ -159,11 +191,34 @@ def rows_in_order(rows):
     return [row for group in GROUPS for row in sorted((it for it in rows if it["change"] == group), key=line)]
 
 
-def counts_of(rows, accepted=0):
-    """The last line. Accepted ones are counted apart."""
+def is_lost(row):
+    """Whether no sequence of the new table gives the old text of a lost sequence."""
+    return row["change"] in LOSSES and row["now"] is None
+
+
+def counts(rows, accepted=0):
+    """How often each thing happens. Accepted ones are counted apart."""
     count = lambda what: sum(1 for it in rows if it["change"] == what)
-    starts = count("new start")
-    return f"diff: {count('kept')} kept, {count('changed')} changed, {count('waiting')} waiting, {count('removed')} removed, {starts} new start{'' if starts == 1 else 's'}, {count('added')} added, {accepted} accepted"
+    return {
+        "kept": count("kept"),
+        "changed": count("changed"),
+        "waiting": count("waiting"),
+        "removed": count("removed"),
+        "new_starts": count("new start"),
+        "added": count("added"),
+        "accepted": accepted,
+        "lost_texts": len({it["old"] for it in rows if is_lost(it)}),
+    }
+
+
+def counts_of(rows, accepted=0):
+    """The last line."""
+    its = counts(rows, accepted)
+    starts = "new start" if its["new_starts"] == 1 else "new starts"
+    texts = "text" if its["lost_texts"] == 1 else "texts"
+    parts = [f"{its[it]} {it}" for it in ("kept", "changed", "waiting", "removed")]
+    parts += [f"{its['new_starts']} {starts}", f"{its['added']} added", f"{accepted} accepted; {its['lost_texts']} {texts} lost"]
+    return "diff: " + ", ".join(parts)
 
 
 class Trial:
@@ -188,19 +243,21 @@ class Trial:
         rows = told(old, new, fresh)
         options = ["--fresh", ",".join(WRITTEN[it][0] for it in fresh)] if fresh else []
         losses = [it for it in rows if it["change"] not in ("kept", "added")]
+        overlaps = overlaps_of(old, new)
         with tempfile.TemporaryDirectory() as folder:
             for it in (old, new):
                 it.write(folder)
             ran = self.run(folder, "--format", "json", *options)
             objects = [json.loads(line) for line in ran.stdout.splitlines()]
+            self.expect(f"{number}: json of the counts", {"counts": {**counts(rows), "old_overlaps": old.overlaps, "new_overlaps": new.overlaps}}, objects.pop())
             by_keys = lambda row: (row["keys"], row["change"])
             self.expect(f"{number}: json", sorted(rows, key=by_keys), sorted(objects, key=by_keys))
             self.expect(f"{number}: status", 1 if losses else 0, ran.returncode)
             ran = self.run(folder, "--no-fold", *options)
-            self.expect(f"{number}: lines", [*map(line_of, rows_in_order(rows)), counts_of(rows)], ran.stdout.splitlines())
-            lost = [it for it in rows if it["change"] in LOSSES and it["now"] is None]
+            self.expect(f"{number}: lines", [*map(line_of, rows_in_order(rows)), *overlaps, counts_of(rows)], ran.stdout.splitlines())
+            lost = [it for it in rows if is_lost(it)]
             ran = self.run(folder, "--no-fold", "--lost", *options)
-            self.expect(f"{number}: lost ones", [*map(line_of, rows_in_order(lost)), counts_of(rows)], ran.stdout.splitlines())
+            self.expect(f"{number}: lost ones", [*map(line_of, rows_in_order(lost)), *overlaps, counts_of(rows)], ran.stdout.splitlines())
             self.expect(f"{number}: status with --lost", 1 if losses else 0, ran.returncode)
             ran = self.run(folder, "--write-accept", *options)
             self.expect(f"{number}: accepted ones", [line_of(it, False) for it in rows_in_order(losses)], ran.stdout.splitlines())
@@ -208,7 +265,7 @@ class Trial:
                 file.write("# meant\n" + ran.stdout)
             ran = self.run(folder, "--no-fold", "--accept", "accepted", *options)
             others = [it for it in rows if it not in losses]
-            self.expect(f"{number}: all accepted", ([*map(line_of, rows_in_order(others)), counts_of(others, len(losses))], 0), (ran.stdout.splitlines(), ran.returncode))
+            self.expect(f"{number}: all accepted", ([*map(line_of, rows_in_order(others)), *overlaps, counts_of(others, len(losses))], 0), (ran.stdout.splitlines(), ran.returncode))
             with open(os.path.join(folder, "accepted"), "a", encoding="utf-8") as file:
                 file.write('removed: <a> <a> <a> <a> "x"\n')
             ran = self.run(folder, "--accept", "accepted", *options)

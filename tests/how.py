@@ -3,8 +3,10 @@
 
 A table is a file of some lines with few keysyms, some of them written in several ways, and an include of another such file; sequences
 come again, and some go on after others. Which definitions count is worked out here from the lines as a list. What `list` prints is
-read again by `list` and by `diff`, to which it is the same table. COUNT tables are tried, 200 if none is given. The last line is
+read again by `list` and by `diff`, to which it is the same table. So are the sequences that begin with some keys or give a text, in each order,
+the keys that can follow, what the keys of a repertoire can type, and all of it as JSON. COUNT tables are tried, 200 if none is given. The last line is
 `N passed, M failed`."""
+import json
 import os
 import random
 import subprocess
@@ -14,6 +16,7 @@ import tempfile
 SEED = 52
 # The keysyms of these tables, and how they are written.
 WRITTEN = {0x61: ["a", "U0061", "0x61"], 0x62: ["b", "U0062"], 0xfe51: ["dead_acute", "0xfe51"], 0xff20: ["Multi_key"]}
+NAMES = {keysym: written[0] for keysym, written in WRITTEN.items()}
 TEXTS = ["x", "y", "\u00e9", "xy", 'q"q', "\\", "\u2260"]
 
 
@@ -42,6 +45,7 @@ class Table:
         self.files = {name: [f"{keys_of(keys)} : {quoted(text)}" for _, keys, text in found] for name, found in lines.items()}
         self.files["own"].insert(at, 'include "other"')
         self.counts = {keysyms: (text, f"{keys_of(keys)} : {quoted(text)}  # {name}:{line}") for name, line, (keysyms, keys, text) in read}
+        self.objects = {keysyms: {"keys": keys, "text": text, "file": name, "line": line} for name, line, (keysyms, keys, text) in read}
         for short in list(self.counts):
             if any(len(it) > len(short) and it[:len(short)] == short for it in self.counts):
                 del self.counts[short]
@@ -55,15 +59,83 @@ class Table:
         """What `list` is to print."""
         return [self.counts[it][1] for it in sorted(self.counts)]
 
-    def ways(self, text):
+    def found(self, text, keys=None):
+        """The sequences of a text, the shortest first, and only those with these keysyms alone, if some are given."""
+        found = [it for it in self.counts if self.counts[it][0] == text and (keys is None or set(it) <= keys)]
+        return sorted(found, key=lambda it: (len(it), it))
+
+    def ways(self, text, keys=None):
         """What `how` is to print of a text."""
-        found = [it for it in self.counts if self.counts[it][0] == text]
-        return [self.counts[it][1] for it in sorted(found, key=lambda it: (len(it), it))]
+        return [self.counts[it][1] for it in self.found(text, keys)]
+
+    def chosen(self, prefix, text, order):
+        """The sequences that begin with the prefix, and give the text if there is one, in this order."""
+        found = sorted(it for it in self.counts if it[:len(prefix)] == prefix and text in (None, self.counts[it][0]))
+        if order == "text":
+            found.sort(key=lambda it: self.counts[it][0].encode())
+        if order == "file":
+            found.sort(key=lambda it: (self.objects[it]["file"] != "own", self.objects[it]["line"]))
+        return found
+
+    def following(self, prefix):
+        """The keysyms that can follow the prefix, and the text of each or how many sequences go on."""
+        behind = {}
+        for it in self.chosen(prefix, None, "keys"):
+            if len(it) > len(prefix):
+                behind.setdefault(it[len(prefix)], []).append(it)
+        return [(keysym, self.counts[all_of[0]][0] if all_of[0] == prefix + (keysym,) else len(all_of)) for keysym, all_of in sorted(behind.items())]
 
 
 def run(program, folder, *arguments):
     done = subprocess.run([program, *arguments], cwd=folder, capture_output=True, encoding="utf-8", check=False)
     return done.returncode, done.stdout.splitlines()
+
+
+def objects_in(lines):
+    return [json.loads(line) for line in lines]
+
+
+def next_line(keysym, leads):
+    if isinstance(leads, str):
+        return f"<{NAMES[keysym]}> : {quoted(leads)}"
+    return f"<{NAMES[keysym]}> .. {leads} sequence{'' if leads == 1 else 's'}"
+
+
+def next_object(keysym, leads):
+    return {"key": NAMES[keysym], "text": leads if isinstance(leads, str) else None, "sequences": None if isinstance(leads, str) else leads}
+
+
+def lists_right(program, folder, table, chance):
+    """Whether `list` prints what it is to print of some sequences of a table that is in the folder."""
+    prefix = tuple(chance.choice(list(WRITTEN)) for _ in range(chance.choice([0, 0, 1, 1, 2, 3])))
+    text = chance.choice([None, *TEXTS])
+    order = chance.choice(["keys", "text", "file"])
+    asked = ["--prefix", ",".join(chance.choice(WRITTEN[it]) for it in prefix)] if prefix else []
+    chosen = table.chosen(prefix, text, order)
+    words = ["list", *asked, *(["--text", text] if text else []), "--sort", order, "own"]
+    if run(program, folder, *words) != (0, [table.counts[it][1] for it in chosen]):
+        return False
+    status, lines = run(program, folder, *words, "--format", "json")
+    if (status, objects_in(lines)) != (0, [table.objects[it] for it in chosen]):
+        return False
+    following = table.following(prefix)
+    if run(program, folder, "list", "--next", *asked, "own") != (0, [next_line(*it) for it in following]):
+        return False
+    status, lines = run(program, folder, "list", "--next", "--format", "json", *asked, "own")
+    return (status, objects_in(lines)) == (0, [next_object(*it) for it in following])
+
+
+def types_right(program, folder, table, texts, chance):
+    """Whether `how` prints what it is to print of the keys of a random repertoire, and as JSON."""
+    keys = {it for it in WRITTEN if chance.random() < 0.7}
+    with open(os.path.join(folder, "repertoire"), "w", encoding="utf-8") as file:
+        file.write("".join(f"keys {it:#x} {it:#x}\n" for it in sorted(keys)))
+    ways = [table.ways(it, keys) for it in texts]
+    status = 0 if all(ways) else 1
+    if run(program, folder, "how", "--repertoire", "repertoire", "--from", "own", *texts) != (status, sum(ways, [])):
+        return False
+    printed = run(program, folder, "how", "--format", "json", "--repertoire", "repertoire", "--from", "own", *texts)
+    return (printed[0], objects_in(printed[1])) == (status, [table.objects[it] for text in texts for it in table.found(text, keys)])
 
 
 def without_places(lines):
@@ -82,6 +154,8 @@ def is_right(program, table, chance):
         if run(program, folder, "how", "--from", "own", *texts) != (status, sum(ways, [])):
             return False
         if run(program, folder, "how", "--first", "--from", "own", *texts) != (status, sum((it[:1] for it in ways), [])):
+            return False
+        if not lists_right(program, folder, table, chance) or not types_right(program, folder, table, texts, chance):
             return False
         with open(os.path.join(folder, "again"), "w", encoding="utf-8") as file:
             file.write("".join(line + "\n" for line in table.listed()))

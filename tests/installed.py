@@ -1,7 +1,7 @@
 #!/usr/bin/env python3
 """installed.py PROGRAM: what `make install` installs and `make uninstall` takes away, with the client imported from there; the packages of the
-engine of IBus and of the addon of fcitx5, made twice and unpacked; and the unit of systemd, whose command is run. The last line is
-`N passed, M failed`."""
+engine of IBus and of the addon of fcitx5, made twice and unpacked; the unit of systemd, whose command is run; and what the unit runs that takes a
+changed Compose file into use. The last line is `N passed, M failed`."""
 import hashlib
 import os
 import re
@@ -90,7 +90,8 @@ def check_component(place, prefix, version, results):
 
 def check_units(place, results):
     """systemd finds no fault in the units."""
-    units = [os.path.join(place, "lib", "systemd", "user", f"composecheck.{it}") for it in ("service", "socket")]
+    folder = os.path.join(place, "lib", "systemd", "user")
+    units = [os.path.join(folder, it) for it in sorted(os.listdir(folder))]
     if not shutil.which("systemd-analyze"):
         print("no systemd-analyze here: the units are not verified")
         return
@@ -137,7 +138,13 @@ def settings_of_the_unit():
 
 def command(program, settings, folder):
     """The unit's command, with its specifiers written out."""
-    return [program, *shlex.split(settings["ExecStart"].replace("%t", folder))[1:]]
+    return [program, *shlex.split(settings["ExecStart"].replace("%t", folder).replace("%h", folder))[1:]]
+
+
+def store(service, name):
+    """Has `update` store the table of a Compose file where the unit looks for it, while no service runs."""
+    state = service.path(".local/state/composecheck")
+    return service.run("update", "--state", state, "--socket", service.path("none"), f"{name}.compose")
 
 
 def check_unit(program, _, results):
@@ -146,9 +153,11 @@ def check_unit(program, _, results):
     settings = settings_of_the_unit()
     at_once, files = int(re.search(r"--at-once (\d+)", settings["ExecStart"])[1]), int(settings["LimitNOFILE"])
     with TypingService(program) as service:
-        for name, source in {"table.manifest": "old.manifest", "certificate": "old-old"}.items():
-            shutil.copy(service.path(source), service.path(name))
         words = command(service.program, settings, service.folder)
+        never_again = {int(it) for it in settings["RestartPreventExitStatus"].split()}
+        refused = subprocess.run(words, cwd=service.folder, capture_output=True, text=True, timeout=60)
+        results.expect("a start where nothing was stored is refused", refused.returncode in never_again, True)
+        store(service, "old")
         limit = lambda: resource.setrlimit(resource.RLIMIT_NOFILE, (files, files))
         with subprocess.Popen(words, cwd=service.folder, stdout=subprocess.PIPE, text=True, preexec_fn=limit) as serving:
             results.expect("the unit's command", serving.stdout.readline(), "listening\n")
@@ -161,11 +170,33 @@ def check_unit(program, _, results):
             with Client(service.socket, timeout=30) as client:
                 results.expect("as soon as they end, another one is served", client.ask(0).status, "nothing")
             serving.kill()
-        never_again = {int(it) for it in settings["RestartPreventExitStatus"].split()}
-        for name, content in {"certificate": "compose", "table.manifest": "root\tnone\n"}.items():
-            service.write(name, content)
-            refused = subprocess.run(words, cwd=service.folder, capture_output=True, text=True, timeout=60)
-            results.expect(f"a start that is refused: {name}", refused.returncode in never_again, True)
+        service.write(".local/state/composecheck/table", "compose")
+        refused = subprocess.run(words, cwd=service.folder, capture_output=True, text=True, timeout=60)
+        results.expect("a start on what is no table is refused", refused.returncode in never_again, True)
+
+
+NOTIFY = """#!/bin/sh
+printf '%s\\n' "$@" > notified
+"""
+
+
+def check_update(program, _, results):
+    """What the unit runs when a Compose file has changed: `update`, whose refusal is shown as a notification too."""
+    script = os.path.join(TOP, "share", "composecheck", "update.sh")
+    with TypingService(program) as service:
+        os.mkdir(service.path("bin"))
+        service.write("bin/notify-send", NOTIFY)
+        os.chmod(service.path("bin/notify-send"), 0o755)
+        service.write("changed.compose", '<dead_acute> <e> : "e"\n')
+        given = {**os.environ, "COMPOSECHECK": service.program, "PATH": f"{service.path('bin')}:{os.environ['PATH']}", "XDG_RUNTIME_DIR": service.folder}
+        update = lambda name: run("sh", script, f"{name}.compose", "--state", "state", cwd=service.folder, env=given)
+        got = update("old")
+        results.expect("the first table is stored", (got.returncode, got.stdout, os.path.exists(service.path("notified"))), (0, "stored\n", False))
+        got = update("changed")
+        results.expect("a table that would change typing is refused", (got.returncode, got.stdout.splitlines()[:1]), (1, ["keys dead_grave a"]))
+        with open(service.path("notified"), encoding="utf-8") as file:
+            notified = file.read()
+        results.expect("and that is shown", ("Your Compose table stays as it was\n" in notified, got.stdout in notified), (True, True))
 
 
 def refusal(call, *arguments):
@@ -179,7 +210,7 @@ def refusal(call, *arguments):
 
 def main():
     program, results = os.path.abspath(sys.argv[1]), Results()
-    for check in (check_install, check_packages, check_unit):
+    for check in (check_install, check_packages, check_unit, check_update):
         if check is check_packages and not shutil.which("dpkg-deb"):
             print("no dpkg-deb here: the packages are not made")
             continue

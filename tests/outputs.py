@@ -58,7 +58,7 @@ def on_a_terminal(program, folder, *words, **variables):
 
 def colours(program, folder):
     """Yields of each trial with a terminal its name, what came and what was wanted."""
-    lines = ['changed: <a> <b> "x" "z" table.compose:1 changed.compose:1 now: none', 'added: <a> <c> "y" changed.compose:2', "diff: 0 kept, 1 changed, 0 waiting, 0 removed, 0 new starts, 1 added, 0 accepted"]
+    lines = ['changed: <a> <b> "x" "z" table.compose:1 changed.compose:1 now: none', 'added: <a> <c> "y" changed.compose:2', "diff: 0 kept, 1 changed, 0 waiting, 0 removed, 0 new starts, 1 added, 0 accepted; 1 text lost"]
     plain = "".join(f"{it}\n" for it in lines), 1
     coloured = "".join(f"\x1b[{number}m{it}\x1b[m\n" for number, it in zip((31, 32, 1), lines)), 1
     diff, tables = ("diff",), ("table.compose", "changed.compose")
@@ -71,7 +71,7 @@ def colours(program, folder):
     yield "no colours by --color never", on_a_terminal(program, folder, *diff, "--color", "never", *tables), plain
     yield "the list of accepted changes has no colours", on_a_terminal(program, folder, *diff, "--write-accept", *tables), ('changed: <a> <b> "x" "z"\n', 1)
     json = on_a_terminal(program, folder, *diff, "--format", "json", *tables)
-    yield "JSON has no colours", ("\x1b" in json[0], json[0].count("\n"), json[1]), (False, 2, 1)
+    yield "JSON has no colours", ("\x1b" in json[0], json[0].count("\n"), json[1]), (False, 3, 1)
     elsewhere = subprocess.run([program, *diff, *tables], cwd=folder, stdin=subprocess.DEVNULL, stdout=subprocess.PIPE, text=True, timeout=60)
     yield "a pipe has no colours", (elsewhere.stdout, elsewhere.returncode), plain
 

@@ -13,6 +13,7 @@ import sys
 import tempfile
 import time
 
+import findings
 import key_streams
 import reference
 from reference import HEADER, own_text
@@ -101,6 +102,22 @@ def header_characters():
     return given
 
 
+def check_findings(program, results):
+    """`lint` finds in each table what a second reading of its lines finds, and in all of them no more than tests/findings.txt lists."""
+    values = reference.header_values() | reference.header_values(SHORT_NAMES)
+    given, everything = header_characters(), set()
+    for name in locales():
+        path = os.path.join(LOCALES, name, "Compose")
+        ran = run(program, LOCALES, "lint", "--system", LOCALES, "--locale", "en_US.UTF-8", path)
+        printed = [(file, int(number), word) for file, number, word in re.findall(r"^(.*):(\d+):\d+: (\w+): ", ran.stdout, re.M)]
+        wanted = list(findings.found(path, LOCALES, values, lambda keysym: own_text(keysym, given)))
+        results.expect(f"lint of {name}", printed == wanted and ran.returncode == 1, printed[:5] + [ran.stderr])
+        everything |= {f"{os.path.relpath(file, LOCALES)}:{number}: {word}" for file, number, word in printed}
+    with open(os.path.join(TOP, "tests", "findings.txt"), encoding="utf-8") as file:
+        listed = set(file.read().splitlines())
+    results.expect("what lint finds in all tables", everything == listed, sorted(everything ^ listed)[:5])
+
+
 def is_modifier(keysym):
     """Whether a compose state passes over the key."""
     return keysym in range(0xFFE1, 0xFFEF) or keysym in range(0xFE01, 0xFE14) or keysym in (0xFF7E, 0xFF7F)
@@ -170,7 +187,7 @@ def check_differences(program, folder, results):
     values = reference.header_values() | reference.header_values(SHORT_NAMES)
     for old, new in itertools.permutations(locales(), 2):
         ran = run(program, folder, "diff", "--overlap", "longest", "--format", "json", tables(folder)[old], tables(folder)[new])
-        rows = [json.loads(line) for line in ran.stdout.splitlines()]
+        rows = [json.loads(line) for line in ran.stdout.splitlines()[:-1]]
         lost = {keysyms_of(row["keys"], values) for row in rows if row["change"] not in ("kept", "added")}
         every = run(program, folder, "explain", "--all", "--names", "names", f"{old}.longest", f"{new}.longest").stdout
         lists = {keysyms_of(names.split(), values) for names in re.findall(r"^keys (.*)$", every, re.M)}
@@ -252,6 +269,7 @@ def main():
         check_repertoires(program, folder, results)
         check_migrations(program, folder, results)
         check_differences(program, folder, results)
+        check_findings(program, results)
         check_typing(program, folder, results)
     print(f"{results.passed} passed, {results.failed} failed")
     return 1 if results.failed else 0

@@ -20,7 +20,7 @@ HEAD = re.compile(r"(\w+)\.py((?: (?:PROGRAM|TRIALS|\[[^\]]*\]))*): (.*?)(?:[.:;
 # inputs at their limits; the C library is built of a proved one; the runner of edits needs the prover. The others are no part of the gate.
 NOT_QUICK = {"calls", "edits_test", "library", "limits", "peers", "real", "real_service", "refusals"}
 # How many random ones a script tries with --quick, where that takes the longest.
-FEWER = {"diff": ["100"]}
+FEWER = {"diff": ["100"], "network": ["30"]}
 # The programs by what the heads of scripts call them.
 PROGRAMS = {"PROGRAM": "composecheck", "TRIALS": "compose_trials"}
 

@@ -39,9 +39,9 @@ def key(session, keysym):
 
 
 class Serving:
-    """A running service in a folder of its own."""
+    """A running service in a folder of its own. What it prints is read as it comes, or by whoever gives a file for it."""
 
-    def __init__(self, program, table=OLD, certificate=ITSELF, connections=1, options=(), repertoire=b"", rule=""):
+    def __init__(self, program, table=OLD, certificate=ITSELF, connections=1, options=(), repertoire=b"", rule="", output=subprocess.PIPE):
         self.room = tempfile.TemporaryDirectory(prefix="service-")
         self.folder = self.room.name
         self.path = os.path.join(self.folder, "socket")
@@ -50,10 +50,10 @@ class Serving:
             with open(os.path.join(self.folder, name), "wb") as file:
                 file.write(content)
         words = [program, "serve", *options, "table.manifest", "repertoire", "certificate", "socket", str(connections)]
-        self.process = subprocess.Popen(words, cwd=self.folder, stdin=subprocess.DEVNULL, stdout=subprocess.PIPE, stderr=subprocess.PIPE, text=True)
-        self.printed = [self.process.stdout.readline()]
+        self.process = subprocess.Popen(words, cwd=self.folder, stdin=subprocess.DEVNULL, stdout=output, stderr=subprocess.PIPE, text=True)
+        self.printed = [self.process.stdout.readline()] if output == subprocess.PIPE else []
         # (so that a service which prints many lines need not wait)
-        self.printing = threading.Thread(target=self.printed.extend, args=(self.process.stdout,), daemon=True)
+        self.printing = threading.Thread(target=self.printed.extend, args=(self.process.stdout or [],), daemon=True)
         self.printing.start()
 
     def __enter__(self):
@@ -63,7 +63,8 @@ class Serving:
         self.process.kill()
         self.process.wait()
         self.printing.join()
-        self.process.stdout.close()
+        if self.process.stdout:
+            self.process.stdout.close()
         self.process.stderr.close()
         self.room.cleanup()
 

@@ -9,9 +9,10 @@ _composecheck() {
     case $before in
         --names) COMPREPLY=($(compgen -f -- "$word") $(compgen -W builtin -- "$word")); return ;;
         -o | --output | --accept | --from | --repertoire | --socket) COMPREPLY=($(compgen -f -- "$word")); return ;;
-        --fresh | --at-once | --unsent | --locale) return ;;
+        --fresh | --at-once | --unsent | --idle | --locale | --prefix | --text) return ;;
         --system|--root|--state) COMPREPLY=($(compgen -d -- "$word")); return ;;
         --overlap) COMPREPLY=($(compgen -W "longest refuse" -- "$word")); return ;;
+        --sort) COMPREPLY=($(compgen -W "keys text file" -- "$word")); return ;;
         --format) COMPREPLY=($(compgen -W "text json" -- "$word")); return ;;
         --color) COMPREPLY=($(compgen -W "auto always never" -- "$word")); return ;;
         --reader) COMPREPLY=($(compgen -W "libX11 libxkbcommon gtk3 gtk4" -- "$word")); return ;;
@@ -23,12 +24,12 @@ _composecheck() {
         explain) options="--names --fresh --all --verbose --help" ;;
         make) options="--names --fresh --all --output --verbose --help" ;;
         diff) options="--verbose --names --fresh --overlap --accept --write-accept --no-fold --lost --format --color --system --locale --root --help" ;;
-        how) options="--names --from --first --overlap --system --locale --root --help" ;;
-        list) options="--names --overlap --system --locale --root --help" ;;
-        lint) options="--names --reader --system --locale --verbose --help" ;;
+        how) options="--names --from --repertoire --first --format --overlap --system --locale --root --help" ;;
+        list) options="--names --prefix --text --next --sort --format --overlap --system --locale --root --help" ;;
+        lint) options="--names --reader --all --system --locale --verbose --help" ;;
         update) options="--fresh --repertoire --state --socket --system --locale --verbose --help" ;;
         manifest) options="--system --locale --root --verbose --help" ;;
-        serve) options="--names --fresh --state --at-once --unsent --mode --replace --unlink --verbose --help" ;;
+        serve) options="--names --fresh --state --at-once --unsent --idle --mode --replace --unlink --verbose --help" ;;
         load) options="--verbose --help" ;;
         session) options="--names --open --reset --ask --close --verbose --help" ;;
     esac

@@ -322,14 +322,14 @@ print_includes() {
     done
 }
 
-# Prints each line of the files ./LOCALE once, below the locales that have it, as headings of a level, and says whether there is one. The line that
-# counts is left out. Lost texts (`now: none`) come first, then what is typed otherwise (`now:` and keys), then the rest.
+# Prints each line of the files ./LOCALE once, below the locales that have it, as headings of a level, and says whether there is one. The lines that
+# count are left out. Lost texts (`now: none`) come first, then what is typed otherwise (`now:` and keys), then the rest.
 print_lines() {
     level=$1
     shift
     awk -v level="$level" '
         FILENAME == ARGV[1] { includes[$1, $2]; including[$2]++; next }
-        /^diff: / { next }
+        /^(diff|overlaps): / { next }
         { locale = substr(FILENAME, 3) }
         !($0 in locales) { lines[++count] = $0; locales[$0] = locale; next }
         { locales[$0] = locales[$0] ", " locale }
@@ -395,9 +395,10 @@ print_counts() (
     cd "$room/changes"
     printf '\n## Counts\n\n'
     awk '
+        /^overlaps: / { overlaps[FILENAME] = ", " $2 " overlaps before, " $7 " overlaps" }
         /^diff: / {
             locales[++number] = substr(FILENAME, 3)
-            count = split(substr($0, 7), parts, /[,;] /)
+            count = split(substr($0, 7) (FILENAME in overlaps ? overlaps[FILENAME] : ""), parts, /[,;] /)
             for (n = 1; n <= count; n++) {
                 match(parts[n], /^[0-9]+ /)
                 word = substr(parts[n], RLENGTH + 1)

@@ -38,7 +38,7 @@ fn command_of<'a>(alloc: Global, row: &CommandRow) -> Result<Command<'a>, AllocE
 fn options_of<'a>(alloc: Global, rows: &[OptionRow]) -> Result<Vec<Arg<'a>>, AllocError> {
     let mut options = Vec::new(alloc);
     for row in rows {
-        options.push(option_of(alloc, row))?;
+        options.push(option_of(alloc, row)?)?;
     }
     Ok(options)
 }
@@ -56,7 +56,7 @@ fn add_arguments<'a>(
 }
 
 /// An option.
-fn option_of<'a>(alloc: Global, row: &OptionRow) -> Arg<'a> {
+fn option_of<'a>(alloc: Global, row: &OptionRow) -> Result<Arg<'a>, AllocError> {
     let option = Arg::new(alloc, row.name).long(row.name);
     let option = with_letter(option, row.letter).help(row.help);
     with_value(option, row.takes)
@@ -70,10 +70,18 @@ fn with_letter<'a>(option: Arg<'a>, letter: Option<char>) -> Arg<'a> {
     }
 }
 
-/// The option with what follows it.
-fn with_value<'a>(option: Arg<'a>, takes: Takes) -> Arg<'a> {
+/// The option with what follows it, and without the options that may not be there with it.
+fn with_value<'a>(option: Arg<'a>, takes: Takes) -> Result<Arg<'a>, AllocError> {
     match takes {
-        Takes::Nothing => option.action(ArgAction::SetTrue),
+        Takes::NothingWith(others) => option.action(ArgAction::SetTrue).conflicts_with_all(others),
+        _ => Ok(with_own_value(option, takes)),
+    }
+}
+
+/// The option with what follows it.
+fn with_own_value<'a>(option: Arg<'a>, takes: Takes) -> Arg<'a> {
+    match takes {
+        Takes::Nothing | Takes::NothingWith(_) => option.action(ArgAction::SetTrue),
         Takes::Value(name) => option.value_name(name).action(ArgAction::Set),
         Takes::Values(name) => option.value_name(name).action(ArgAction::Append),
         Takes::SomeOf { name, values } => option

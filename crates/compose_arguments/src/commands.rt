@@ -268,6 +268,18 @@ const OVERLAP: OptionRow = OptionRow {
     help: "Of a sequence that another one begins with: take the longest, or refuse the table",
 };
 
+/// Lines of a Compose file, or JSON.
+const LIST_FORMAT: OptionRow = OptionRow {
+    name: "format",
+    letter: None,
+    takes: Takes::OneOf {
+        name: "FORMAT",
+        values: &["text", "json"],
+        default: "text",
+    },
+    help: "Lines of a Compose file, or json: an object each",
+};
+
 /// The command that tells how texts are typed.
 static HOW: CommandRow = CommandRow {
     name: "how",
@@ -282,11 +294,18 @@ static HOW: CommandRow = CommandRow {
             help: "The Compose file; without it, the one that libxkbcommon takes for the user",
         },
         OptionRow {
+            name: "repertoire",
+            letter: None,
+            takes: Takes::Value("FILE"),
+            help: "Leave out sequences that the keys of this repertoire can't type",
+        },
+        OptionRow {
             name: "first",
             letter: None,
             takes: Takes::Nothing,
             help: "Print the first sequence of each text alone",
         },
+        LIST_FORMAT,
         OVERLAP,
         SYSTEM,
         LOCALE,
@@ -303,8 +322,43 @@ static HOW: CommandRow = CommandRow {
 static LIST: CommandRow = CommandRow {
     name: "list",
     about: "Print the sequences of a Compose file as they count, includes and overrides done",
-    after_help: "What is printed is a Compose file without includes, which gives the same table. Names are those of keysymdef.h, unless --names gives others.\nExit status: 0 printed, 2 input refused, 3 out of memory\nExample: composecheck list /usr/share/X11/locale/en_US.UTF-8/Compose",
-    options: &[NAMES, OVERLAP, SYSTEM, LOCALE, ROOT],
+    after_help: "What is printed without options is a Compose file without includes, which gives the same table. Names are those of keysymdef.h, unless --names gives others.\nExit status: 0 printed, 2 input refused, 3 out of memory\nExample: composecheck list --prefix Multi_key,e /usr/share/X11/locale/en_US.UTF-8/Compose",
+    options: &[
+        NAMES,
+        OptionRow {
+            name: "prefix",
+            letter: None,
+            takes: Takes::Value("KEYS"),
+            help: "Print only sequences that begin with KEYS, joined by commas",
+        },
+        OptionRow {
+            name: "text",
+            letter: None,
+            takes: Takes::Value("TEXT"),
+            help: "Print only sequences that give TEXT",
+        },
+        OptionRow {
+            name: "next",
+            letter: None,
+            takes: Takes::NothingWith(&["text", "sort"]),
+            help: "Print the keys that can follow KEYS, and what each leads to",
+        },
+        OptionRow {
+            name: "sort",
+            letter: None,
+            takes: Takes::OneOf {
+                name: "ORDER",
+                values: &["keys", "text", "file"],
+                default: "keys",
+            },
+            help: "The order: by the keysyms of the keys, by text, or by file and line",
+        },
+        LIST_FORMAT,
+        OVERLAP,
+        SYSTEM,
+        LOCALE,
+        ROOT,
+    ],
     arguments: &[ArgumentRow {
         name: "FILE",
         given: Given::Maybe,
@@ -349,6 +403,12 @@ static LINT: CommandRow = CommandRow {
                 values: &["libX11", "libxkbcommon", "gtk3", "gtk4"],
             },
             help: "Another reader of Compose files; in place of libX11 and libxkbcommon",
+        },
+        OptionRow {
+            name: "all",
+            letter: None,
+            takes: Takes::Nothing,
+            help: "Print the lines too that say again what an included file says",
         },
     ],
     arguments: &[ArgumentRow {
@@ -465,6 +525,16 @@ static SERVE: CommandRow = CommandRow {
                 default: Some("65536"),
             },
             help: "With --at-once: answer no more of a connection's requests while so many bytes of replies are unsent",
+        },
+        OptionRow {
+            name: "idle",
+            letter: None,
+            takes: Takes::Number {
+                name: "SECONDS",
+                range: NumberRange::U32(1, u32::MAX),
+                default: None,
+            },
+            help: "End a connection that neither sends nor takes anything for so many seconds",
         },
         OptionRow {
             name: "mode",

@@ -7,14 +7,20 @@ use clap::ArgMatches;
 pub struct HowArguments<'a> {
     /// The table.
     pub table: TableArguments<'a>,
+    /// The path of the repertoire whose keys alone can be typed, if it is given.
+    pub repertoire: Option<&'a str>,
     /// Whether the first sequence of each text is asked for alone.
     pub first: bool,
+    /// Whether JSON is asked for.
+    pub json: bool,
 }
 
 /// The arguments of `how`.
 pub fn how_arguments<'a>(given: &ArgMatches<'a>) -> HowArguments<'a> {
     HowArguments {
         table: table_arguments(given, given.get_str("from")),
+        repertoire: given.get_str("repertoire"),
         first: given.get_flag("first"),
+        json: given.get_str("format") == Some("json"),
     }
 }

@@ -26,7 +26,7 @@ pub use client_arguments::{LoadArguments, SessionArguments};
 pub use diff_arguments::{DiffArguments, DiffColor, DiffForm};
 pub use how_arguments::HowArguments;
 pub use lint_arguments::LintArguments;
-pub use list_arguments::ListArguments;
+pub use list_arguments::{ListArguments, ListSort};
 pub use manifest_arguments::ManifestArguments;
 pub use request::{CommandLine, Request, TablePaths, read_command_line};
 pub use serve_arguments::{ServeArguments, Served};

@@ -11,6 +11,8 @@ pub struct LintArguments<'a> {
     pub locale: Option<&'a str>,
     /// The words of the readers that are asked for; none stands for the usual ones.
     pub readers: Vec<&'a str>,
+    /// Whether what included files say too is asked for.
+    pub all: bool,
     /// The paths of the Compose files, at least one.
     pub files: Vec<&'a str>,
 }
@@ -27,6 +29,7 @@ pub fn lint_arguments<'a>(
         system: given.get_str("system"),
         locale: given.get_str("locale"),
         readers: Vec::from_slice(alloc, given.get_strs("reader").unwrap_or(&[]))?,
+        all: given.get_flag("all"),
         files: Vec::from_slice(alloc, files)?,
     }))
 }

@@ -1,17 +1,54 @@
 //! What `list` asks for.
+use crate::request::names_of_option;
 use crate::table_arguments::{TableArguments, table_arguments};
 use clap::ArgMatches;
+use std::alloc::{AllocError, Global};
 
 /// The arguments of `list`, but for the names.
-#[derive(Clone, Copy)]
+#[derive(Drop)]
 pub struct ListArguments<'a> {
     /// The table.
     pub table: TableArguments<'a>,
+    /// The names of the keys with which the sequences begin: those of `--prefix` between commas.
+    pub prefix: Vec<&'a str>,
+    /// The text that they give, if one is asked for.
+    pub text: Option<&'a str>,
+    /// Whether the keys are asked for that can follow, in the place of the sequences.
+    pub next: bool,
+    /// The order of the sequences.
+    pub sort: ListSort,
+    /// Whether JSON is asked for.
+    pub json: bool,
+}
+
+/// The order in which `list` prints sequences.
+#[derive(Clone, Copy, Debug, PartialEq, Eq)]
+pub enum ListSort {
+    Keys,
+    Text,
+    File,
 }
 
 /// The arguments of `list`.
-pub fn list_arguments<'a>(given: &ArgMatches<'a>) -> ListArguments<'a> {
-    ListArguments {
+pub fn list_arguments<'a>(
+    alloc: Global,
+    given: &ArgMatches<'a>,
+) -> Result<ListArguments<'a>, AllocError> {
+    Ok(ListArguments {
         table: table_arguments(given, given.get_str("FILE")),
+        prefix: names_of_option(alloc, given, "prefix")?,
+        text: given.get_str("text"),
+        next: given.get_flag("next"),
+        sort: sort_of(given),
+        json: given.get_str("format") == Some("json"),
+    })
+}
+
+/// The order that is asked for.
+fn sort_of(given: &ArgMatches<'_>) -> ListSort {
+    match given.get_str("sort") {
+        Some("text") => ListSort::Text,
+        Some("file") => ListSort::File,
+        _ => ListSort::Keys,
     }
 }

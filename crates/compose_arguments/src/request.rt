@@ -176,6 +176,7 @@ fn request_of<'a>(
         "explain" => explain_request(alloc, given),
         "diff" => diff_request(alloc, given),
         "how" => how_request(alloc, given),
+        "list" => Ok(Some(Request::List(list_arguments(alloc, given)?))),
         "lint" => Ok(lint_arguments(alloc, given)?.map(Request::Lint)),
         "make" => make_request(alloc, given),
         "serve" => serve_request(alloc, given),
@@ -188,7 +189,6 @@ fn request_of<'a>(
 /// What a command asks for that takes no list.
 fn request_without_lists<'a>(command: &str, given: &ArgMatches<'a>) -> Option<Request<'a>> {
     match command {
-        "list" => Some(Request::List(list_arguments(given))),
         "manifest" => Some(Request::Manifest(manifest_arguments(given))),
         "load" => load_arguments(given).map(Request::Load),
         _ => None,
@@ -351,7 +351,16 @@ fn given_fresh_names<'a>(
 
 /// The names of `--fresh` between commas; none where it is not given.
 fn fresh_names<'a>(alloc: Global, given: &ArgMatches<'a>) -> Result<Vec<&'a str>, AllocError> {
-    match given.get_str("fresh") {
+    names_of_option(alloc, given, "fresh")
+}
+
+/// The names between commas that this option has; none where it is not given.
+pub(crate) fn names_of_option<'a>(
+    alloc: Global,
+    given: &ArgMatches<'a>,
+    option: &str,
+) -> Result<Vec<&'a str>, AllocError> {
+    match given.get_str(option) {
         Some(text) => names_between(alloc, text),
         None => Ok(Vec::new(alloc)),
     }

@@ -31,6 +31,8 @@ pub struct OptionRow {
 pub enum Takes {
     /// Nothing: the option is there or not.
     Nothing,
+    /// Nothing, and the options of these names may not be there with it.
+    NothingWith(&'static [&'static str]),
     /// A value.
     Value(&'static str),
     /// A value. The option may come several times.

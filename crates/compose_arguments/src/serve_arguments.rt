@@ -29,6 +29,8 @@ pub struct ServeArguments<'a> {
     pub at_once: Option<u16>,
     /// How many bytes of replies may be unsent on a connection that is served beside others, at least 1.
     pub unsent: u32,
+    /// For how many seconds a connection may be idle, at least 1; for ever where it is not given.
+    pub idle: Option<u32>,
     /// The mode of the socket's file.
     pub mode: u32,
     /// Whether a socket that nobody listens on is replaced.
@@ -46,6 +48,7 @@ pub fn serve_arguments<'a>(given: &ArgMatches<'a>) -> Option<ServeArguments<'a>>
         connections: connections_of(given)?,
         at_once: given.get_one::<u16>("at-once"),
         unsent: given.get_one::<u32>("unsent")?,
+        idle: given.get_one::<u32>("idle"),
         mode: mode_of(given.get_str("mode")?),
         replace: given.get_flag("replace"),
         unlink: given.get_flag("unlink"),

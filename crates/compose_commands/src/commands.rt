@@ -20,11 +20,11 @@ use compose_runs::{
 use compose_tree::ComposeTable;
 use std::fs::File;
 use std::net::Net;
-use std::rt::{Env, Files};
+use std::rt::{Clock, Env, Files};
 
 /// Does what is asked for. An error is why what it was given can't be read, or is refused.
 pub fn answer<T: ComposeTable, F: Folder>(
-    rt: &(impl Env + Files<File = File> + Net + Print + Eprint + AllocGlobal),
+    rt: &(impl Clock + Env + Files<File = File> + Net + Print + Eprint + AllocGlobal),
     files: &mut ReadOnce<F>,
     process_id: u32,
     is_terminal: bool,

@@ -12,7 +12,9 @@
 mod at_once;
 mod client;
 mod commands;
+mod connection_ends;
 mod environment;
+mod next_connection;
 mod output;
 mod program;
 mod serving;

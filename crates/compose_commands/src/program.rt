@@ -14,7 +14,7 @@ use std::alloc::{AllocError, Global};
 use std::fs::File;
 use std::net::Net;
 use std::process::ExitCode;
-use std::rt::{Env, Files};
+use std::rt::{Clock, Env, Files};
 use std::{env, io};
 
 /// Does what the arguments of the command line say, with tables in the form `T`, and gives the exit status: 0 where the answer is yes,
@@ -22,7 +22,7 @@ use std::{env, io};
 /// be written, 3 where memory was refused. The answer goes to standard output, why there is none to standard error. At the cost of the
 /// command over its files. `is_terminal` says whether standard output is a terminal.
 pub fn run<T: ComposeTable>(
-    rt: &(impl Env + Files<File = File> + Input + Net + Print + Eprint + AllocGlobal),
+    rt: &(impl Clock + Env + Files<File = File> + Input + Net + Print + Eprint + AllocGlobal),
     process_id: u32,
     is_terminal: bool,
 ) -> ExitCode
@@ -48,7 +48,7 @@ fn read_arguments(rt: &(impl Env + Print + Eprint + AllocGlobal)) -> Result<Vec<
 
 /// Does what the arguments of the command line say.
 fn answer_arguments<T: ComposeTable>(
-    rt: &(impl Env + Files<File = File> + Input + Net + Print + Eprint + AllocGlobal),
+    rt: &(impl Clock + Env + Files<File = File> + Input + Net + Print + Eprint + AllocGlobal),
     process_id: u32,
     is_terminal: bool,
     arguments: &[String],
@@ -61,7 +61,7 @@ fn answer_arguments<T: ComposeTable>(
 
 /// Does what a command asks for, over files of which each is opened once.
 fn answer_command<T: ComposeTable>(
-    rt: &(impl Env + Files<File = File> + Input + Net + Print + Eprint + AllocGlobal),
+    rt: &(impl Clock + Env + Files<File = File> + Input + Net + Print + Eprint + AllocGlobal),
     process_id: u32,
     is_terminal: bool,
     asked: &CommandLine<'_>,

@@ -1,16 +1,19 @@
 //! `serve`: a service on a socket, which prints a line as it begins and for each connection. An error is why what it was given can't be
 //! read, or is refused.
-use crate::at_once::{print_end, serve_many};
+use crate::at_once::serve_many;
+use crate::connection_ends::{EndLines, print_text};
+use crate::next_connection::next_connection;
 use crate::output::put;
 use compose_answer::{Answer, Ended, Refusal};
 use compose_arguments::{ServeArguments, Served};
 use compose_bundle::{BundleFault, read_bundle};
 use compose_details::{Given, GivenTable};
 use compose_folder::{Folder, ReadOnce};
+use compose_hub::ConnectionEnd;
 use compose_input::{Fault, NameFiles, TableFiles, read_text};
 use compose_model::Rule;
 use compose_read::Sources;
-use compose_report::{Outcome, outcome_of, outcome_with, written};
+use compose_report::{Outcome, outcome_of, outcome_with};
 use compose_runs::Options;
 use compose_serve::{Device, serve};
 use compose_service::Service;
@@ -20,12 +23,12 @@ use compose_tree::ComposeTable;
 use std::alloc::{AllocError, Global};
 use std::fs;
 use std::net::Net;
-use std::os::unix::net::{UnixListener, UnixStream};
-use std::rt::{Env, Files};
+use std::os::unix::net::UnixListener;
+use std::rt::{Clock, Env, Files};
 
 /// Serves typing sessions on a socket, one connection after another.
 pub fn serve_files<T: ComposeTable, F: Folder>(
-    rt: &(impl Env + Files + Net + Print + Eprint + AllocGlobal),
+    rt: &(impl Clock + Env + Files + Net + Print + Eprint + AllocGlobal),
     files: &mut ReadOnce<F>,
     options: Options<'_>,
     process_id: u32,
@@ -51,13 +54,13 @@ pub fn serve_files<T: ComposeTable, F: Folder>(
 
 /// Serves on the socket, and then takes its file away where that is asked for.
 fn serve_on_socket<T: ComposeTable>(
-    rt: &(impl Env + Files + Net + Print + Eprint + AllocGlobal),
+    rt: &(impl Clock + Env + Files + Net + Print + Eprint + AllocGlobal),
     process_id: u32,
     service: &mut Service<T>,
     arguments: &ServeArguments<'_>,
 ) -> Result<Ended, Fault> {
     let listener = bind(rt, process_id, arguments)?;
-    written(rt, println!(rt; "listening"), Ended::Yes);
+    let _ = print_text(rt, String::from_str(rt.alloc(), "listening\n"));
     let ended = serve_listener(rt, listener, service, arguments)?;
     if arguments.unlink {
         let _ = fs::remove_file(rt, arguments.socket);
@@ -65,16 +68,18 @@ fn serve_on_socket<T: ComposeTable>(
     Ok(ended)
 }
 
-/// Serves the connections to a listener, many at once or one after another.
+/// Serves the connections to a listener, many at once or one after another. Where a connection may not be idle, one after another is one at
+/// once, since a service on a stream waits for its client.
 fn serve_listener<T: ComposeTable>(
-    rt: &(impl Net + Print + Eprint + AllocGlobal),
+    rt: &(impl Clock + Net + Print + Eprint + AllocGlobal),
     listener: UnixListener,
     service: &mut Service<T>,
     arguments: &ServeArguments<'_>,
 ) -> Result<Ended, Fault> {
-    match arguments.at_once {
-        Some(at_once) => serve_many(rt, listener, service, arguments, at_once),
-        None => serve_connections(rt, &listener, service, arguments),
+    match (arguments.at_once, arguments.idle) {
+        (Some(at_once), _) => serve_many(rt, listener, service, arguments, at_once),
+        (None, Some(_)) => serve_many(rt, listener, service, arguments, 1),
+        (None, None) => serve_connections(rt, &listener, service, arguments),
     }
 }
 
@@ -269,37 +274,25 @@ fn refused_socket(alloc: Global, arguments: &ServeArguments<'_>) -> Fault {
     Fault::refused("socket", String::from_str(alloc, arguments.socket))
 }
 
-/// Serves as many connections as are asked for, and prints how each ended; not on where such a line can't be written.
+/// Serves as many connections as are asked for, and prints how each ended.
 fn serve_connections<T: ComposeTable>(
-    rt: &(impl Print + Eprint + AllocGlobal),
+    rt: &(impl Clock + Print + Eprint + AllocGlobal),
     listener: &UnixListener,
     service: &mut Service<T>,
     arguments: &ServeArguments<'_>,
 ) -> Result<Ended, Fault> {
+    let mut lines = EndLines::new(rt);
     for number in 1..=arguments.connections {
-        let Ok((stream, _)) = listener.accept() else {
+        let Some(stream) = next_connection(rt, listener, &mut lines) else {
             return Err(refused_socket(rt.alloc(), arguments));
         };
-        match serve_connection(rt, number, &stream, service) {
-            Ended::Yes => {}
-            ended => return Ok(ended),
-        }
+        let ended = serve(
+            service,
+            rt.alloc(),
+            &mut Device::new(&stream),
+            &mut Device::new(&stream),
+        );
+        lines.print(number, ConnectionEnd::Served(ended));
     }
-    Ok(Ended::Yes)
-}
-
-/// Serves one connection, and prints how it ended.
-fn serve_connection<T: ComposeTable>(
-    rt: &(impl Print + Eprint + AllocGlobal),
-    number: u32,
-    stream: &UnixStream,
-    service: &mut Service<T>,
-) -> Ended {
-    let ended = serve(
-        service,
-        rt.alloc(),
-        &mut Device::new(stream),
-        &mut Device::new(stream),
-    );
-    print_end(rt, number, ended)
+    Ok(lines.finish())
 }

@@ -14,11 +14,11 @@ use compose_tree::ComposeTable;
 use std::fs::File;
 use std::net::Net;
 use std::os::unix::net::UnixStream;
-use std::rt::{Env, Files};
+use std::rt::{Clock, Env, Files};
 
 /// Takes a Compose file into use, while no other update is at work.
 pub fn update_files<T: ComposeTable, F: Folder>(
-    rt: &(impl Env + Files<File = File> + Net + Print + Eprint + AllocGlobal),
+    rt: &(impl Clock + Env + Files<File = File> + Net + Print + Eprint + AllocGlobal),
     files: &mut ReadOnce<F>,
     verbose: bool,
     arguments: &UpdateArguments<'_>,

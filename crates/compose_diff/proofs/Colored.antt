@@ -1,6 +1,6 @@
 -- An answer is lines without controls, so that colours can be put round them and taken away again.
 use Rattle.std.proofs.Common.{◌≡◌, ℕ, zero, suc, ◌-◌, ◌<◌, Bool, true, false, List, [], ◌∷◌, ◌++◌, length, take, map, flat_map, refl, sym, ◌∙◌, ap, ap₂, arith, leb-true}
-use Rattle.std.specs.Prelude.{◌==◌, nat_lt, if◌then◌else◌, Option, Some, None, codes, slice_index}
+use Rattle.std.specs.Prelude.{◌==◌, ◌&&◌, nat_lt, if◌then◌else◌, Option, Some, None, codes, slice_index}
 use Rattle.std.specs.List.{list_all, list_any, slice_split}
 use Rattle.std.specs.Fmt.{decimal}
 use Rattle.std.specs.Str.Lines.{lines, lines_of_parts, strip_carriage_return}
@@ -17,13 +17,15 @@ use Rattle.compose_diff.specs.declared.row.Entry.{Entry}
 use Rattle.compose_diff.specs.declared.row.DiffRow.{DiffRow}
 use Rattle.compose_diff.specs.declared.counts.Counts.{Counts}
 use Rattle.compose_diff.specs.declared.row.NewSequence.{NewSequence}
-use Rattle.compose_diff.specs.Line.{keys_text, keys_part, text_part, path_part, place_part, places_text, sequence_part, is_loss, typed_part, now_part, row_end, row_text, row_line}
-use Rattle.compose_diff.specs.Counts.{counts_of, starts_word, counts_line}
+use Rattle.compose_diff.specs.Line.{keys_text, keys_part, text_part, path_part, place_part, places_text, sequence_part, is_loss, typed_part, now_part, longer_part, row_end, row_text, row_line}
+use Rattle.compose_diff.specs.Counts.{counts_of, starts_word, texts_word, counts_line}
 use Rattle.compose_diff.specs.Runs.{fold_keys, runs_by}
 use Rattle.compose_diff.specs.Causes.{cause_line}
 use Rattle.compose_diff.specs.Folds.{texts_part, fold_line, row_lines, run_lines, told, Telling, run, cause, telling_lines, part_tellings, part_lines}
 use Rattle.compose_diff.specs.declared.runs.Division.TheVariants.{Sources}
 use Rattle.compose_diff.specs.Lost.{shown_rows}
+use Rattle.compose_diff.specs.Overlaps.{overlaps_line}
+use Rattle.compose_diff.specs.declared.overlaps.Overlaps.{Overlaps}
 use Rattle.compose_diff.specs.Told.{lines_text, answer_text}
 use Rattle.compose_diff.specs.declared.answer.Printed.{Printed}
 use Rattle.compose_diff.specs.Colors.{begins_with_word, colored_lines, uncolored_from, uncolored}
@@ -105,8 +107,14 @@ now_plain change now = by (is_loss change)
     by true = both_plain (codes " now:") (typed_part now) refl (typed_plain now)
     by false = refl
 
+longer_plain : (longer : Option NewSequence) → ArePlain (longer_part longer)
+longer_plain None = refl
+longer_plain (Some s) = both_plain (codes " longer:") (sequence_part s) refl (sequence_plain s)
+
 end_plain : (row : DiffRow) → ArePlain (row_end row)
-end_plain row = both_plain (places_text row) (now_part row.change row.typing) (places_plain row) (now_plain row.change row.typing)
+end_plain row =
+    both_plain (places_text row) (longer_part row.longer ++ now_part row.change row.typing) (places_plain row)
+    (both_plain (longer_part row.longer) (now_part row.change row.typing) (longer_plain row.longer) (now_plain row.change row.typing))
 
 row_lined : (row : DiffRow) → Lined (row_line row)
 row_lined row = one_lined (row_line row) (behind (row_text row) _ (row_text_plain row) (behind (row_end row) (10 ∷ []) (end_plain row) newline))
@@ -152,6 +160,13 @@ starts_plain n = by (n == 1)
     by true = refl
     by false = refl
 
+texts_plain : (n : ℕ) → ArePlain (texts_word n)
+texts_plain n = by (n == 1)
+  where
+    by : (t : Bool) → ArePlain (if t then codes " text" else codes " texts")
+    by true = refl
+    by false = refl
+
 counts_lined : (counts : Counts) → Lined (counts_line counts)
 counts_lined counts =
     one_lined (counts_line counts)
@@ -161,16 +176,32 @@ counts_lined counts =
     (number (codes " waiting, ") refl counts.removed _
     (number (codes " removed, ") refl counts.new_starts _
     (behind (starts_word counts.new_starts) _ (starts_plain counts.new_starts)
-    (number (codes ", ") refl counts.added _ (number (codes " added, ") refl counts.accepted _ (record { line = codes " accepted"; plain = refl; is = refl })))))))))
+    (number (codes ", ") refl counts.added _
+    (number (codes " added, ") refl counts.accepted _
+    (number (codes " accepted; ") refl counts.lost_texts _
+    (behind (texts_word counts.lost_texts) _ (texts_plain counts.lost_texts) (record { line = codes " lost"; plain = refl; is = refl })))))))))))
 
 rows_lined : (folds : Bool) (rows shown : List DiffRow) → Lined (lines_text folds rows shown)
 rows_lined true rows shown = all_lined (part_lines rows) (runs_by Sources (told shown)) (λ part. all_lined telling_lines (part_tellings rows part) telling_lined)
 rows_lined false rows shown = all_lined row_line (told shown) row_lined
 
-answer_lined : (printed : Printed) (rows left : List DiffRow) → Lined (answer_text printed rows left)
-answer_lined printed rows left =
+overlaps_lined : (overlaps : Overlaps) → Lined (overlaps_line overlaps)
+overlaps_lined overlaps = by (overlaps.old == 0 && overlaps.new == 0)
+  where
+    counted : List ℕ
+    counted = codes "overlaps: " ++ (decimal overlaps.old ++ (codes " in the old table, " ++ (decimal overlaps.new ++ codes " in the new one; the longer sequences count\n")))
+
+    by : (t : Bool) → Lined (if t then [] else counted)
+    by true = none_lined
+    by false =
+        one_lined counted
+        (number (codes "overlaps: ") refl overlaps.old _
+        (number (codes " in the old table, ") refl overlaps.new _ (record { line = codes " in the new one; the longer sequences count"; plain = refl; is = refl })))
+
+answer_lined : (printed : Printed) (overlaps : Overlaps) (rows left : List DiffRow) → Lined (answer_text printed overlaps rows left)
+answer_lined printed overlaps rows left =
     both_lined (lines_text printed.folds rows (shown_rows printed.lost_alone left)) _ (rows_lined printed.folds rows (shown_rows printed.lost_alone left))
-    (counts_lined (counts_of left (length rows - length left)))
+    (both_lined (overlaps_line overlaps) _ (overlaps_lined overlaps) (counts_lined (counts_of left (length rows - length left))))
 
 -- ---- divided into lines
 
@@ -227,7 +258,7 @@ all_off (part ∷ parts) plain =
     ∙ ap (λ rest. part ++ 10 ∷ rest) (all_off parts both.1) ∙ sym (append_assoc part (10 ∷ []) (joined parts))
 
 -- an answer in colours is the answer without its escape sequences
-pub answer_back : (printed : Printed) (rows left : List DiffRow) → uncolored (colored_lines (lines (answer_text printed rows left))) ≡ answer_text printed rows left
-answer_back printed rows left =
-    let lined = answer_lined printed rows left in
+pub answer_back : (printed : Printed) (overlaps : Overlaps) (rows left : List DiffRow) → uncolored (colored_lines (lines (answer_text printed overlaps rows left))) ≡ answer_text printed overlaps rows left
+answer_back printed overlaps rows left =
+    let lined = answer_lined printed overlaps rows left in
     ap (λ text. uncolored (colored_lines (lines text))) lined.is ∙ ap (λ ls. uncolored (colored_lines ls)) (lines_again lined.parts lined.plain) ∙ all_off lined.parts lined.plain ∙ sym lined.is

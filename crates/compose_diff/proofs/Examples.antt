@@ -22,13 +22,13 @@ shown_key : keys_part ((97 ∷ 27 ∷ []) ∷ []) ≡ codes " <a\\u{1b}>"
 unfolding chars encode_utf8 digits
 shown_key = refl
 
-all_counts : counts_line (record { kept = 5205; changed = 3; waiting = 0; removed = 298; new_starts = 0; added = 12; accepted = 2 })
-    ≡ codes "diff: 5205 kept, 3 changed, 0 waiting, 298 removed, 0 new starts, 12 added, 2 accepted\n"
+all_counts : counts_line (record { kept = 5205; changed = 3; waiting = 0; removed = 298; new_starts = 0; added = 12; accepted = 2; lost_texts = 4 })
+    ≡ codes "diff: 5205 kept, 3 changed, 0 waiting, 298 removed, 0 new starts, 12 added, 2 accepted; 4 texts lost\n"
 unfolding digits
 all_counts = refl
 
-one_start : counts_line (record { kept = 0; changed = 0; waiting = 0; removed = 0; new_starts = 1; added = 0; accepted = 0 })
-    ≡ codes "diff: 0 kept, 0 changed, 0 waiting, 0 removed, 1 new start, 0 added, 0 accepted\n"
+one_start : counts_line (record { kept = 0; changed = 0; waiting = 0; removed = 0; new_starts = 1; added = 0; accepted = 0; lost_texts = 1 })
+    ≡ codes "diff: 0 kept, 0 changed, 0 waiting, 0 removed, 1 new start, 0 added, 0 accepted; 1 text lost\n"
 unfolding digits
 one_start = refl
 

@@ -8,3 +8,4 @@ pub mod Plain
 pub mod PlainLines
 pub mod FirstRun
 pub mod NothingAccepted
+pub mod Distinct

@@ -7,6 +7,7 @@ use Rattle.compose_compare.specs.declared.Change.TheVariants.{Kept, Changed, Wai
 use Rattle.compose_compare.specs.Change.{is_harmless}
 use Rattle.compose_diff.specs.declared.row.DiffRow.{DiffRow}
 use Rattle.compose_diff.specs.declared.counts.Counts.{Counts}
+use Rattle.compose_diff.specs.Lost.{lost_texts}
 
 abbrev pub is_same : Change → Change → Bool
 is_same Kept Kept = true
@@ -21,7 +22,7 @@ is_same _ _ = false
 abbrev pub count_of : Change → List DiffRow → ℕ
 count_of change rows = length (filter (λ row. is_same row.change change) rows)
 
--- the counts of rows that are not accepted, and how many others are
+-- the counts of rows that are not accepted, how many others are, and how many texts are lost
 abbrev pub counts_of : List DiffRow → ℕ → Counts
 counts_of rows accepted = record {
   kept = count_of Kept rows;
@@ -31,17 +32,23 @@ counts_of rows accepted = record {
   new_starts = count_of NewStart rows;
   added = count_of Added rows;
   accepted = accepted;
+  lost_texts = length (lost_texts rows);
 }
 
 -- one is a new start
 abbrev pub starts_word : ℕ → List ℕ
 starts_word n = if n == 1 then codes " new start" else codes " new starts"
 
--- as `diff: 5205 kept, 3 changed, 0 waiting, 298 removed, 0 new starts, 12 added, 2 accepted`
+-- one is a text
+abbrev pub texts_word : ℕ → List ℕ
+texts_word n = if n == 1 then codes " text" else codes " texts"
+
+-- as `diff: 5205 kept, 3 changed, 0 waiting, 298 removed, 0 new starts, 12 added, 2 accepted; 4 texts lost`
 abbrev pub counts_line : Counts → List ℕ
 counts_line counts =
     codes "diff: " ++ (decimal counts.kept ++ (codes " kept, " ++ (decimal counts.changed ++ (codes " changed, " ++ (decimal counts.waiting ++ (codes " waiting, " ++ (decimal counts.removed
-    ++ (codes " removed, " ++ (decimal counts.new_starts ++ (starts_word counts.new_starts ++ (codes ", " ++ (decimal counts.added ++ (codes " added, " ++ (decimal counts.accepted ++ codes " accepted\n"))))))))))))))
+    ++ (codes " removed, " ++ (decimal counts.new_starts ++ (starts_word counts.new_starts ++ (codes ", " ++ (decimal counts.added ++ (codes " added, " ++ (decimal counts.accepted
+    ++ (codes " accepted; " ++ (decimal counts.lost_texts ++ (texts_word counts.lost_texts ++ codes " lost\n")))))))))))))))))
 
 -- nobody who types with the old table meets any of it
 abbrev pub loses_nothing : List DiffRow → Bool

@@ -51,16 +51,16 @@ json_texts row = codes ",\"old\":" ++ (json_text row.old ++ (codes ",\"new\":" +
 abbrev pub json_places : DiffRow → List ℕ
 json_places row = json_place (codes "old") row.old ++ json_place (codes "new") row.new
 
--- the keys, the file and the line of the sequence that gives the old text now, or null
-abbrev pub json_typing : Option NewSequence → List ℕ
-json_typing None = codes ",\"now\":null,\"now_file\":null,\"now_line\":null"
-json_typing (Some s) =
-    codes ",\"now\":" ++ (json_strings (map (λ key. key.now) s.keys.now)
-    ++ (codes ",\"now_file\":" ++ (json_string s.path.now ++ (codes ",\"now_line\":" ++ decimal s.line))))
+-- the keys, the file and the line of a sequence under this name, or null
+abbrev pub json_sequence : List ℕ → Option NewSequence → List ℕ
+json_sequence name None = codes ",\"" ++ (name ++ (codes "\":null,\"" ++ (name ++ (codes "_file\":null,\"" ++ (name ++ codes "_line\":null")))))
+json_sequence name (Some s) =
+    codes ",\"" ++ (name ++ (codes "\":" ++ (json_strings (map (λ key. key.now) s.keys.now)
+    ++ (codes ",\"" ++ (name ++ (codes "_file\":" ++ (json_string s.path.now ++ (codes ",\"" ++ (name ++ (codes "_line\":" ++ decimal s.line))))))))))
 
--- both places, and how the old text is typed now
+-- both places, the longer sequence for which people wait, and that which gives the old text now
 abbrev pub json_end : DiffRow → List ℕ
-json_end row = json_places row ++ json_typing row.typing
+json_end row = json_places row ++ (json_sequence (codes "longer") row.longer ++ json_sequence (codes "now") row.typing)
 
 abbrev pub json_row : DiffRow → List ℕ
 json_row row = json_keys row ++ (json_texts row ++ (json_end row ++ codes "}\n"))

@@ -9,3 +9,5 @@ pub mod Folds
 pub mod Order
 pub mod Told
 pub mod Lost
+pub mod JsonAnswer
+pub mod Overlaps

@@ -68,9 +68,14 @@ typed_part (Some s) = sequence_part s
 abbrev pub now_part : Change → Option NewSequence → List ℕ
 now_part change now = if is_loss change then codes " now:" ++ typed_part now else []
 
+-- the longer sequence for which people wait
+abbrev pub longer_part : Option NewSequence → List ℕ
+longer_part None = []
+longer_part (Some s) = codes " longer:" ++ sequence_part s
+
 -- what follows the texts; a line of accepted changes isn't compared with it
 abbrev pub row_end : DiffRow → List ℕ
-row_end row = places_text row ++ now_part row.change row.typing
+row_end row = places_text row ++ (longer_part row.longer ++ now_part row.change row.typing)
 
 -- the whole line, with the newline (code 10) that ends it
 abbrev pub row_line : DiffRow → List ℕ

@@ -1,5 +1,7 @@
 //! The whole answer of `diff`.
-ghost use Rattle.std.specs.Prelude.{◌≡◌, IfOk, string_bytes};
+ghost use Rattle.std.specs.Prelude.{◌≡◌, ◌++◌, IfOk, OnOk, string_bytes};
+ghost use Rattle.compose_diff.specs.Counts.{counts_line};
+ghost use Rattle.compose_diff.specs.Overlaps.{overlaps_line};
 ghost use Rattle.compose_diff.specs.Told as words;
 ghost use Rattle.compose_diff.specs.Lost.{shown_rows};
 ghost use Rattle.compose_diff.specs.Told.{Tells};
@@ -8,6 +10,7 @@ use crate::accepted::{AcceptFault, Accepted};
 use crate::counts::{Counts, loses_nothing};
 use crate::fold::{diff_text, folded_text};
 use crate::lost::lost_rows;
+use crate::overlaps::{Overlaps, push_overlaps};
 use crate::row::DiffRow;
 use compose_answer::Answer;
 use std::alloc::{AllocError, Global};
@@ -23,22 +26,23 @@ pub struct Printed {
 }
 
 /// What `diff` answers on rows in order: the lines of those that are neither kept nor accepted, those that belong together in
-/// one line and those of lost texts alone if that is asked for, and the line that counts all of them; yes if nobody meets any
-/// row that is not accepted. Or the first accepted line that matches no row. O(bytes) if the accepted lines are in the order of
-/// the rows.
+/// one line and those of lost texts alone if that is asked for, the line of the overlaps, and the line that counts all of them; yes if
+/// nobody meets any row that is not accepted. Or the first accepted line that matches no row. O(bytes + rows × log rows) if the accepted
+/// lines are in the order of the rows.
 pub fn answer_diff(
     alloc: Global,
     rows: &[DiffRow],
     accepted: &Accepted,
     printed: Printed,
+    overlaps: Overlaps,
 ) -> Result<Answer, AcceptFault>
-    ensures { Tells printed accepted.now rows.now result }
+    ensures { Tells printed overlaps accepted.now rows.now result }
 {
     if accepted.is_empty() {
-        return Ok(answer_on(alloc, rows, rows, printed)?);
+        return Ok(answer_on(alloc, rows, rows, printed, overlaps)?);
     }
     let left = accepted.leave_out(alloc, rows)?;
-    Ok(answer_on(alloc, rows, &left, printed)?)
+    Ok(answer_on(alloc, rows, &left, printed, overlaps)?)
 }
 
 /// What is answered on the rows that are not accepted, which are left of all rows.
@@ -47,29 +51,43 @@ fn answer_on(
     rows: &[DiffRow],
     left: &[DiffRow],
     printed: Printed,
+    overlaps: Overlaps,
 ) -> Result<Answer, AllocError>
-    ensures { IfOk result (λ answer. words.IsAnswer printed rows.now left.now answer) }
+    ensures { IfOk result (λ answer. words.IsAnswer printed overlaps rows.now left.now answer) }
 {
-    let text = answer_text(alloc, rows, left, printed)?;
+    let text = answer_text(alloc, rows, left, printed, overlaps)?;
     if loses_nothing(left) {
         return Ok(Answer::Yes(text));
     }
     Ok(Answer::No(text))
 }
 
-/// The lines of the rows that are shown, and the line of the counts.
+/// The lines of the rows that are shown, that of the overlaps, and that of the counts.
 fn answer_text(
     alloc: Global,
     rows: &[DiffRow],
     left: &[DiffRow],
     printed: Printed,
+    overlaps: Overlaps,
 ) -> Result<String, AllocError>
-    ensures { IfOk result (λ text. string_bytes text ≡ words.answer_text printed rows.now left.now) }
+    ensures { IfOk result
+        (λ text. string_bytes text ≡ words.answer_text printed overlaps rows.now left.now) }
 {
+    let counts = Counts::of(alloc, left, rows.len().saturating_sub(left.len()))?;
     let mut text = shown_text(alloc, rows, left, printed)?;
-    let counts = Counts::of(left, rows.len().saturating_sub(left.len()));
-    write!(text, "{counts}")?;
+    push_counts(&mut text, &counts, overlaps)?;
     Ok(text)
+}
+
+/// Appends the line of the overlaps and that of the counts to the text.
+fn push_counts(text: &mut String, counts: &Counts, overlaps: Overlaps) -> Result<(), AllocError>
+    ensures { OnOk result
+        (string_bytes text.new
+        ≡ string_bytes text.old ++ (overlaps_line overlaps ++ counts_line counts.now)) }
+{
+    push_overlaps(text, overlaps)?;
+    write!(text, "{counts}")?;
+    Ok(())
 }
 
 /// The lines of the rows that are shown.

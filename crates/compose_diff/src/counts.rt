@@ -1,14 +1,16 @@
 //! How often each thing happens.
-ghost use Rattle.std.specs.Prelude.{◌≡◌, Some};
+ghost use Rattle.std.specs.Prelude.{◌≡◌, Some, IfOk};
 ghost use Rattle.compose_diff.specs.Counts as words;
 ghost use Rattle.compose_diff.specs.Counts.{counts_line};
 
+use crate::lost::count_lost_texts;
 use crate::row::DiffRow;
 use compose_compare::Change;
+use std::alloc::{AllocError, Global};
 use std::fmt;
 
 /// How often each thing happens, printed as
-/// `diff: 5205 kept, 3 changed, 0 waiting, 298 removed, 0 new starts, 12 added, 2 accepted` and a newline.
+/// `diff: 5205 kept, 3 changed, 0 waiting, 298 removed, 0 new starts, 12 added, 2 accepted; 4 texts lost` and a newline.
 #[derive(Clone, Copy, Debug, PartialEq, Eq, Drop)]
 pub struct Counts {
     pub kept: usize,
@@ -19,14 +21,17 @@ pub struct Counts {
     pub added: usize,
     /// How many rows are accepted, and in none of the other counts.
     pub accepted: usize,
+    /// How many texts the old table gives, of rows that are not accepted, and no sequence of the new one.
+    pub lost_texts: usize,
 }
 
 impl Counts {
-    /// The counts of the rows that are not accepted, beside so many that are. O(rows).
-    pub fn of(rows: &[DiffRow], accepted: usize) -> Counts
-        ensures { result ≡ words.counts_of rows.now accepted }
+    /// The counts of the rows that are not accepted, beside so many that are. O(rows × log rows).
+    pub fn of(alloc: Global, rows: &[DiffRow], accepted: usize) -> Result<Counts, AllocError>
+        ensures { IfOk result (λ counts. counts ≡ words.counts_of rows.now accepted) }
     {
-        Counts {
+        let lost_texts = count_lost_texts(alloc, rows)?;
+        Ok(Counts {
             kept: count_of(rows, Change::Kept),
             changed: count_of(rows, Change::Changed),
             waiting: count_of(rows, Change::Waiting),
@@ -34,7 +39,8 @@ impl Counts {
             new_starts: count_of(rows, Change::NewStart),
             added: count_of(rows, Change::Added),
             accepted,
-        }
+            lost_texts,
+        })
     }
 }
 
@@ -50,6 +56,7 @@ impl fmt::Display for Counts {
             new_starts,
             added,
             accepted,
+            lost_texts,
         } = *self;
         write!(
             f,
@@ -58,8 +65,10 @@ impl fmt::Display for Counts {
         let starts = starts_word(new_starts);
         write!(
             f,
-            "{new_starts}{starts}, {added} added, {accepted} accepted\n"
-        )
+            "{new_starts}{starts}, {added} added, {accepted} accepted; "
+        )?;
+        let texts = texts_word(lost_texts);
+        write!(f, "{lost_texts}{texts} lost\n")
     }
 }
 
@@ -71,6 +80,16 @@ fn starts_word(count: usize) -> &'static str
         " new start"
     } else {
         " new starts"
+    }
+}
+
+/// The word after the number of texts, after a blank.
+fn texts_word(count: usize) -> &'static str
+    ensures { result.now ≡ words.texts_word count }
+{
+    match count {
+        1 => " text",
+        _ => " texts",
     }
 }
 

@@ -9,8 +9,9 @@ use std::alloc::{AllocError, Global};
 use std::fmt::Write;
 
 /// An object a line for each row, the rows that are kept too: `change`, `keys`, the texts `old` and `new`, and the places `old_file`,
-/// `old_line`, `new_file` and `new_line`, each `null` where the table doesn't have the sequence. Then the keys and the place of the
-/// sequence that gives the old text now (`now`, `now_file`, `now_line`), `null` if there is none. O(bytes).
+/// `old_line`, `new_file` and `new_line`, each `null` where the table doesn't have the sequence. Then the keys and the place of the longer
+/// sequence for which people wait (`longer`, `longer_file`, `longer_line`), and of the sequence that gives the old text now (`now`,
+/// `now_file`, `now_line`), `null` if there is none. O(bytes).
 pub fn json_text(alloc: Global, rows: &[DiffRow]) -> Result<String, AllocError>
     ensures { IfOk result (λ text. string_bytes text ≡ words.json_rows rows.now) }
 {
@@ -32,29 +33,39 @@ fn push_object(text: &mut String, row: &DiffRow) -> Result<(), AllocError>
     text.push_str("}\n")
 }
 
-/// Appends the members for both places and for how the old text is typed now to the text.
+/// Appends the members for both places, for the longer sequence and for how the old text is typed now to the text.
 fn push_end(text: &mut String, row: &DiffRow) -> Result<(), AllocError>
     ensures { OnOk result
         (string_bytes text.new ≡ string_bytes text.old ++ words.json_end row.now) }
 {
     push_places(text, row)?;
-    push_typing(text, &row.typing)
+    push_sequence(text, "longer", &row.longer)?;
+    push_sequence(text, "now", &row.typing)
 }
 
-/// Appends the members for the sequence that gives the old text now to the text.
-fn push_typing(text: &mut String, typing: &Option<NewSequence>) -> Result<(), AllocError>
+/// Appends the members of this name for a sequence of the new table to the text.
+fn push_sequence(
+    text: &mut String,
+    name: &str,
+    sequence: &Option<NewSequence>,
+) -> Result<(), AllocError>
     ensures { OnOk result
-        (string_bytes text.new ≡ string_bytes text.old ++ words.json_typing typing.now) }
+        (string_bytes text.new
+        ≡ string_bytes text.old ++ words.json_sequence name.now sequence.now) }
 {
-    let Some(sequence) = typing else {
-        return text.push_str(",\"now\":null,\"now_file\":null,\"now_line\":null");
+    let Some(sequence) = sequence else {
+        write!(
+            text,
+            ",\"{name}\":null,\"{name}_file\":null,\"{name}_line\":null"
+        )?;
+        return Ok(());
     };
     let line = sequence.line;
-    text.push_str(",\"now\":")?;
+    write!(text, ",\"{name}\":")?;
     push_strings(text, sequence.keys)?;
-    text.push_str(",\"now_file\":")?;
+    write!(text, ",\"{name}_file\":")?;
     push_string(text, sequence.path)?;
-    write!(text, ",\"now_line\":{line}")?;
+    write!(text, ",\"{name}_line\":{line}")?;
     Ok(())
 }
 

@@ -2,7 +2,7 @@
 //!
 //! A [`DiffRow`] is a sequence and what happens to it. [`sort_rows`] puts rows in the order in which they are told, and
 //! [`answer_diff`] gives the whole answer: a line for each ([`diff_text`], or [`folded_text`]) and the [`Counts`]. [`colored_text`] puts
-//! it in colours, and [`json_text`] tells the rows to programs. A line:
+//! it in colours, and [`json_answer`] is the answer for programs. A line:
 //!
 //!     changed: <dead_hook> <o> "ở" "ờ" OLD:1234 NEW:361 now: <dead_horn> <dead_hook> <o> NEW:340
 //!
@@ -13,6 +13,7 @@ ghost use Rattle.std.specs.Prelude.{◌≡◌, Bool, List, ◌∷◌, ◌++◌, 
 ghost use Rattle.std.specs.List.{list_all};
 ghost use Rattle.std.specs.Str.Lines.{lines};
 ghost use Rattle.compose_diff.specs.declared.answer.Printed.{Printed};
+ghost use Rattle.compose_diff.specs.declared.overlaps.Overlaps.{Overlaps};
 ghost use Rattle.compose_diff.specs.declared.row.DiffRow.{DiffRow};
 ghost use Rattle.compose_diff.specs.declared.row.Entry.{Entry};
 ghost use Rattle.compose_diff.specs.declared.runs.Division.{Division};
@@ -31,9 +32,11 @@ mod color;
 mod counts;
 mod fold;
 mod json;
+mod json_counts;
 mod line;
 mod lost;
 mod order;
+mod overlaps;
 mod row;
 mod runs;
 
@@ -43,9 +46,11 @@ pub use color::colored_text;
 pub use counts::{Counts, loses_nothing};
 pub use fold::{diff_text, folded_text};
 pub use json::json_text;
+pub use json_counts::json_answer;
 pub use line::is_loss;
 pub use lost::{is_lost, lost_rows};
 pub use order::sort_rows;
+pub use overlaps::Overlaps;
 pub use row::{DiffRow, Entry, NewSequence};
 
 /// Each row is in one run, and in the order in which it was: a division leaves nothing out and doubles nothing.
@@ -76,7 +81,7 @@ pub fn law_accept_text()
 
 /// An answer in colours ([`colored_text`]) is the same answer without its escape sequences.
 pub fn law_colors()
-    ensures { (printed : Printed) (rows left : List DiffRow)
-        → uncolored (colored_lines (lines (answer_text printed rows left)))
-        ≡ answer_text printed rows left }
+    ensures { (printed : Printed) (overlaps : Overlaps) (rows left : List DiffRow)
+        → uncolored (colored_lines (lines (answer_text printed overlaps rows left)))
+        ≡ answer_text printed overlaps rows left }
 {}

@@ -120,6 +120,20 @@ fn push_sequence(text: &mut String, sequence: &NewSequence) -> Result<(), AllocE
     push_path(text, sequence.path, sequence.line)
 }
 
+/// Appends the longer sequence for which people wait, if there is one, to the text.
+fn push_longer(text: &mut String, longer: &Option<NewSequence>) -> Result<(), AllocError>
+    ensures { OnOk result
+        (string_bytes text.new ≡ string_bytes text.old ++ words.longer_part longer.now) }
+{
+    match longer {
+        Some(sequence) => {
+            text.push_str(" longer:")?;
+            push_sequence(text, sequence)
+        }
+        None => Ok(()),
+    }
+}
+
 /// Whether people lose the sequence to which this happens, so that the line says how its text is typed now.
 pub fn is_loss(change: Change) -> bool
     ensures { result ≡ words.is_loss change }
@@ -146,12 +160,13 @@ fn push_typing(
     }
 }
 
-/// Appends both places, and how the old text is typed now, to the text.
+/// Appends both places, the longer sequence, and how the old text is typed now, to the text.
 fn push_row_end(text: &mut String, row: &DiffRow) -> Result<(), AllocError>
     ensures { OnOk result
         (string_bytes text.new ≡ string_bytes text.old ++ words.row_end row.now) }
 {
     push_places(text, row)?;
+    push_longer(text, &row.longer)?;
     push_typing(text, row.change, &row.typing)
 }
 

@@ -35,6 +35,9 @@ pub struct DiffRow<'a> {
     pub old: Option<Entry<'a>>,
     /// What the new table has for it, if the new table has it.
     pub new: Option<Entry<'a>>,
+    /// Of a sequence that is waiting the first of the shortest sequences of the new table that begin
+    /// with it and go on.
+    pub longer: Option<NewSequence<'a>>,
     /// Of a sequence that is changed, waiting or removed the first of the shortest ones with which
     /// the new table gives its old text, if any does.
     pub typing: Option<NewSequence<'a>>,

@@ -37,23 +37,24 @@ use Rattle.compose_diff.specs.Line.{row_text, text_part, keys_text, key_names}
 use Rattle.compose_diff.specs.declared.accepted.AcceptFault.{AcceptFault}
 use Rattle.compose_diff.specs.declared.accepted.AcceptFault.TheVariants.{Stale}
 use Rattle.compose_diff.specs.declared.row.DiffRow.{DiffRow}
+use Rattle.compose_diff.specs.declared.overlaps.Overlaps.{Overlaps}
 use Rattle.compose_diff.specs.declared.row.Entry.{Entry}
-use Rattle.compose_diff_rows.specs.Answers.{Asked, IsDiff, IsTold, AreRows, compared, compared_parts, old_written, new_written, tells_kept}
+use Rattle.compose_diff_rows.specs.Answers.{Asked, IsDiff, IsTold, AreRows, overlaps_in, compared, compared_parts, old_written, new_written, tells_kept}
 use Rattle.compose_diff_rows.specs.Following.{IsYes, AreMeant, entry_text, told_text, is_named, is_meant}
 use Rattle.compose_diff_rows.specs.Rows.{ToldRow, Written, told_row, told_entry, row_of, kept_row, kept_rows, told_rows, is_told, is_told_of}
 use Rattle.compose_diff_rows.specs.declared.asking.Form.{Form}
 
 -- ---- yes, by the rows that are left
 
-yes_is : (form : Form) (lost_alone : Bool) (rows left : List DiffRow) (answer : Answer) → IsTold form lost_alone rows left answer → IsYes answer ↔ loses_nothing left ≡ true
-yes_is form lost_alone rows left (Yes text) told = ((λ yes. told.0), (λ none. tt))
-yes_is form lost_alone rows left (No text) told = ((λ yes. absurd yes), (λ none. clash (loses_nothing left) none told.0))
+yes_is : (form : Form) (lost_alone : Bool) (overlaps : Overlaps) (rows left : List DiffRow) (answer : Answer) → IsTold form lost_alone overlaps rows left answer → IsYes answer ↔ loses_nothing left ≡ true
+yes_is form lost_alone overlaps rows left (Yes text) told = ((λ yes. told.0), (λ none. tt))
+yes_is form lost_alone overlaps rows left (No text) told = ((λ yes. absurd yes), (λ none. clash (loses_nothing left) none told.0))
   where
     clash : (b : Bool) → b ≡ true → not b ≡ true → ⊥
     clash true e f = cc
     clash false e f = cc
-yes_is form lost_alone rows left (Invalid fault) told = absurd told
-yes_is form lost_alone rows left (FreshNotAllowed keysym) told = absurd told
+yes_is form lost_alone overlaps rows left (Invalid fault) told = absurd told
+yes_is form lost_alone overlaps rows left (FreshNotAllowed keysym) told = absurd told
 
 same_lines : (lines read : List Line) (bytes : List ℕ) → accepted_of bytes ≡ Ok lines → accepted_of bytes ≡ Ok read → lines ≡ read
 same_lines lines read bytes f g = go (sym f ∙ g)
@@ -215,7 +216,7 @@ module _ (asked : Asked) (e : Explainable) where
   -- yes exactly where each harmful change is named
   pub meant_is : (answer : Answer) (lines : List Line) → IsDiff asked e answer → accepted_of asked.accepted ≡ Ok lines → IsYes answer ↔ AreMeant asked e lines
   meant_is answer lines diff read =
-      let yes = yes_is asked.form asked.lost_alone diff.rows diff.left answer diff.told in
+      let yes = yes_is asked.form asked.lost_alone (overlaps_in asked e) diff.rows diff.left answer diff.told in
       let all : loses_nothing diff.left ≡ list_all passes_here (map told_row diff.are.told) =
       ap loses_nothing (left_is diff.lines diff.rows diff.left diff.leaves) ∙ left_passes diff.lines diff.rows
       ∙ ap (λ (ls : List Line). list_all (passes ls) diff.rows) (same_lines diff.lines lines asked.accepted diff.read read) ∙ rows_pass lines diff.rows diff.are in (

@@ -6,3 +6,4 @@ pub mod Joining
 pub mod RowsAre
 pub mod Following
 pub mod FirstTyping
+pub mod LongerNow

@@ -8,7 +8,7 @@ use Rattle.compose_answer.specs.declared.answer.Answer.{Answer}
 use Rattle.compose_diff.specs.Accepted.{Line}
 use Rattle.compose_diff.specs.Order.{AreInOrder}
 use Rattle.compose_diff.specs.declared.row.DiffRow.{DiffRow}
-use Rattle.compose_diff_rows.specs.Answers.{Asked, AreTables, AreSorted, AreRows, tells_kept, old_written, new_written}
+use Rattle.compose_diff_rows.specs.Answers.{Asked, AreTables, AreSorted, AreRows, overlaps_in, tells_kept, old_written, new_written}
 use Rattle.compose_diff_rows.specs.Rows.{ToldRow, Told, Written, told_row, told_of, is_told_of, old_told, new_told, old_row, new_row, kept_rows}
 use Rattle.compose_diff_rows.specs.Steps.{TellsRows, TellsDiff}
 use Rattle.compose_diff_rows.specs.declared.asking.DiffFault.{DiffFault}
@@ -40,7 +40,7 @@ module _ (asked : Asked) (e : Explainable) where
         })))
 
   -- what is told of these rows is told of what is compared
-  pub rows_told : (lines : List Line) (rows : List DiffRow) → AreTables e → AreRows asked e rows → (r : Result Answer DiffFault) → TellsRows asked.form asked.lost_alone lines rows r → TellsDiff asked e lines r
+  pub rows_told : (lines : List Line) (rows : List DiffRow) → AreTables e → AreRows asked e rows → (r : Result Answer DiffFault) → TellsRows asked.form asked.lost_alone (overlaps_in asked e) lines rows r → TellsDiff asked e lines r
   rows_told lines rows tables are (Ok answer) h = (rows, tables, are, h)
   rows_told lines rows tables are (Err (Input refusal)) h = h
   rows_told lines rows tables are (Err (Accept fault)) h = (rows, are, h)

@@ -7,13 +7,15 @@ use Rattle.std.proofs.lemmas.List.Elements.{filter-append}
 use Rattle.std.proofs.lemmas.Option.{same_Some}
 use Rattle.std.proofs.lemmas.Simd.{map-map}
 use Rattle.keysym_core.specs.Names.{KeysymNames}
-use Rattle.compose_model.specs.Table.{Definition, is_sequence}
+use Rattle.compose_model.specs.Table.{Definition, is_sequence, is_extended}
 use Rattle.compose_model.specs.Nodes.{leaves}
 use Rattle.compose_tree.specs.Targets.{leaf_number}
 use Rattle.compose_places.specs.Counting.{WrittenLine, sequence_named, AreLines}
 use Rattle.compose_compare.specs.declared.Change.{Change}
-use Rattle.compose_compare.specs.Change.{change, old_changes, new_changes}
-use Rattle.compose_diff_rows.specs.Rows.{ToldEntry, ToldRow, Written, WrittenSequence, sequence_at, sequence_in, line_of, keys_of, entry_at, entry_of, now_of, row_of, told_of, new_told, old_row, new_row}
+use Rattle.compose_compare.specs.declared.Change.TheVariants.{Kept, Changed, Waiting, Removed, Added, NewStart}
+use Rattle.compose_compare.specs.Change.{agree_along, is_new_start, change, old_changes, new_changes}
+use Rattle.compose_diff.specs.Counts.{is_same}
+use Rattle.compose_diff_rows.specs.Rows.{ToldEntry, ToldRow, Written, WrittenSequence, sequence_at, sequence_in, line_of, keys_of, entry_at, entry_of, now_of, longer_in, row_of, told_of, new_told, old_row, new_row}
 use Rattle.compose_diff_rows.proofs.Leaves.{number_of_leaf, leaf_there, leaf_at_number, keys_there}
 
 -- ---- what a table has for a leaf
@@ -36,6 +38,20 @@ module _ (w : Written) (i : ℕ) (below : i < length (leaves w.table)) where
 pub no_entry : (w : Written) (s : List ℕ) → is_sequence w.table s ≡ false → None ≡ entry_of w s
 no_entry w s h = sym (ap (λ b. cond b (option_map (entry_at w s) (line_of w s)) None) h)
 
+-- what the new table alone has doesn't wait
+pub never_waiting : (names : KeysymNames) (fresh : List ℕ) (old new : List Definition) (s : List ℕ) → is_sequence old s ≡ false → is_same (change names fresh old new s) Waiting ≡ false
+never_waiting names fresh old new s h =
+    ap (λ b. is_same (cond b (cond (agree_along names old new [] [] s) Kept (cond (is_sequence new s) Changed (cond (is_extended new s) Waiting Removed))) (cond (is_new_start names fresh old new s) NewStart Added)) Waiting) h
+    ∙ by (is_new_start names fresh old new s)
+  where
+    by : (b : Bool) → is_same (cond b NewStart Added) Waiting ≡ false
+    by true = refl
+    by false = refl
+
+-- nothing for what doesn't wait
+pub not_waiting : {X : Type 0} (c : Change) (found : Option X) → is_same c Waiting ≡ false → (let none : Option X = None in none) ≡ cond (is_same c Waiting) found None
+not_waiting {X = X} c found h = sym (ap (λ b. cond {A = Option X} b found None) h)
+
 -- ---- the rows of what is told
 
 module _ (names : KeysymNames) (fresh : List ℕ) (old new : Written) where
@@ -47,6 +63,7 @@ module _ (names : KeysymNames) (fresh : List ℕ) (old new : Written) where
     keys = (ap (λ b. keys_of (cond b old new) s) (sym h)) i;
     old = entry_of old s;
     new = (ap (option_and_then (entry_of new)) named) i;
+    longer = (ap (λ o. cond (is_same (change names fresh old.table new.table s) Waiting) (option_and_then (longer_in new) o) None) named) i;
     typing = now_of new (change names fresh old.table new.table s) (entry_of old s);
   }
 
@@ -57,6 +74,7 @@ module _ (names : KeysymNames) (fresh : List ℕ) (old new : Written) where
     keys = (ap (λ b. keys_of (cond b old new) s) (sym h)) i;
     old = (no_entry old s h) i;
     new = entry_of new s;
+    longer = (not_waiting (change names fresh old.table new.table s) (longer_in new s) (never_waiting names fresh old.table new.table s h)) i;
     typing = (ap (now_of new (change names fresh old.table new.table s)) (no_entry old s h)) i;
   }
 

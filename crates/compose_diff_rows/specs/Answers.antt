@@ -14,17 +14,19 @@ use Rattle.compose_fresh.specs.Fresh.{fresh_conditions}
 use Rattle.compose_fresh.specs.Conditions.{first_unmet}
 use Rattle.compose_walk.specs.declared.fault.MakeFault.TheVariants.{BadFresh}
 use Rattle.compose_places.specs.Counting.{WrittenLine, counting_line, read_lines}
+use Rattle.compose_places.specs.Overlaps.{overlap_count}
 use Rattle.compose_answer.specs.Parts.{Explainable, NoAnswer, no_fresh, migration_parts}
 use Rattle.compose_answer.specs.Refused.{IsRefused}
 use Rattle.compose_answer.specs.declared.answer.Answer.{Answer}
 use Rattle.compose_answer.specs.declared.answer.Answer.TheVariants.{Yes, No, Invalid, FreshNotAllowed}
 use Rattle.compose_diff.specs.Accepted.{Line, accepted_of, left_of, accept_lines}
 use Rattle.compose_diff.specs.Counts.{loses_nothing}
-use Rattle.compose_diff.specs.Json.{json_rows}
+use Rattle.compose_diff.specs.JsonAnswer.{json_answer}
 use Rattle.compose_diff.specs.Lost.{shown_rows}
 use Rattle.compose_diff.specs.Order.{AreInOrder}
 use Rattle.compose_diff.specs.Told.{answer_text}
 use Rattle.compose_diff.specs.declared.accepted.AcceptFault.TheVariants.{Stale, BadLine, NoMemory}
+use Rattle.compose_diff.specs.declared.overlaps.Overlaps.{Overlaps}
 use Rattle.compose_diff.specs.declared.row.DiffRow.{DiffRow}
 use Rattle.compose_diff_rows.specs.Rows.{Written, told_row, told_rows, kept_rows}
 use Rattle.compose_diff_rows.specs.declared.asking.Form.{Form}
@@ -115,19 +117,26 @@ AreRows asked e rows = AreSorted (tells_kept asked.form) e.move.names e.fresh (o
 
 -- ---- the answer
 
+-- how many sequences are defined in the sources of either table with which longer ones begin
+abbrev pub overlaps_in : Asked → Explainable → Overlaps
+overlaps_in asked e = record {
+  old = overlap_count e.move.names asked.migration.old.sources (root_of asked.migration.old.sources);
+  new = overlap_count e.move.names asked.migration.new.sources (root_of asked.migration.new.sources);
+}
+
 -- what is printed of all rows, some of which are left: of these all, or those of lost texts alone
-abbrev pub form_text : Form → Bool → List DiffRow → List DiffRow → List ℕ
-form_text Folded lost_alone rows left = answer_text (record { folds = true; lost_alone = lost_alone }) rows left
-form_text Lines lost_alone rows left = answer_text (record { folds = false; lost_alone = lost_alone }) rows left
-form_text Json lost_alone rows left = json_rows (shown_rows lost_alone left)
-form_text AcceptList lost_alone rows left = accept_lines (shown_rows lost_alone left)
+abbrev pub form_text : Form → Bool → Overlaps → List DiffRow → List DiffRow → List ℕ
+form_text Folded lost_alone overlaps rows left = answer_text (record { folds = true; lost_alone = lost_alone }) overlaps rows left
+form_text Lines lost_alone overlaps rows left = answer_text (record { folds = false; lost_alone = lost_alone }) overlaps rows left
+form_text Json lost_alone overlaps rows left = json_answer lost_alone overlaps rows left
+form_text AcceptList lost_alone overlaps rows left = accept_lines (shown_rows lost_alone left)
 
 -- yes where nobody meets any of the rows that are left
-abbrev pub IsTold : Form → Bool → List DiffRow → List DiffRow → Answer → Type 0
-IsTold form lost_alone rows left (Yes text) = IsTrue (loses_nothing left) × (string_bytes text ≡ form_text form lost_alone rows left)
-IsTold form lost_alone rows left (No text) = IsTrue (not (loses_nothing left)) × (string_bytes text ≡ form_text form lost_alone rows left)
-IsTold form lost_alone rows left (Invalid fault) = ⊥
-IsTold form lost_alone rows left (FreshNotAllowed keysym) = ⊥
+abbrev pub IsTold : Form → Bool → Overlaps → List DiffRow → List DiffRow → Answer → Type 0
+IsTold form lost_alone overlaps rows left (Yes text) = IsTrue (loses_nothing left) × (string_bytes text ≡ form_text form lost_alone overlaps rows left)
+IsTold form lost_alone overlaps rows left (No text) = IsTrue (not (loses_nothing left)) × (string_bytes text ≡ form_text form lost_alone overlaps rows left)
+IsTold form lost_alone overlaps rows left (Invalid fault) = ⊥
+IsTold form lost_alone overlaps rows left (FreshNotAllowed keysym) = ⊥
 
 -- the answer on what is compared: of its rows those are left that no line accepts
 pub record IsDiff (asked : Asked) (e : Explainable) (answer : Answer) : Type 0 where
@@ -138,7 +147,7 @@ pub record IsDiff (asked : Asked) (e : Explainable) (answer : Answer) : Type 0 w
   pub read : accepted_of asked.accepted ≡ Ok lines
   pub are : AreRows asked e rows
   pub leaves : left_of lines rows ≡ Ok left
-  pub told : IsTold asked.form asked.lost_alone rows left answer
+  pub told : IsTold asked.form asked.lost_alone (overlaps_in asked e) rows left answer
 
 -- a line of the list of meant changes tells none of the rows
 pub record IsStale (asked : Asked) (e : Explainable) (line : ℕ) : Type 0 where

@@ -7,12 +7,14 @@ use Rattle.compose_model.specs.Nodes.{leaves}
 use Rattle.compose_tree.specs.Targets.{leaf_number}
 use Rattle.compose_places.specs.Counting.{WrittenLine, sequence_named}
 use Rattle.compose_compare.specs.declared.Change.{Change}
-use Rattle.compose_compare.specs.declared.Change.TheVariants.{Kept}
+use Rattle.compose_compare.specs.declared.Change.TheVariants.{Kept, Waiting}
 use Rattle.compose_compare.specs.Change.{change}
 use Rattle.compose_diff.specs.declared.row.Entry.{Entry}
 use Rattle.compose_diff.specs.declared.row.DiffRow.{DiffRow}
 use Rattle.compose_diff.specs.declared.row.NewSequence.{NewSequence}
 use Rattle.compose_diff.specs.Line.{is_loss}
+use Rattle.compose_diff.specs.Counts.{is_same}
+use Rattle.compose_lookup.specs.Longer.{first_longer}
 use Rattle.compose_lookup.specs.Lookup.{giving, shortest_first}
 use Rattle.compose_diff_rows.specs.declared.typing.NamedSequence.{NamedSequence}
 use Rattle.compose_diff_rows.specs.declared.told.ToldSequence.{ToldSequence}
@@ -33,12 +35,13 @@ pub record WrittenSequence : Type 0 where
   pub path : List ℕ
   pub line : ℕ
 
--- what happens to a sequence, the names of its keys, what each table has for it, and how its text is typed now
+-- what happens to a sequence, the names of its keys, what each table has for it, the longer one for which people wait, and how its text is typed now
 pub record ToldRow : Type 0 where
   pub change : Change
   pub keys : List (List ℕ)
   pub old : Option ToldEntry
   pub new : Option ToldEntry
+  pub longer : Option WrittenSequence
   pub typing : Option WrittenSequence
 
 abbrev pub told_entry : Entry → ToldEntry
@@ -48,7 +51,7 @@ abbrev pub new_sequence : NewSequence → WrittenSequence
 new_sequence s = record { keys = map (λ key. key.now) s.keys.now; path = s.path.now; line = s.line }
 
 abbrev pub told_row : DiffRow → ToldRow
-told_row row = record { change = row.change; keys = map (λ key. key.now) row.keys.now; old = option_map told_entry row.old; new = option_map told_entry row.new; typing = option_map new_sequence row.typing }
+told_row row = record { change = row.change; keys = map (λ key. key.now) row.keys.now; old = option_map told_entry row.old; new = option_map told_entry row.new; longer = option_map new_sequence row.longer; typing = option_map new_sequence row.typing }
 
 -- ---- a table as it is written
 
@@ -94,6 +97,16 @@ abbrev pub now_of : Written → Change → Option ToldEntry → Option WrittenSe
 now_of new c None = None
 now_of new c (Some entry) = if is_loss c then option_and_then (sequence_in new) (first_typing new.table entry.text) else None
 
+-- ---- for what people wait
+
+-- the first of the shortest sequences that begin with s and go on, as it is written
+abbrev pub longer_in : Written → List ℕ → Option WrittenSequence
+longer_in new s = option_and_then (sequence_in new) (first_longer new.table s)
+
+-- of a sequence that is waiting, the first of the shortest longer ones
+abbrev pub longer_of : Written → Change → List ℕ → Option WrittenSequence
+longer_of new c s = if is_same c Waiting then longer_in new s else None
+
 -- ---- the rows
 
 -- the keys are written as in the old table, or in the new one where that alone has the sequence
@@ -103,6 +116,7 @@ row_of names fresh old new s = record {
   keys = keys_of (if is_sequence old.table s then old else new) s;
   old = entry_of old s;
   new = entry_of new s;
+  longer = longer_of new (change names fresh old.table new.table s) s;
   typing = now_of new (change names fresh old.table new.table s) (entry_of old s);
 }
 
@@ -131,7 +145,7 @@ told_rows whole names fresh old new = map (row_of names fresh old new) (old_told
 
 -- of a kept sequence that is not told only what the old table has for it
 abbrev pub kept_row : Written → List ℕ → ToldRow
-kept_row old s = record { change = Kept; keys = []; old = entry_of old s; new = None; typing = None }
+kept_row old s = record { change = Kept; keys = []; old = entry_of old s; new = None; longer = None; typing = None }
 
 -- a row for each of these, in the order of the old table
 abbrev pub kept_rows : Bool → KeysymNames → List ℕ → Written → Written → List ToldRow
@@ -139,11 +153,12 @@ kept_rows whole names fresh old new = map (kept_row old) (filter (λ s. not (is_
 
 -- ---- in words for private functions
 
--- a sequence of one of the tables: what happens to it, the names of its keys, what the table has for it, and how its text is typed now
+-- a sequence of one of the tables: what happens to it, the names of its keys, what the table has for it, the longer one, and how its text is typed now
 pub record Told : Type 0 where
   pub change : Change
   pub keys : List (List ℕ)
   pub entry : Option ToldEntry
+  pub longer : Option WrittenSequence
   pub typing : Option WrittenSequence
 
 abbrev pub named_sequence : NamedSequence → WrittenSequence
@@ -151,7 +166,11 @@ named_sequence s = record { keys = map (λ key. key.now) s.keys.items; path = s.
 
 -- such a sequence as the code keeps it
 abbrev pub told_sequence : ToldSequence → Told
-told_sequence told = record { change = told.change; keys = map (λ key. key.now) told.keys.items; entry = option_map told_entry told.entry; typing = option_map named_sequence told.typing }
+told_sequence told = record { change = told.change; keys = map (λ key. key.now) told.keys.items; entry = option_map told_entry told.entry; longer = option_map named_sequence told.longer; typing = option_map named_sequence told.typing }
+
+-- the longer sequence, by the names of the keys
+abbrev pub longer_named : KeysymNames → Written → Change → List (List ℕ) → Option WrittenSequence
+longer_named names new c keys = if is_same c Waiting then option_and_then (longer_in new) (sequence_named names keys) else None
 
 -- the sequence s of w, which is one of the two tables
 abbrev pub told_of : KeysymNames → List ℕ → Written → Written → Written → List ℕ → Told
@@ -159,13 +178,14 @@ told_of names fresh old new w s = record {
   change = change names fresh old.table new.table s;
   keys = keys_of w s;
   entry = entry_of w s;
+  longer = longer_named names new (change names fresh old.table new.table s) (keys_of w s);
   typing = now_of new (change names fresh old.table new.table s) (entry_of old s);
 }
 
 -- the row of a sequence of the old table: what the new one has for it is found by the names of its keys
 abbrev pub old_row : KeysymNames → Written → Told → ToldRow
-old_row names new told = record { change = told.change; keys = told.keys; old = told.entry; new = option_and_then (entry_of new) (sequence_named names told.keys); typing = told.typing }
+old_row names new told = record { change = told.change; keys = told.keys; old = told.entry; new = option_and_then (entry_of new) (sequence_named names told.keys); longer = told.longer; typing = told.typing }
 
 -- the row of a sequence that the new table alone has
 abbrev pub new_row : Told → ToldRow
-new_row told = record { change = told.change; keys = told.keys; old = None; new = told.entry; typing = None }
+new_row told = record { change = told.change; keys = told.keys; old = None; new = told.entry; longer = None; typing = None }

@@ -9,10 +9,11 @@
 #![tactic(auto)]
 
 ghost use Rattle.std.specs.Prelude.{◌≡◌, ◌↔◌, ℕ, List, [], Some, None, Ok, IsTrue};
-ghost use Rattle.compose_model.specs.Table.{Definition, is_table};
+ghost use Rattle.compose_model.specs.Table.{Definition, is_table, is_sequence, is_proper_prefix};
+ghost use Rattle.compose_lookup.specs.Longer.{first_longer};
 ghost use Rattle.compose_lookup.specs.Lookup.{gives};
 ghost use Rattle.compose_diff_rows.specs.Rows.{first_typing};
-ghost use Rattle.compose_diff_rows.specs.Typings.{IsFirstTyping};
+ghost use Rattle.compose_diff_rows.specs.Typings.{IsFirstTyping, IsFirstLonger};
 ghost use Rattle.compose_model.specs.Follows.{Follows};
 ghost use Rattle.compose_answer.specs.Parts.{Explainable};
 ghost use Rattle.compose_answer.specs.declared.answer.Answer.{Answer};
@@ -21,6 +22,7 @@ ghost use Rattle.compose_diff_rows.specs.Answers.{Asked, IsDiff, compared_parts}
 ghost use Rattle.compose_diff_rows.specs.Following.{AreMeant, IsYes};
 
 mod asking;
+mod longer;
 mod placed;
 mod rows;
 mod telling;
@@ -38,6 +40,16 @@ pub fn law_typing()
         → first_typing table text ≡ Some s → IsFirstTyping table text s }
     ensures none { (table : List Definition) (text : List ℕ) → IsTrue (is_table table)
         → first_typing table text ≡ None → (t : List ℕ) → IsTrue (gives table text t) → ⊥ }
+{}
+
+/// A waiting row names the shortest sequence of the new table that begins with its own and goes on, the first in order of several: no
+/// shorter one does, and none of its length comes before it. If none is named, none does.
+pub fn law_longer()
+    ensures found { (table : List Definition) (s longer : List ℕ) → IsTrue (is_table table)
+        → first_longer table s ≡ Some longer → IsFirstLonger table s longer }
+    ensures none { (table : List Definition) (s : List ℕ) → IsTrue (is_table table)
+        → first_longer table s ≡ None → (t : List ℕ) → IsTrue (is_sequence table t)
+        → IsTrue (is_proper_prefix s t) → ⊥ }
 {}
 
 /// What [`diff_migration`] answers on two tables says how people type with them. Where no change is accepted, it is yes exactly if

@@ -4,6 +4,7 @@ ghost use Rattle.compose_model.specs.Nodes.{leaves};
 ghost use Rattle.compose_migration.specs.Migration.{no_table, or_because, migration_of};
 ghost use Rattle.compose_migration.specs.MigrationGives.{MigrationGives, given_of};
 ghost use Rattle.compose_places.specs.Counting.{counting_line, read_lines};
+ghost use Rattle.compose_places.specs.Overlaps.{overlap_count};
 ghost use Rattle.compose_tree.specs.TableGives.{TableGives, first_table};
 ghost use Rattle.compose_diff_rows.specs.Answers.{root_of};
 ghost use Rattle.compose_diff_rows.specs.Steps.{placed_parts};
@@ -46,6 +47,14 @@ impl<'a, T: ComposeTable> PlacedMigration<'a, T> {
             (counting_line read.names
             (read_lines input.now.new.sources.now (root_of input.now.new.sources.now)))
             (leaves (T.definitions read.new.table))) }
+        ensures old_overlaps { IfOk result
+            (λ read. read.old.overlaps
+            ≡ overlap_count read.names input.now.old.sources.now
+            (root_of input.now.old.sources.now)) }
+        ensures new_overlaps { IfOk result
+            (λ read. read.new.overlaps
+            ≡ overlap_count read.names input.now.new.sources.now
+            (root_of input.now.new.sources.now)) }
     {
         let named = Named::read(alloc, input.header, input.key_names)?;
         let old = read_side(alloc, &named.names, Side::Old, &input.old)?;
@@ -74,6 +83,9 @@ fn read_side<'a, T: ComposeTable>(
         (counting_line names.now
         (read_lines input.now.sources.now (root_of input.now.sources.now)))
         (leaves (T.definitions placed.table))) }
+    ensures overlaps { IfOk result
+        (λ placed. placed.overlaps
+        ≡ overlap_count names.now input.now.sources.now (root_of input.now.sources.now)) }
 {
     match read_first(alloc, names, input.sources, input.rule) {
         Ok(placed) => Ok(placed),
@@ -95,6 +107,8 @@ fn read_first<'a, T: ComposeTable>(
         (λ placed. placed.lines.items
         ≡ map (counting_line names.now (read_lines sources.now (root_of sources.now)))
         (leaves (T.definitions placed.table))) }
+    ensures overlaps { IfOk result
+        (λ placed. placed.overlaps ≡ overlap_count names.now sources.now (root_of sources.now)) }
 {
     let Some(root) = sources.name(0) else {
         return Err(TableFault::Read(ReadFault::MissingRoot));

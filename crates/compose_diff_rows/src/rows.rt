@@ -57,15 +57,16 @@ fn old_row<'a, T: ComposeTable>(
         keys,
         old: told.entry,
         new: entry_named(names, keys, new),
+        longer: as_new(&told.longer),
         typing: as_new(&told.typing),
     }
 }
 
-/// How a lost text is typed now, as a row has it.
-fn as_new<'a>(typing: &'a Option<NamedSequence<'a>>) -> Option<NewSequence<'a>>
-    ensures { option_map new_sequence result ≡ option_map named_sequence typing.now }
+/// A sequence of the new table, as a row has it.
+fn as_new<'a>(sequence: &'a Option<NamedSequence<'a>>) -> Option<NewSequence<'a>>
+    ensures { option_map new_sequence result ≡ option_map named_sequence sequence.now }
 {
-    match typing {
+    match sequence {
         Some(sequence) => Some(sequence.as_new()),
         None => None,
     }
@@ -101,6 +102,7 @@ fn add_new_rows<'a>(
             keys: sequence.keys.as_slice(),
             old: None,
             new: sequence.entry,
+            longer: None,
             typing: None,
         })?;
     }
@@ -144,6 +146,7 @@ fn kept_row<'a, T: ComposeTable>(leaf: LeafId, old: &WrittenTable<'a, T>) -> Dif
         keys: &[],
         old: entry_at(old, leaf),
         new: None,
+        longer: None,
         typing: None,
     }
 }

@@ -9,6 +9,7 @@ ghost use Rattle.compose_diff_rows.specs.Steps.{GivesFresh, IsPlaced, TellsDiff,
 ghost use Rattle.compose_diff_rows.specs.declared.asking.Form.{Form};
 ghost use Rattle.compose_diff.specs.Lost as lost;
 ghost use Rattle.compose_diff.specs.Order.{AreInOrder};
+ghost use Rattle.compose_diff.specs.declared.overlaps.Overlaps.{Overlaps};
 ghost use Rattle.compose_diff.specs.declared.row.DiffRow.{DiffRow};
 
 use crate::asking::{DiffFault, DiffInput, Form};
@@ -19,8 +20,8 @@ use crate::written::WrittenTable;
 use compose_answer::{Answer, Refusal};
 use compose_compare::compare;
 use compose_diff::{
-    Accepted, DiffRow, Printed, accept_text, answer_diff, json_text, loses_nothing, lost_rows,
-    sort_rows,
+    Accepted, DiffRow, Overlaps, Printed, accept_text, answer_diff, json_answer, loses_nothing,
+    lost_rows, sort_rows,
 };
 use compose_fresh::check_fresh;
 use compose_lookup::TextIndex;
@@ -105,11 +106,30 @@ fn answer_tables<T: ComposeTable>(
     let whole = tells_kept(input.form);
     let comparison = compare(alloc, old.table, new.table, names, fresh)?;
     let index = TextIndex::new(alloc, new.table)?;
-    let of_old = told_of_old(alloc, whole, comparison.old_changes(), &old, &new, &index)?;
+    let of_old = told_of_old(
+        alloc,
+        names,
+        whole,
+        comparison.old_changes(),
+        &old,
+        &new,
+        &index,
+    )?;
     let of_new = told_of_new(alloc, comparison.new_changes(), &new)?;
     let mut rows = sorted_rows(alloc, names, &of_old, &of_new, &new)?;
     add_kept_rows(&mut rows, whole, comparison.old_changes(), &old)?;
-    answer_rows(alloc, &rows, accepted, input.form, input.lost_alone)
+    let overlaps = Overlaps {
+        old: migration.old.overlaps,
+        new: migration.new.overlaps,
+    };
+    answer_rows(
+        alloc,
+        &rows,
+        accepted,
+        input.form,
+        input.lost_alone,
+        overlaps,
+    )
 }
 
 /// Whether kept sequences are told too.
@@ -150,8 +170,9 @@ fn answer_rows(
     accepted: &Accepted<'_>,
     form: Form,
     lost_alone: bool,
+    overlaps: Overlaps,
 ) -> Result<Answer, DiffFault>
-    ensures { TellsRows form lost_alone accepted.now rows.now result }
+    ensures { TellsRows form lost_alone overlaps accepted.now rows.now result }
 {
     match form {
         Form::Folded => {
@@ -159,19 +180,19 @@ fn answer_rows(
                 folds: true,
                 lost_alone,
             };
-            Ok(answer_diff(alloc, rows, accepted, printed)?)
+            Ok(answer_diff(alloc, rows, accepted, printed, overlaps)?)
         }
         Form::Lines => {
             let printed = Printed {
                 folds: false,
                 lost_alone,
             };
-            Ok(answer_diff(alloc, rows, accepted, printed)?)
+            Ok(answer_diff(alloc, rows, accepted, printed, overlaps)?)
         }
         Form::Json => {
             let left = accepted.leave_out(alloc, rows)?;
-            let shown = shown_rows(alloc, &left, lost_alone)?;
-            Ok(answer_on(&left, json_text(alloc, &shown)?))
+            let text = json_answer(alloc, rows, &left, lost_alone, overlaps)?;
+            Ok(answer_on(&left, text))
         }
         Form::AcceptList => {
             let left = accepted.leave_out(alloc, rows)?;
@@ -197,9 +218,9 @@ fn shown_rows<'r>(
 
 /// The answer on rows that are left, of which this text is printed: yes if nobody meets any of them.
 fn answer_on(rows: &[DiffRow<'_>], text: String) -> Answer
-    ensures { (form : Form) (lost_alone : Bool) (all : List DiffRow)
-        → string_bytes text ≡ form_text form lost_alone all rows.now
-        → IsTold form lost_alone all rows.now result }
+    ensures { (form : Form) (lost_alone : Bool) (overlaps : Overlaps) (all : List DiffRow)
+        → string_bytes text ≡ form_text form lost_alone overlaps all rows.now
+        → IsTold form lost_alone overlaps all rows.now result }
 {
     if loses_nothing(rows) {
         return Answer::Yes(text);

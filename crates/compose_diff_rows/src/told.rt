@@ -8,6 +8,7 @@ ghost use Rattle.compose_diff_rows.specs.Rows as words;
 ghost use Rattle.compose_diff_rows.specs.Rows.{Written, named_sequence, told_entry, told_of, told_sequence, old_told, new_told};
 ghost use Rattle.compose_lookup.specs.TextIndex.{IsTextIndex};
 
+use crate::longer::longer_now;
 use crate::typing::{NamedSequence, typed_now};
 use crate::written::WrittenTable;
 use arrayvec::ArrayVec;
@@ -16,6 +17,7 @@ use compose_diff::Entry;
 use compose_lookup::TextIndex;
 use compose_places::{CountingLine, Events};
 use compose_tree::{ComposeTable, LeafId};
+use keysym_core::Names;
 use std::alloc::{AllocError, Global};
 
 /// What is told of a sequence by its table.
@@ -27,6 +29,8 @@ pub(crate) struct ToldSequence<'a> {
     pub(crate) keys: Events<'a>,
     /// What the table has for it.
     pub(crate) entry: Option<Entry<'a>>,
+    /// The longer sequence of the new table for which people wait, if they do.
+    pub(crate) longer: Option<NamedSequence<'a>>,
     /// How its text is typed with the new table, where people lose it.
     pub(crate) typing: Option<NamedSequence<'a>>,
 }
@@ -47,6 +51,7 @@ pub(crate) fn is_told(whole: bool, change: Change) -> bool
 /// of looking for the texts of those that people lose.
 pub(crate) fn told_of_old<'a, T: ComposeTable>(
     alloc: Global,
+    names: &Names,
     whole: bool,
     changes: &[Change],
     old: &WrittenTable<'a, T>,
@@ -55,23 +60,23 @@ pub(crate) fn told_of_old<'a, T: ComposeTable>(
 ) -> Result<Vec<ToldSequence<'a>>, AllocError>
     requires fits { length changes.now ≡ length (leaves (T.definitions old.now.table.now)) }
     requires indexed { IsTextIndex (T.definitions new.now.table.now) index.now }
-    ensures { (names : KeysymNames) (fresh : List ℕ)
+    ensures { (fresh : List ℕ)
         → changes.now
-        ≡ old_changes names fresh (T.definitions old.now.table.now)
+        ≡ old_changes names.now fresh (T.definitions old.now.table.now)
         (T.definitions new.now.table.now)
         → IfOk result
         (λ told. map told_sequence told.items
         ≡ map
-        (told_of names fresh (words.written T.definitions old.now)
+        (told_of names.now fresh (words.written T.definitions old.now)
         (words.written T.definitions new.now) (words.written T.definitions old.now))
-        (old_told whole names fresh (T.definitions old.now.table.now)
+        (old_told whole names.now fresh (T.definitions old.now.table.now)
         (T.definitions new.now.table.now))) }
 {
     let mut told = Vec::new(alloc);
     for leaf in 0..old.table.leaf_count() {
         let change = changes[leaf as usize];
         if is_told(whole, change) {
-            told.push(lost_at(LeafId(leaf), change, old, new, index))?;
+            told.push(lost_at(names, LeafId(leaf), change, old, new, index))?;
         }
     }
     Ok(told)
@@ -105,6 +110,7 @@ pub(crate) fn told_of_new<'a, T: ComposeTable>(
 
 /// What is told of the sequence of this leaf of the old table, to which this happens.
 fn lost_at<'a, T: ComposeTable>(
+    names: &Names,
     leaf: LeafId,
     change: Change,
     old: &WrittenTable<'a, T>,
@@ -120,6 +126,10 @@ fn lost_at<'a, T: ComposeTable>(
     ensures entry { option_map told_entry result.entry
         ≡ words.entry_of (words.written T.definitions old.now)
         (get_or (leaves (T.definitions old.now.table.now)) leaf.0 []) }
+    ensures longer { option_map named_sequence result.longer
+        ≡ words.longer_named names.now (words.written T.definitions new.now) change
+        (words.keys_of (words.written T.definitions old.now)
+        (get_or (leaves (T.definitions old.now.table.now)) leaf.0 [])) }
     ensures typing { option_map named_sequence result.typing
         ≡ words.now_of (words.written T.definitions new.now) change
         (words.entry_of (words.written T.definitions old.now)
@@ -127,10 +137,13 @@ fn lost_at<'a, T: ComposeTable>(
 {
     let entry = entry_at(old, leaf);
     let typing = typed_now(change, &entry, new, index);
+    let keys = keys_at(old, leaf);
+    let longer = longer_now(names, change, keys.as_slice(), new);
     ToldSequence {
         change,
-        keys: keys_at(old, leaf),
+        keys,
         entry,
+        longer,
         typing,
     }
 }
@@ -149,12 +162,14 @@ fn told_at<'a, T: ComposeTable>(
     ensures entry { option_map told_entry result.entry
         ≡ words.entry_of (words.written T.definitions written.now)
         (get_or (leaves (T.definitions written.now.table.now)) leaf.0 []) }
+    ensures longer { result.longer ≡ None }
     ensures typing { result.typing ≡ None }
 {
     ToldSequence {
         change,
         keys: keys_at(written, leaf),
         entry: entry_at(written, leaf),
+        longer: None,
         typing: None,
     }
 }

@@ -78,7 +78,7 @@ fn first_typing<'a, T: ComposeTable>(
 }
 
 /// The sequence of this leaf, as the line writes it that counts, if there is one.
-fn sequence_at<'a, T: ComposeTable>(
+pub(crate) fn sequence_at<'a, T: ComposeTable>(
     written: &WrittenTable<'a, T>,
     leaf: LeafId,
 ) -> Option<NamedSequence<'a>>

@@ -13,12 +13,16 @@ struct LintRow {
 }
 
 #[rattlefmt::skip]
-static ROWS: [LintRow; 14] = [
+static ROWS: [LintRow; 18] = [
     LintRow { root: "", included: "", lines: "" },
     LintRow { root: "<Multi_key> <a> : \"é\" eacute\n", included: "", lines: "" },
     LintRow { root: "<a> <b> : \"x\"\n<a> <c> : \"y\"\n<a> <b> : \"z\"\n", included: "", lines: "r:1:1: overridden: line 3 gives the sequence another text, which counts\n" },
     LintRow { root: "<a> <b> : \"x\"\n<a> <U0062> : \"x\"\n", included: "", lines: "r:1:1: repeated: line 2 gives the sequence the same text again\n" },
     LintRow { root: "include \"%L\"\n<a> <b> : \"x\"\n", included: "<a> <b> : \"y\"\n", lines: "" },
+    LintRow { root: "<a> <b> : \"x\"\ninclude \"%L\"\n", included: "<a> <b> <c> : \"y\"\n", lines: "r:1:1: prefix: %L:1 defines a longer sequence that begins with this one, and the longer one is typed\n" },
+    LintRow { root: "<a> <b> : \"x\" # EX\n<a> <c> : \"x\" # EX\n<b> <a> : \"y\" # WHY\n<b> <b> : \"y\" # WHY\n<b> <c> : \"y\" # EX\n", included: "", lines: "r:5:1: comment: the comment stands most often beside another text, and the text beside another comment\n" },
+    LintRow { root: "<a> <b> : \"x\" # EX\n<b> <a> : \"y\" # WHY\n<b> <b> : \"y\" # WHY\n<b> <c> : \"y\" # EX\n", included: "", lines: "" },
+    LintRow { root: "include \"%L\"\n<a> <b> : \"x\"\n<a> <c> : \"x\"\n", included: "<a> <b> : \"x\"\n<a> <c> : \"y\"\n", lines: "r:2:1: redundant: %L:1 is included, and gives the sequence the same text\n" },
     LintRow { root: "<a> <nosuch> : \"x\"\n<a> <b> : \"x\"\n<a> <b> : \"y\"\n", included: "", lines: "r:1:5: fault: no keysym has the name \"nosuch\"\nr:2:1: overridden: line 3 gives the sequence another text, which counts\n" },
     LintRow { root: "<a> <b> : \"é\" egrave\n", included: "", lines: "r:1:1: keysym: the keysym after the string has another character\n" },
     LintRow { root: "<a> <b> : \"х\u{301}\u{301}\"\n", included: "", lines: "r:1:1: mark: the text has one combining mark twice in a row\n" },
@@ -46,6 +50,7 @@ fn answered(alloc: Global, row: &LintRow) -> Result<Option<Answer>, Fail> {
         sources: &sources,
         paths: &["r", "%L"],
         readers: ALL,
+        is_all: true,
     };
     Ok(lint_table(alloc, &input).ok())
 }

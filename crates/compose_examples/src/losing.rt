@@ -2,9 +2,9 @@
 use compose_answer::Answer;
 use compose_compare::Change;
 use compose_diff::{
-    AcceptFault, Accepted, Counts, DiffRow, Entry, NewSequence, Printed, accept_text, answer_diff,
-    colored_text, diff_text, folded_text, is_loss, is_lost, json_text, loses_nothing, lost_rows,
-    sort_rows,
+    AcceptFault, Accepted, Counts, DiffRow, Entry, NewSequence, Overlaps, Printed, accept_text,
+    answer_diff, colored_text, diff_text, folded_text, is_loss, is_lost, json_answer, json_text,
+    loses_nothing, lost_rows, sort_rows,
 };
 use std::alloc::Global;
 use std::test::Fail;
@@ -31,6 +31,7 @@ fn old_row(
         keys,
         old: entry(text, "OLD", line),
         new: None,
+        longer: None,
         typing: None,
     }
 }
@@ -47,6 +48,7 @@ fn new_row(
         keys,
         old: None,
         new: entry(text, "NEW", line),
+        longer: None,
         typing: None,
     }
 }
@@ -59,17 +61,30 @@ fn each() -> [DiffRow<'static>; 6] {
             keys: &["dead_acute", "e"],
             old: entry("é", "OLD", 1),
             new: entry("é", "NEW", 5),
+            longer: None,
             typing: None,
         },
         new_row(Change::Added, &["Multi_key", "a", "b"], "x", 8),
         new_row(Change::NewStart, &["F13"], "x", 7),
         old_row(Change::Removed, &["Multi_key", "parenleft", "1"], "①", 9),
-        old_row(Change::Waiting, &["a", "b"], "\"", 3),
+        DiffRow {
+            change: Change::Waiting,
+            keys: &["a", "b"],
+            old: entry("\"", "OLD", 3),
+            new: None,
+            longer: Some(NewSequence {
+                keys: &["a", "b", "c"],
+                path: "NEW",
+                line: 5,
+            }),
+            typing: None,
+        },
         DiffRow {
             change: Change::Changed,
             keys: &["dead_hook", "o"],
             old: entry("ở", "en/Compose", 1234),
             new: entry("ờ", "fi/Compose", 361),
+            longer: None,
             typing: Some(NewSequence {
                 keys: &["dead_horn", "dead_hook", "o"],
                 path: "fi/Compose",
@@ -95,7 +110,7 @@ fn run() -> [DiffRow<'static>; 8] {
 
 /// The lines of the rows of each change, in the order in which they are told.
 const EACH: &str =
-    "changed: <dead_hook> <o> \"ở\" \"ờ\" en/Compose:1234 fi/Compose:361 now: <dead_horn> <dead_hook> <o> fi/Compose:340\nwaiting: <a> <b> \"\\\"\" OLD:3 now: none\nremoved: <Multi_key> <parenleft> <1> \"①\" OLD:9 now: none\nnew start: <F13> \"x\" NEW:7\nadded: <Multi_key> <a> <b> \"x\" NEW:8\n";
+    "changed: <dead_hook> <o> \"ở\" \"ờ\" en/Compose:1234 fi/Compose:361 now: <dead_horn> <dead_hook> <o> fi/Compose:340\nwaiting: <a> <b> \"\\\"\" OLD:3 longer: <a> <b> <c> NEW:5 now: none\nremoved: <Multi_key> <parenleft> <1> \"①\" OLD:9 now: none\nnew start: <F13> \"x\" NEW:7\nadded: <Multi_key> <a> <b> \"x\" NEW:8\n";
 
 /// The list that accepts them.
 const TO_ACCEPT: &str =
@@ -113,10 +128,10 @@ fn rows_are_told_in_groups(rt: HostRuntime) -> Result<(), Fail> {
 
 #[test]
 fn rows_are_counted(rt: HostRuntime) -> Result<(), Fail> {
-    let counts = Counts::of(&each(), 2);
+    let counts = Counts::of(rt.alloc(), &each(), 2)?;
     assert_eq!(rt;
         format!(in rt.alloc(); "{counts}")?.as_str(),
-        "diff: 1 kept, 1 changed, 1 waiting, 1 removed, 1 new start, 1 added, 2 accepted\n"
+        "diff: 1 kept, 1 changed, 1 waiting, 1 removed, 1 new start, 1 added, 2 accepted; 2 texts lost\n"
     );
     assert!(rt; !loses_nothing(&each()));
     assert!(rt; loses_nothing(&each()[..2]));
@@ -155,6 +170,7 @@ fn included_row(keys: &'static [&'static str], line: usize) -> DiffRow<'static> 
         keys,
         old: Some(entry),
         new: None,
+        longer: None,
         typing: None,
     }
 }
@@ -203,6 +219,7 @@ fn what_steers_a_terminal_is_shown(rt: HostRuntime) -> Result<(), Fail> {
         keys: &["a\u{202e}"],
         old: entry("\u{1b}", "\u{1b}[2J", 1),
         new: None,
+        longer: None,
         typing: None,
     }];
     assert_eq!(rt;
@@ -211,7 +228,7 @@ fn what_steers_a_terminal_is_shown(rt: HostRuntime) -> Result<(), Fail> {
     );
     assert_eq!(rt;
         json_text(rt.alloc(), &rows)?.as_str(),
-        "{\"change\":\"removed\",\"keys\":[\"a\\u202e\"],\"old\":\"\\u001b\",\"new\":null,\"old_file\":\"\\u001b[2J\",\"old_line\":1,\"new_file\":null,\"new_line\":null,\"now\":null,\"now_file\":null,\"now_line\":null}\n"
+        "{\"change\":\"removed\",\"keys\":[\"a\\u202e\"],\"old\":\"\\u001b\",\"new\":null,\"old_file\":\"\\u001b[2J\",\"old_line\":1,\"new_file\":null,\"new_line\":null,\"longer\":null,\"longer_file\":null,\"longer_line\":null,\"now\":null,\"now_file\":null,\"now_line\":null}\n"
     );
     Ok(())
 }
@@ -220,7 +237,7 @@ fn what_steers_a_terminal_is_shown(rt: HostRuntime) -> Result<(), Fail> {
 fn quotes_are_escaped_in_objects(rt: HostRuntime) -> Result<(), Fail> {
     assert_eq!(rt;
         json_text(rt.alloc(), &each()[4..5])?.as_str(),
-        "{\"change\":\"waiting\",\"keys\":[\"a\",\"b\"],\"old\":\"\\\"\",\"new\":null,\"old_file\":\"OLD\",\"old_line\":3,\"new_file\":null,\"new_line\":null,\"now\":null,\"now_file\":null,\"now_line\":null}\n"
+        "{\"change\":\"waiting\",\"keys\":[\"a\",\"b\"],\"old\":\"\\\"\",\"new\":null,\"old_file\":\"OLD\",\"old_line\":3,\"new_file\":null,\"new_line\":null,\"longer\":[\"a\",\"b\",\"c\"],\"longer_file\":\"NEW\",\"longer_line\":5,\"now\":null,\"now_file\":null,\"now_line\":null}\n"
     );
     Ok(())
 }
@@ -229,7 +246,7 @@ fn quotes_are_escaped_in_objects(rt: HostRuntime) -> Result<(), Fail> {
 fn kept_rows_are_objects_too(rt: HostRuntime) -> Result<(), Fail> {
     assert_eq!(rt;
         json_text(rt.alloc(), &each()[..3])?.as_str(),
-        "{\"change\":\"kept\",\"keys\":[\"dead_acute\",\"e\"],\"old\":\"é\",\"new\":\"é\",\"old_file\":\"OLD\",\"old_line\":1,\"new_file\":\"NEW\",\"new_line\":5,\"now\":null,\"now_file\":null,\"now_line\":null}\n{\"change\":\"added\",\"keys\":[\"Multi_key\",\"a\",\"b\"],\"old\":null,\"new\":\"x\",\"old_file\":null,\"old_line\":null,\"new_file\":\"NEW\",\"new_line\":8,\"now\":null,\"now_file\":null,\"now_line\":null}\n{\"change\":\"new start\",\"keys\":[\"F13\"],\"old\":null,\"new\":\"x\",\"old_file\":null,\"old_line\":null,\"new_file\":\"NEW\",\"new_line\":7,\"now\":null,\"now_file\":null,\"now_line\":null}\n"
+        "{\"change\":\"kept\",\"keys\":[\"dead_acute\",\"e\"],\"old\":\"é\",\"new\":\"é\",\"old_file\":\"OLD\",\"old_line\":1,\"new_file\":\"NEW\",\"new_line\":5,\"longer\":null,\"longer_file\":null,\"longer_line\":null,\"now\":null,\"now_file\":null,\"now_line\":null}\n{\"change\":\"added\",\"keys\":[\"Multi_key\",\"a\",\"b\"],\"old\":null,\"new\":\"x\",\"old_file\":null,\"old_line\":null,\"new_file\":\"NEW\",\"new_line\":8,\"longer\":null,\"longer_file\":null,\"longer_line\":null,\"now\":null,\"now_file\":null,\"now_line\":null}\n{\"change\":\"new start\",\"keys\":[\"F13\"],\"old\":null,\"new\":\"x\",\"old_file\":null,\"old_line\":null,\"new_file\":\"NEW\",\"new_line\":7,\"longer\":null,\"longer_file\":null,\"longer_line\":null,\"now\":null,\"now_file\":null,\"now_line\":null}\n"
     );
     Ok(())
 }
@@ -240,22 +257,25 @@ const FOLDED: Printed = Printed {
     lost_alone: false,
 };
 
+/// Tables in which no longer sequence begins with another one.
+const NO_OVERLAPS: Overlaps = Overlaps { old: 0, new: 0 };
+
 /// The answer on the rows of each change, of which these lines are accepted.
 fn answer(alloc: Global, lines: &str) -> Result<Answer, Fail> {
     let mut rows = Vec::from_array(alloc, each())?;
     sort_rows(&mut rows)?;
     let accepted = Accepted::read(alloc, lines.as_bytes())?;
-    Ok(answer_diff(alloc, &rows, &accepted, FOLDED)?)
+    Ok(answer_diff(alloc, &rows, &accepted, FOLDED, NO_OVERLAPS)?)
 }
 
 #[test]
 fn accepted_rows_are_counted_apart(rt: HostRuntime) -> Result<(), Fail> {
     let yes = String::from_str(
         rt.alloc(),
-        "added: <Multi_key> <a> <b> \"x\" NEW:8\ndiff: 1 kept, 0 changed, 0 waiting, 0 removed, 0 new starts, 1 added, 4 accepted\n",
+        "added: <Multi_key> <a> <b> \"x\" NEW:8\ndiff: 1 kept, 0 changed, 0 waiting, 0 removed, 0 new starts, 1 added, 4 accepted; 0 texts lost\n",
     )?;
     assert_eq!(rt; answer(rt.alloc(), TO_ACCEPT)?, Answer::Yes(yes));
-    let counts = Counts::of(&each(), 0);
+    let counts = Counts::of(rt.alloc(), &each(), 0)?;
     let no = format!(in rt.alloc(); "{EACH}{counts}")?;
     assert_eq!(rt; answer(rt.alloc(), "")?, Answer::No(no));
     Ok(())
@@ -272,18 +292,61 @@ fn lost_rows_are_printed_alone(rt: HostRuntime) -> Result<(), Fail> {
     assert!(rt; !is_loss(Change::NewStart));
     let lost = lost_rows(rt.alloc(), &rows)?;
     let lines =
-        "waiting: <a> <b> \"\\\"\" OLD:3 now: none\nremoved: <Multi_key> <parenleft> <1> \"①\" OLD:9 now: none\n";
+        "waiting: <a> <b> \"\\\"\" OLD:3 longer: <a> <b> <c> NEW:5 now: none\nremoved: <Multi_key> <parenleft> <1> \"①\" OLD:9 now: none\n";
     assert_eq!(rt; diff_text(rt.alloc(), &lost)?.as_str(), lines);
     let printed = Printed {
         folds: false,
         lost_alone: true,
     };
     let accepted = Accepted::read(rt.alloc(), b"")?;
-    let counts = Counts::of(&rows, 0);
+    let counts = Counts::of(rt.alloc(), &rows, 0)?;
     let no = format!(in rt.alloc(); "{lines}{counts}")?;
     assert_eq!(rt;
-        answer_diff(rt.alloc(), &rows, &accepted, printed)?,
+        answer_diff(rt.alloc(), &rows, &accepted, printed, NO_OVERLAPS)?,
         Answer::No(no)
+    );
+    Ok(())
+}
+
+#[test]
+fn lost_text_is_counted_once(rt: HostRuntime) -> Result<(), Fail> {
+    let rows = [
+        old_row(Change::Removed, &["a"], "x", 1),
+        old_row(Change::Removed, &["b"], "y", 2),
+        old_row(Change::Waiting, &["c"], "x", 3),
+    ];
+    let counts = Counts::of(rt.alloc(), &rows, 0)?;
+    assert_eq!(rt; counts.lost_texts, 2);
+    let counts = Counts::of(rt.alloc(), &rows[..1], 0)?;
+    assert_eq!(rt;
+        format!(in rt.alloc(); "{counts}")?.as_str(),
+        "diff: 0 kept, 0 changed, 0 waiting, 1 removed, 0 new starts, 0 added, 0 accepted; 1 text lost\n"
+    );
+    Ok(())
+}
+
+#[test]
+fn overlaps_have_a_line_before_the_last_one(rt: HostRuntime) -> Result<(), Fail> {
+    let accepted = Accepted::read(rt.alloc(), b"")?;
+    let overlaps = Overlaps { old: 0, new: 3 };
+    let yes = String::from_str(
+        rt.alloc(),
+        "overlaps: 0 in the old table, 3 in the new one; the longer sequences count\ndiff: 1 kept, 0 changed, 0 waiting, 0 removed, 0 new starts, 0 added, 0 accepted; 0 texts lost\n",
+    )?;
+    assert_eq!(rt;
+        answer_diff(rt.alloc(), &each()[..1], &accepted, FOLDED, overlaps)?,
+        Answer::Yes(yes)
+    );
+    Ok(())
+}
+
+#[test]
+fn counts_are_an_object_behind_the_rows(rt: HostRuntime) -> Result<(), Fail> {
+    let rows = [old_row(Change::Removed, &["a"], "x", 1)];
+    let overlaps = Overlaps { old: 1, new: 2 };
+    assert_eq!(rt;
+        json_answer(rt.alloc(), &each()[..3], &rows, true, overlaps)?.as_str(),
+        "{\"change\":\"removed\",\"keys\":[\"a\"],\"old\":\"x\",\"new\":null,\"old_file\":\"OLD\",\"old_line\":1,\"new_file\":null,\"new_line\":null,\"longer\":null,\"longer_file\":null,\"longer_line\":null,\"now\":null,\"now_file\":null,\"now_line\":null}\n{\"counts\":{\"kept\":0,\"changed\":0,\"waiting\":0,\"removed\":1,\"new_starts\":0,\"added\":0,\"accepted\":2,\"lost_texts\":1,\"old_overlaps\":1,\"new_overlaps\":2}}\n"
     );
     Ok(())
 }
@@ -292,7 +355,7 @@ fn lost_rows_are_printed_alone(rt: HostRuntime) -> Result<(), Fail> {
 fn typing_is_an_object_too(rt: HostRuntime) -> Result<(), Fail> {
     assert_eq!(rt;
         json_text(rt.alloc(), &each()[5..])?.as_str(),
-        "{\"change\":\"changed\",\"keys\":[\"dead_hook\",\"o\"],\"old\":\"ở\",\"new\":\"ờ\",\"old_file\":\"en/Compose\",\"old_line\":1234,\"new_file\":\"fi/Compose\",\"new_line\":361,\"now\":[\"dead_horn\",\"dead_hook\",\"o\"],\"now_file\":\"fi/Compose\",\"now_line\":340}\n"
+        "{\"change\":\"changed\",\"keys\":[\"dead_hook\",\"o\"],\"old\":\"ở\",\"new\":\"ờ\",\"old_file\":\"en/Compose\",\"old_line\":1234,\"new_file\":\"fi/Compose\",\"new_line\":361,\"longer\":null,\"longer_file\":null,\"longer_line\":null,\"now\":[\"dead_horn\",\"dead_hook\",\"o\"],\"now_file\":\"fi/Compose\",\"now_line\":340}\n"
     );
     Ok(())
 }

@@ -354,6 +354,29 @@ fn counting_lines(rt: HostRuntime) -> Result<(), Fail> {
     expect_each_lines(&rt, rt.alloc(), &names)
 }
 
+/// Whether so many sequences are counted with which longer ones begin.
+fn has_overlaps<T: ComposeTable>(
+    alloc: Global,
+    names: &Names,
+    sources: &Sources,
+    overlaps: usize,
+) -> Result<bool, Fail> {
+    let placed: PlacedTable<T> = placed_of(alloc, names, sources)?;
+    Ok(placed.overlaps == overlaps)
+}
+
+#[test]
+fn overlaps_are_counted_once(rt: HostRuntime) -> Result<(), Fail> {
+    let names = core(rt.alloc())?;
+    let defined = b"<a> : \"1\"\n<a> : \"2\"\n<a> <b> : \"3\"\n<b> : \"4\"\n<a> <b> <c> : \"5\"\n";
+    let sources = two_sources(rt.alloc(), defined, "")?;
+    assert!(rt; has_overlaps::<ListTable>(rt.alloc(), &names, &sources, 2)?);
+    assert!(rt; has_overlaps::<PackedTable>(rt.alloc(), &names, &sources, 2)?);
+    let sources = two_sources(rt.alloc(), b"<a> : \"1\"\n<b> : \"2\"\n", "")?;
+    assert!(rt; has_overlaps::<PackedTable>(rt.alloc(), &names, &sources, 0)?);
+    Ok(())
+}
+
 /// Prints the names of the events that are written at a place, or a word where no definition stands there.
 fn push_written(
     text: &mut String,

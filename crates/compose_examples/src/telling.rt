@@ -77,7 +77,7 @@ fn is_told_of(
 #[test]
 fn each_sequence_is_told_as_the_last_definition_writes_it(rt: HostRuntime) -> Result<(), Fail> {
     let text =
-        "changed: <Multi_key> <U0061> \"y\" \"z\" OLD:3 NEW:1 now: none\nremoved: <Multi_key> <b> \"b\" OLD:4 now: none\nnew start: <dead_acute> <a> \"á\" NEW:3\nadded: <Multi_key> <c> \"c\" NEW:2\ndiff: 0 kept, 1 changed, 0 waiting, 1 removed, 1 new start, 1 added, 0 accepted\n";
+        "changed: <Multi_key> <U0061> \"y\" \"z\" OLD:3 NEW:1 now: none\nremoved: <Multi_key> <b> \"b\" OLD:4 now: none\nnew start: <dead_acute> <a> \"á\" NEW:3\nadded: <Multi_key> <c> \"c\" NEW:2\ndiff: 0 kept, 1 changed, 0 waiting, 1 removed, 1 new start, 1 added, 0 accepted; 2 texts lost\n";
     assert!(rt; is_told(rt.alloc(), "", Form::Folded, true, text)?);
     assert!(rt; is_told(rt.alloc(), "", Form::Lines, true, text)?);
     Ok(())
@@ -89,7 +89,7 @@ fn what_the_written_list_accepts_is_counted(rt: HostRuntime) -> Result<(), Fail>
         "changed: <Multi_key> <U0061> \"y\" \"z\"\nremoved: <Multi_key> <b> \"b\"\nnew start: <dead_acute> <a> \"á\"\n";
     assert!(rt; is_told(rt.alloc(), "", Form::AcceptList, true, list)?);
     let text =
-        "added: <Multi_key> <c> \"c\" NEW:2\ndiff: 0 kept, 0 changed, 0 waiting, 0 removed, 0 new starts, 1 added, 3 accepted\n";
+        "added: <Multi_key> <c> \"c\" NEW:2\ndiff: 0 kept, 0 changed, 0 waiting, 0 removed, 0 new starts, 1 added, 3 accepted; 0 texts lost\n";
     assert!(rt; is_told(rt.alloc(), list, Form::Folded, false, text)?);
     Ok(())
 }
@@ -97,7 +97,7 @@ fn what_the_written_list_accepts_is_counted(rt: HostRuntime) -> Result<(), Fail>
 #[test]
 fn each_sequence_is_an_object(rt: HostRuntime) -> Result<(), Fail> {
     let text =
-        "{\"change\":\"removed\",\"keys\":[\"Multi_key\",\"b\"],\"old\":\"b\",\"new\":null,\"old_file\":\"OLD\",\"old_line\":4,\"new_file\":null,\"new_line\":null,\"now\":null,\"now_file\":null,\"now_line\":null}\n{\"change\":\"added\",\"keys\":[\"Multi_key\",\"c\"],\"old\":null,\"new\":\"c\",\"old_file\":null,\"old_line\":null,\"new_file\":\"NEW\",\"new_line\":2,\"now\":null,\"now_file\":null,\"now_line\":null}\n";
+        "{\"change\":\"removed\",\"keys\":[\"Multi_key\",\"b\"],\"old\":\"b\",\"new\":null,\"old_file\":\"OLD\",\"old_line\":4,\"new_file\":null,\"new_line\":null,\"longer\":null,\"longer_file\":null,\"longer_line\":null,\"now\":null,\"now_file\":null,\"now_line\":null}\n{\"change\":\"added\",\"keys\":[\"Multi_key\",\"c\"],\"old\":null,\"new\":\"c\",\"old_file\":null,\"old_line\":null,\"new_file\":\"NEW\",\"new_line\":2,\"longer\":null,\"longer_file\":null,\"longer_line\":null,\"now\":null,\"now_file\":null,\"now_line\":null}\n{\"counts\":{\"kept\":0,\"changed\":0,\"waiting\":0,\"removed\":1,\"new_starts\":0,\"added\":1,\"accepted\":2,\"lost_texts\":1,\"old_overlaps\":0,\"new_overlaps\":0}}\n";
     let accepted = "changed: <Multi_key> <U0061> \"y\" \"z\"\nnew start: <dead_acute> <a> \"á\"\n";
     assert!(rt; is_told(rt.alloc(), accepted, Form::Json, true, text)?);
     Ok(())
@@ -108,7 +108,19 @@ fn lost_text_is_typed_by_the_first_of_the_shortest(rt: HostRuntime) -> Result<()
     let old = "<a> <b> : \"x\"\n";
     let new = "<b> <c> <d> : \"x\"\n<c> <a> : \"x\"\n<b> <d> : \"x\"\n";
     let text =
-        "removed: <a> <b> \"x\" OLD:1 now: <b> <d> NEW:3\nnew start: <b> <c> <d> \"x\" NEW:1\nnew start: <c> <a> \"x\" NEW:2\nnew start: <b> <d> \"x\" NEW:3\ndiff: 0 kept, 0 changed, 0 waiting, 1 removed, 3 new starts, 0 added, 0 accepted\n";
+        "removed: <a> <b> \"x\" OLD:1 now: <b> <d> NEW:3\nnew start: <b> <c> <d> \"x\" NEW:1\nnew start: <c> <a> \"x\" NEW:2\nnew start: <b> <d> \"x\" NEW:3\ndiff: 0 kept, 0 changed, 0 waiting, 1 removed, 3 new starts, 0 added, 0 accepted; 0 texts lost\n";
     assert!(rt; is_told_of(rt.alloc(), (old, new), "", Form::Folded, true, text)?);
+    Ok(())
+}
+
+#[test]
+fn waiting_sequence_names_the_first_of_the_shortest_longer_ones(
+    rt: HostRuntime,
+) -> Result<(), Fail> {
+    let old = "<a> : \"x\"\n";
+    let new = "<a> <b> <c> : \"1\"\n<a> <d> : \"2\"\n<a> <c> : \"3\"\n";
+    let text =
+        "waiting: <a> \"x\" OLD:1 longer: <a> <c> NEW:3 now: none\nadded: <a> <b> <c> \"1\" NEW:1\nadded: <a> <d> \"2\" NEW:2\nadded: <a> <c> \"3\" NEW:3\ndiff: 0 kept, 0 changed, 1 waiting, 0 removed, 0 new starts, 3 added, 0 accepted; 1 text lost\n";
+    assert!(rt; is_told_of(rt.alloc(), (old, new), "", Form::Lines, true, text)?);
     Ok(())
 }

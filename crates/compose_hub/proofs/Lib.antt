@@ -1,7 +1,7 @@
 pub mod Turns
 pub mod Slots
 pub mod Serving
-pub mod Longest
+pub mod Least
 pub mod Rooms
 pub mod Rounding
 pub mod Trying

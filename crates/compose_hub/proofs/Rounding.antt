@@ -69,9 +69,9 @@ module _ (unsent : ℕ) (reading : Reading) where
       ap with_turn (take_more slots i None lt) ∙ flat_map-append turn_of (take i slots) (get_or slots i None ∷ [])
       ∙ ap (λ (l : List Client). with_turn (take i slots) ++ l) (flat_map-cons turn_of (get_or slots i None) [] ∙ append-nil (turn_of (get_or slots i None)))
 
-  module _ (clients : List Client) (old mid new : ServiceState) (streams between streams' : ℕ → StreamState) (before now : Option Client) (ended : Option (ℕ × ConnectionEnd))
+  module _ (clients : List Client) (old mid new : ServiceState) (streams between streams' : ℕ → StreamState) (time : ℕ) (before now : Option Client) (ended : Option (ℕ × ConnectionEnd))
       (r : AreRound unsent reading old mid streams between clients) where
-    one_more : SlotTurnsSo unsent reading mid new between streams' before now ended → AreRound unsent reading old new streams streams' (clients ++ turn_of before)
+    one_more : SlotTurnsSo unsent time reading mid new between streams' before now ended → AreRound unsent reading old new streams streams' (clients ++ turn_of before)
     one_more (inl p) =
         subst (λ (l : List Client). AreRound unsent reading old new streams streams' l)
         (sym (ap (λ (b : Bool). clients ++ (if b then clients_in before else [])) p.4 ∙ append-nil clients)) (round_stays clients old mid new streams between streams' r p.0 p.1)
@@ -80,9 +80,9 @@ module _ (unsent : ℕ) (reading : Reading) where
         (sym (ap (λ (b : Bool). if b then clients_in before else []) p.2 ∙ ap clients_in p.1)) (round_more clients old mid new streams between p.5 streams' p.0 p.3 p.4 r p.6 p.7)
 
   -- the turns of the next slot
-  pub round_step : (slots : List (Option Client)) (i : ℕ) (old mid new : ServiceState) (streams between streams' : ℕ → StreamState) (before now : Option Client) (ended : Option (ℕ × ConnectionEnd)) → i < length slots
-      → get_or slots i None ≡ before → AreRound unsent reading old mid streams between (with_turn (take i slots)) → SlotTurnsSo unsent reading mid new between streams' before now ended
+  pub round_step : (slots : List (Option Client)) (i : ℕ) (old mid new : ServiceState) (streams between streams' : ℕ → StreamState) (time : ℕ) (before now : Option Client) (ended : Option (ℕ × ConnectionEnd)) → i < length slots
+      → get_or slots i None ≡ before → AreRound unsent reading old mid streams between (with_turn (take i slots)) → SlotTurnsSo unsent time reading mid new between streams' before now ended
       → AreRound unsent reading old new streams streams' (with_turn (take (i + 1) slots))
-  round_step slots i old mid new streams between streams' before now ended lt is r t =
+  round_step slots i old mid new streams between streams' time before now ended lt is r t =
       subst (λ (l : List Client). AreRound unsent reading old new streams streams' l) (sym (with_more slots i lt ∙ ap (λ (s : Option Client). with_turn (take i slots) ++ turn_of s) is))
-      (one_more (with_turn (take i slots)) old mid new streams between streams' before now ended r t)
+      (one_more (with_turn (take i slots)) old mid new streams between streams' time before now ended r t)

@@ -2,7 +2,7 @@
 use Rattle.std.proofs.Common.{◌≡◌, ◌≢◌, ℕ, ◌+◌, ◌-◌, ◌<◌, ◌≤◌, List, [], ◌∷◌, ◌++◌, Bool, true, false, cond, length, get_or, set, max, refl, sym, ◌∙◌, ap, subst, inl, inr, eq-eqb, eqb-true, append_assoc, append-nil, length-append, arith}
 use Rattle.std.proofs.lemmas.Bool.{eqb-false, leb-true}
 use Rattle.std.proofs.lemmas.List.{get_or_default, set-get_or}
-use Rattle.std.specs.Prelude.{◌==◌, ◌&&◌, ◌⊎◌, Option, Some, None, Ok, Err, filter, nat_le}
+use Rattle.std.specs.Prelude.{◌==◌, ◌&&◌, ◌⊎◌, Option, Some, None, Ok, Err, filter, nat_le, IsSome}
 use Rattle.std.specs.List.{AllByRecursion, list_all}
 use Rattle.std.specs.Option.{is_none}
 use Rattle.std.specs.Io.KnownBytes.{Consumes, Appends}
@@ -21,13 +21,13 @@ use Rattle.compose_many.specs.declared.turn.Turn.{Turn}
 use Rattle.compose_many.specs.declared.turn.Turn.TheVariants.{GoesOn, Loaded, Waits, NeedsRoom, Ends}
 use Rattle.compose_hub.specs.Turns.{AreTurns, LeavesSo}
 use Rattle.compose_hub.specs.Serving.{World, world, AreNumberedTo, ServesMany, EachIsTold, StandsAs, GoesOnOrEnds, SlotFollows, ClosesSo, SlotGoesOn, SlotTurnsSo, AcceptsSo, AllAreStill, IsIn, HasNone, IsServed, ServedSoFar}
-use Rattle.compose_hub.specs.Rounds.{is_done, SlotGivesUp}
-use Rattle.compose_hub.specs.Slots.{uses_room, patience}
+use Rattle.compose_hub.specs.Rounds.{is_done, why_ended, SlotGivesUp}
+use Rattle.compose_hub.specs.Slots.{uses_room, patience, is_stalled, is_idle}
 use Rattle.compose_hub.specs.declared.client.Client.{Client}
 use Rattle.compose_hub.specs.declared.client.Limits.{Limits}
 use Rattle.compose_many.specs.Ends.{EndsSo}
 use Rattle.compose_hub.specs.declared.ends.ConnectionEnd.{ConnectionEnd}
-use Rattle.compose_hub.specs.declared.ends.ConnectionEnd.TheVariants.{Served, Stalled}
+use Rattle.compose_hub.specs.declared.ends.ConnectionEnd.TheVariants.{Served, Stalled, Idle}
 use Rattle.compose_hub.proofs.Turns.{closed, are_closed}
 use Rattle.compose_hub.proofs.Slots.{IsAt, at_slot, in_slot, same_or, still_at_first, still_back, still_forth, all_free}
 
@@ -82,9 +82,10 @@ differ m n true e f = absurd (f (eqb-true m n e))
 differ m n false e f = e
 
 -- a connection has ended so whatever else is known of its stream than the bytes that are left
-pub has_ended_on : (how : ConnectionEnd) (a b : StreamState) (state : ConnectionState) → b.left ≡ a.left → HasEnded how a state → HasEnded how b state
-has_ended_on (Served end) a b state e h = (h.0, h.1, subst (λ (l : Option (List ℕ)). EndsSo end l h.0 h.1 state) (sym e) h.2)
-has_ended_on Stalled a b state e h = h
+pub has_ended_on : (limits : Limits) (how : ConnectionEnd) (a b : StreamState) (state : ConnectionState) → b.left ≡ a.left → HasEnded limits how a state → HasEnded limits how b state
+has_ended_on limits (Served end) a b state e h = (h.0, h.1, subst (λ (l : Option (List ℕ)). EndsSo end l h.0 h.1 state) (sym e) h.2)
+has_ended_on limits Stalled a b state e h = h
+has_ended_on limits Idle a b state e h = h
 
 -- ---- where nothing happens
 
@@ -103,8 +104,8 @@ module _ (limits : Limits) (reading : Reading) (first : World) (state : ServiceS
     ends = s.ends;
     told = s.told;
     ended =
-        all_map (λ (e : ToldEnd). HasEnded e.how (streams e.number) (s.after e.number)) (λ (e : ToldEnd). HasEnded e.how (streams' e.number) (s.after e.number))
-        (λ e h. has_ended_on e.how (streams e.number) (streams' e.number) (s.after e.number) (stay e.number).0 h) s.ends s.ended;
+        all_map (λ (e : ToldEnd). HasEnded limits e.how (streams e.number) (s.after e.number)) (λ (e : ToldEnd). HasEnded limits e.how (streams' e.number) (s.after e.number))
+        (λ e h. has_ended_on limits e.how (streams e.number) (streams' e.number) (s.after e.number) (stay e.number).0 h) s.ends s.ended;
   }
 
   module _ (accepted accepted' : ℕ) (slots now : List (Option Client)) (same : accepted' ≡ accepted) (still : AllAreStill slots now) where
@@ -168,10 +169,10 @@ module _ (limits : Limits) (reading : Reading) (first : World) (old new : Servic
     ends = s.so_far.ends;
     told = s.so_far.told;
     ended =
-        others_ended (λ (e : ToldEnd). HasEnded e.how (streams e.number) (s.so_far.after e.number)) (λ (e : ToldEnd). HasEnded e.how (streams' e.number) (after e.number)) c.number
-        (λ e ne h. subst (λ (t : ConnectionState). HasEnded e.how (streams' e.number) t)
+        others_ended (λ (e : ToldEnd). HasEnded limits e.how (streams e.number) (s.so_far.after e.number)) (λ (e : ToldEnd). HasEnded limits e.how (streams' e.number) (after e.number)) c.number
+        (λ e ne h. subst (λ (t : ConnectionState). HasEnded limits e.how (streams' e.number) t)
         (sym (after_other e.number (differ c.number e.number (c.number == e.number) refl (λ same. eqb-false e.number c.number ne (sym same)))))
-        (subst (λ (t : StreamState). HasEnded e.how t (s.so_far.after e.number)) (sym (are.others e.number (eqb-false e.number c.number ne))) h)) s.so_far.ends own_untold s.so_far.ended;
+        (subst (λ (t : StreamState). HasEnded limits e.how t (s.so_far.after e.number)) (sym (are.others e.number (eqb-false e.number c.number ne))) h)) s.so_far.ends own_untold s.so_far.ended;
   }
 
   later_on : (n : ℕ) → accepted < n → after n ≡ new_connection
@@ -231,7 +232,7 @@ module _ (limits : Limits) (reading : Reading) (first : World) (old new : Servic
       }
 
     -- where it ended and that is told, its slot is empty, and this is true
-    module _ (empty : x ≡ None) (how : ConnectionEnd) (has_ended : HasEnded how (streams' c.number) state) (told' : Option (List ToldEnd))
+    module _ (empty : x ≡ None) (how : ConnectionEnd) (has_ended : HasEnded limits how (streams' c.number) state) (told' : Option (List ToldEnd))
         (tells : told' ≡ told_more told (record { number = c.number; how = how } ∷ [])) where
       abbrev end : ToldEnd
       end = record { number = c.number; how = how }
@@ -264,8 +265,8 @@ module _ (limits : Limits) (reading : Reading) (first : World) (old new : Servic
         ends = ends;
         told = tells ∙ ap (λ (t : Option (List ToldEnd)). told_more t (end ∷ [])) s.so_far.told ∙ told_both first.told s.so_far.ends (end ∷ []);
         ended =
-            all_both (λ (e : ToldEnd). HasEnded e.how (streams' e.number) (after e.number)) s.so_far.ends (end ∷ []) serves_turned.ended
-            (subst (λ (t : ConnectionState). HasEnded how (streams' c.number) t) (sym after_own) has_ended, tt);
+            all_both (λ (e : ToldEnd). HasEnded limits e.how (streams' e.number) (after e.number)) s.so_far.ends (end ∷ []) serves_turned.ended
+            (subst (λ (t : ConnectionState). HasEnded limits how (streams' c.number) t) (sym after_own) has_ended, tt);
       }
 
       gone : (n j : ℕ) (d : Client) → d.number ≡ n → IsIn slots j d → (j ≡ key) ⊎ (j ≢ key) → IsServed (set slots key x) n ⊎ (times_told n ends ≡ 1)
@@ -299,7 +300,7 @@ module _ (limits : Limits) (reading : Reading) (first : World) (old new : Servic
   pub turned_on : (x : Option Client) → StandsAs c.number state x → ServedSoFar limits reading first (world new streams' told) accepted (set slots key x)
   turned_on x stands = client_turned x stands
 
-  pub turned_out : (x : Option Client) → x ≡ None → (how : ConnectionEnd) → HasEnded how (streams' c.number) state → (told' : Option (List ToldEnd))
+  pub turned_out : (x : Option Client) → x ≡ None → (how : ConnectionEnd) → HasEnded limits how (streams' c.number) state → (told' : Option (List ToldEnd))
       → told' ≡ told_more told (record { number = c.number; how = how } ∷ []) → ServedSoFar limits reading first (world new streams' told') accepted (set slots key x)
   turned_out x empty how has_ended told' tells = client_ended x empty how has_ended told' tells
 
@@ -330,28 +331,28 @@ keeps_of Waits number streams streams' h = stays_keep number streams streams' h
 keeps_of NeedsRoom number streams streams' h = stays_keep number streams streams' h
 keeps_of (Ends how) number streams streams' h = h
 
-goes_on_as : (c : Client) (after state : ConnectionState) (stream : StreamState) (now : Option Client) (ended : Option (ℕ × ConnectionEnd)) → state ≡ after → ended ≡ None → StandsAs c.number state now
-    → GoesOnOrEnds c after stream now ended
-goes_on_as c after state stream now ended same none stands =
-    subst (λ (e : Option (ℕ × ConnectionEnd)). GoesOnOrEnds c after stream now e) (sym none)
+goes_on_as : (limits : Limits) (c : Client) (after state : ConnectionState) (stream : StreamState) (now : Option Client) (ended : Option (ℕ × ConnectionEnd)) → state ≡ after → ended ≡ None → StandsAs c.number state now
+    → GoesOnOrEnds limits c after stream now ended
+goes_on_as limits c after state stream now ended same none stands =
+    subst (λ (e : Option (ℕ × ConnectionEnd)). GoesOnOrEnds limits c after stream now e) (sym none)
     (subst (λ (s : ConnectionState). StandsAs c.number s now) same stands)
 
 -- a slot after turns goes on with its connection as they left it, or its connection ended
-slot_follows : (turn : Turn) (c : Client) (after state : ConnectionState) (stream stream' : StreamState) (now : Option Client) (ended : Option (ℕ × ConnectionEnd)) → stream'.left ≡ stream.left
-    → LeavesSo turn after state stream → SlotFollows turn c state now ended → GoesOnOrEnds c after stream' now ended
-slot_follows GoesOn c after state stream stream' now ended same leaves h = goes_on_as c after state stream' now ended leaves h.0 h.1
-slot_follows Loaded c after state stream stream' now ended same leaves h = goes_on_as c after state stream' now ended leaves h.0 h.1
-slot_follows Waits c after state stream stream' now ended same leaves h = goes_on_as c after state stream' now ended leaves h.0 h.1
-slot_follows NeedsRoom c after state stream stream' now ended same leaves h = goes_on_as c after state stream' now ended leaves h.0 h.1
-slot_follows (Ends how) c after state stream stream' now ended same leaves h =
-    subst (λ (e : Option (ℕ × ConnectionEnd)). GoesOnOrEnds c after stream' now e) (sym h.1)
-    (h.0, refl, has_ended_on (Served how) stream stream' after same (is_failed stream.read_mark, is_failed stream.write_mark, leaves))
+slot_follows : (limits : Limits) (turn : Turn) (time : ℕ) (c : Client) (after state : ConnectionState) (stream stream' : StreamState) (now : Option Client) (ended : Option (ℕ × ConnectionEnd)) → stream'.left ≡ stream.left
+    → LeavesSo turn after state stream → SlotFollows turn time c state now ended → GoesOnOrEnds limits c after stream' now ended
+slot_follows limits GoesOn time c after state stream stream' now ended same leaves h = goes_on_as limits c after state stream' now ended leaves h.0 h.1
+slot_follows limits Loaded time c after state stream stream' now ended same leaves h = goes_on_as limits c after state stream' now ended leaves h.0 h.1
+slot_follows limits Waits time c after state stream stream' now ended same leaves h = goes_on_as limits c after state stream' now ended leaves h.0 h.1
+slot_follows limits NeedsRoom time c after state stream stream' now ended same leaves h = goes_on_as limits c after state stream' now ended leaves h.0 h.1
+slot_follows limits (Ends how) time c after state stream stream' now ended same leaves h =
+    subst (λ (e : Option (ℕ × ConnectionEnd)). GoesOnOrEnds limits c after stream' now e) (sym h.1)
+    (h.0, refl, has_ended_on limits (Served how) stream stream' after same (is_failed stream.read_mark, is_failed stream.write_mark, leaves))
 
 -- turns of the connection in a slot, if its turn was next
-pub slot_turns : (unsent : ℕ) (reading : Reading) (old new : ServiceState) (streams streams' : ℕ → StreamState) (before now : Option Client) (ended : Option (ℕ × ConnectionEnd))
-    → SlotTurnsSo unsent reading old new streams streams' before now ended → SlotGoesOn unsent reading old new streams streams' before now ended
-slot_turns unsent reading old new streams streams' before now ended (inl p) = inl (p.0, p.1, p.2, p.3)
-slot_turns unsent reading old new streams streams' before now ended (inr p) =
+pub slot_turns : (limits : Limits) (time : ℕ) (reading : Reading) (old new : ServiceState) (streams streams' : ℕ → StreamState) (before now : Option Client) (ended : Option (ℕ × ConnectionEnd))
+    → SlotTurnsSo limits.unsent time reading old new streams streams' before now ended → SlotGoesOn limits reading old new streams streams' before now ended
+slot_turns limits time reading old new streams streams' before now ended (inl p) = inl (p.0, p.1, p.2, p.3)
+slot_turns limits time reading old new streams streams' before now ended (inr p) =
     let c = p.0 in
     let between = p.5 in
     let t = p.6 in
@@ -361,25 +362,49 @@ slot_turns unsent reading old new streams streams' before now ended (inr p) =
       p.1,
       t.0,
       t.1,
-      are_closed unsent reading old new c.number streams between streams' c.connection t.1 t.0 t.2 kept,
-      slot_follows p.3 c t.1 p.4 (between c.number) (streams' c.number) now ended kept.left t.5 p.8,
+      are_closed limits.unsent reading old new c.number streams between streams' c.connection t.1 t.0 t.2 kept,
+      slot_follows limits p.3 time c t.1 p.4 (between c.number) (streams' c.number) now ended kept.left t.5 p.8,
     )
 
--- the end of the connection in a slot, if it was stalled
-pub slot_gives_up : (unsent time : ℕ) (reading : Reading) (state : ServiceState) (streams streams' : ℕ → StreamState) (before now : Option Client) (ended : Option (ℕ × ConnectionEnd))
-    → SlotGivesUp time streams streams' before now ended → SlotGoesOn unsent reading state state streams streams' before now ended
-slot_gives_up unsent time reading state streams streams' before now None p = inl (refl, p.0, p.1, refl)
-slot_gives_up unsent time reading state streams streams' before now (Some e) p =
+-- a connection that is idle is so where connections may not be
+idle_is_some : (idle : Option ℕ) (time : ℕ) (c : Client) → is_idle idle time c ≡ true → IsSome idle
+idle_is_some None time c h = absurd (cc)
+idle_is_some (Some seconds) time c h = refl
+
+-- the cause of an end, by what holds then
+module _ (limits : Limits) (time : ℕ) (c : Client) (stream : StreamState) where
+  is_much : is_stalled time c ≡ true → max_held ≤ length c.connection.held
+  is_much h =
+      let uses = (both_hold (uses_room c) (nat_le patience (time - c.since)) h).0 in
+      leb-true max_held (length c.connection.held) (both_hold c.has_room (nat_le max_held (length c.connection.held)) uses).1
+
+  by_idle : (b : Bool) (how : ConnectionEnd) → is_idle limits.idle time c ≡ b → cond b (Some Idle) None ≡ Some how → HasEnded limits how stream c.connection
+  by_idle true how e h = let is : Idle ≡ how = cc in subst (λ (end : ConnectionEnd). HasEnded limits end stream c.connection) is (idle_is_some limits.idle time c e)
+  by_idle false how e h = absurd (cc)
+
+  by_stalled : (others b : Bool) (how : ConnectionEnd) → (others && is_stalled time c) ≡ b → cond b (Some Stalled) (cond (is_idle limits.idle time c) (Some Idle) None) ≡ Some how
+      → HasEnded limits how stream c.connection
+  by_stalled others true how e h =
+      let is : Stalled ≡ how = cc in
+      subst (λ (end : ConnectionEnd). HasEnded limits end stream c.connection) is (is_much (both_hold others (is_stalled time c) e).1)
+  by_stalled others false how e h = by_idle (is_idle limits.idle time c) how refl h
+
+  ended_because : (others : Bool) (how : ConnectionEnd) → why_ended limits.idle others time c ≡ Some how → HasEnded limits how stream c.connection
+  ended_because others how h = by_stalled others (others && is_stalled time c) how refl h
+
+-- the end of the connection in a slot, if there was a cause
+pub slot_gives_up : (limits : Limits) (others : Bool) (time : ℕ) (reading : Reading) (state : ServiceState) (streams streams' : ℕ → StreamState) (before now : Option Client) (ended : Option (ℕ × ConnectionEnd))
+    → SlotGivesUp limits.idle others time streams streams' before now ended → SlotGoesOn limits reading state state streams streams' before now ended
+slot_gives_up limits others time reading state streams streams' before now None p = inl (refl, p.0, p.1, refl)
+slot_gives_up limits others time reading state streams streams' before now (Some e) p =
     let c = p.0 in
-    let uses = (both_hold (uses_room c) (nat_le patience (time - c.since)) p.2).0 in
-    let much = leb-true max_held (length c.connection.held) (both_hold c.has_room (nat_le max_held (length c.connection.held)) uses).1 in
     inr (
       c,
       p.1,
       [],
       c.connection,
-      closed unsent reading state c.number streams streams' c.connection p.6,
-      (p.3, p.4, subst (λ (h : ConnectionEnd). HasEnded h (streams' c.number) c.connection) (sym p.5) much),
+      closed limits.unsent reading state c.number streams streams' c.connection p.5,
+      (p.3, p.4, ended_because limits time c (streams' c.number) others e.1 p.2),
     )
 
 -- the end was told, if there was one
@@ -408,7 +433,7 @@ module _ (limits : Limits) (reading : Reading) (first : World) (old new : Servic
       (subst (λ (r : Option (List ToldEnd)). ServedSoFar limits reading first (world old streams' r) accepted slots) (sym t)
       (still_so_far limits reading first old streams streams' told (stays streams streams' stay) accepted accepted slots slots refl (still_at_first slots) s)))
 
-  goes_on : (ended : Option (ℕ × ConnectionEnd)) → Tells told told' ended → SlotGoesOn limits.unsent reading old new streams streams' (get_or slots key None) x ended
+  goes_on : (ended : Option (ℕ × ConnectionEnd)) → Tells told told' ended → SlotGoesOn limits reading old new streams streams' (get_or slots key None) x ended
       → ServedSoFar limits reading first (world new streams' told') accepted (set slots key x)
   goes_on None t (inl p) = same_slots p.1 p.0 p.2 t
   goes_on None t (inr p) =
@@ -419,7 +444,7 @@ module _ (limits : Limits) (reading : Reading) (first : World) (old new : Servic
       turned_out limits reading first old new streams streams' told accepted slots s key lt p.0 p.1 p.2 p.3 p.4 x p.5.0 e.1 p.5.2 told'
       (t ∙ ap (λ (n : ℕ). told_more told (record { number = n; how = e.1 } ∷ [])) p.5.1)
 
-  fails : (ended : Option (ℕ × ConnectionEnd)) → NotTold told told' ended → SlotGoesOn limits.unsent reading old new streams streams' (get_or slots key None) x ended
+  fails : (ended : Option (ℕ × ConnectionEnd)) → NotTold told told' ended → SlotGoesOn limits reading old new streams streams' (get_or slots key None) x ended
       → ServesMany limits reading first (world new streams' told')
   fails None t h = absurd t
   fails (Some e) t (inl p) = let no = p.3 in absurd (cc)
@@ -427,9 +452,9 @@ module _ (limits : Limits) (reading : Reading) (first : World) (old new : Servic
       subst (λ (r : Option (List ToldEnd)). ServesMany limits reading first (world new streams' r)) (sym t)
       (serves_turned limits reading first old new streams streams' told accepted slots s key lt p.0 p.1 p.2 p.3 p.4)
 
-  module _ (d : Option Client) (ended : Option (ℕ × ConnectionEnd)) (h : SlotGoesOn limits.unsent reading old new streams streams' (get_or slots key d) x ended) where
-    at_none : SlotGoesOn limits.unsent reading old new streams streams' (get_or slots key None) x ended
-    at_none = subst (λ (o : Option Client). SlotGoesOn limits.unsent reading old new streams streams' o x ended) (get_or_default slots key d None lt) h
+  module _ (d : Option Client) (ended : Option (ℕ × ConnectionEnd)) (h : SlotGoesOn limits reading old new streams streams' (get_or slots key d) x ended) where
+    at_none : SlotGoesOn limits reading old new streams streams' (get_or slots key None) x ended
+    at_none = subst (λ (o : Option Client). SlotGoesOn limits reading old new streams streams' o x ended) (get_or_default slots key d None lt) h
 
     -- once the connection in a slot had its turns and its end was told, what happened so far is what happened before and these turns
     pub slot_goes_on : Tells told told' ended → ServedSoFar limits reading first (world new streams' told') accepted (set slots key x)

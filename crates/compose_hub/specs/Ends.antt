@@ -1,10 +1,11 @@
 -- How connections ended, and what was told of it.
-use Rattle.std.specs.Prelude.{◌≡◌, ℕ, ◌==◌, ◌≤◌, Bool, List, [], ◌∷◌, ◌++◌, length, filter, Option, Some, None, Result, Ok, Err}
+use Rattle.std.specs.Prelude.{◌≡◌, ℕ, ◌==◌, ◌≤◌, Bool, List, [], ◌∷◌, ◌++◌, length, filter, Option, Some, None, IsSome, Result, Ok, Err}
 use Rattle.compose_many.specs.Connection.{ConnectionState}
 use Rattle.compose_many.specs.Ends.{EndsSo}
 use Rattle.compose_many.specs.Numbered.{StreamState}
 use Rattle.compose_hub.specs.declared.ends.ConnectionEnd.{ConnectionEnd}
-use Rattle.compose_hub.specs.declared.ends.ConnectionEnd.TheVariants.{Served, Stalled}
+use Rattle.compose_hub.specs.declared.ends.ConnectionEnd.TheVariants.{Served, Stalled, Idle}
+use Rattle.compose_hub.specs.declared.client.Limits.{Limits}
 
 -- the connection with this number ended so
 pub record ToldEnd : Type 0 where
@@ -20,10 +21,12 @@ told_more (Some ends) more = Some (ends ++ more)
 abbrev pub max_held : ℕ
 max_held = 65536
 
--- a connection that stands so, on such a stream, ended so: as a turn ends it, or it held much of a load that didn't come
-abbrev pub HasEnded : ConnectionEnd → StreamState → ConnectionState → Type 0
-HasEnded (Served end) stream state = (read_failed : Bool) × (write_failed : Bool) × EndsSo end stream.left read_failed write_failed state
-HasEnded Stalled stream state = max_held ≤ length state.held
+-- a connection that stands so, on such a stream, ended so: as a turn ends it, or it held much of a load that didn't come, or it was idle where
+-- connections may not be
+abbrev pub HasEnded : Limits → ConnectionEnd → StreamState → ConnectionState → Type 0
+HasEnded limits (Served end) stream state = (read_failed : Bool) × (write_failed : Bool) × EndsSo end stream.left read_failed write_failed state
+HasEnded limits Stalled stream state = max_held ≤ length state.held
+HasEnded limits Idle stream state = IsSome limits.idle
 
 -- how often the end of this connection was told
 abbrev pub times_told : ℕ → List ToldEnd → ℕ

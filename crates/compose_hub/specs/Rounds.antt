@@ -1,16 +1,16 @@
 -- A round of the service: what it waits for, who has room, and who gives up.
-use Rattle.std.specs.Prelude.{◌≡◌, ℕ, ◌==◌, ◌<◌, ◌≤◌, Bool, true, false, ◌&&◌, ◌||◌, nat_le, nat_lt, if◌then◌else◌, List, length, get_or, count_by, Option, Some, None}
+use Rattle.std.specs.Prelude.{◌≡◌, ℕ, ◌==◌, ◌+◌, ◌-◌, ◌^◌, ◌<◌, ◌≤◌, min, Bool, true, false, ◌&&◌, ◌||◌, nat_le, nat_lt, if◌then◌else◌, List, length, get_or, count_by, Option, Some, None}
 use Rattle.std.specs.List.{list_any, list_all}
 use Rattle.std.specs.Option.{is_none}
 use Rattle.compose_many.specs.Numbered.{StreamState}
 use Rattle.compose_hub.specs.Sockets.{AllStay, KeepsBytes}
-use Rattle.compose_hub.specs.Slots.{slot_has_turn, slot_waits_for_room, slot_has_room, slot_is_fair, waits_since, is_stalled, given_turn}
+use Rattle.compose_hub.specs.Slots.{slot_has_turn, slot_waits_for_room, slot_has_room, slot_is_fair, slot_idle_in, waits_since, is_stalled, is_idle, given_turn}
 use Rattle.compose_hub.specs.declared.client.Client.{Client}
 use Rattle.compose_hub.specs.declared.client.Limits.{Limits}
 use Rattle.compose_hub.specs.declared.server.Queue.{Queue}
 use Rattle.compose_hub.specs.declared.server.Queue.TheVariants.{Empty, Waits, Failed}
 use Rattle.compose_hub.specs.declared.ends.ConnectionEnd.{ConnectionEnd}
-use Rattle.compose_hub.specs.declared.ends.ConnectionEnd.TheVariants.{Stalled}
+use Rattle.compose_hub.specs.declared.ends.ConnectionEnd.TheVariants.{Stalled, Idle}
 use Rattle.compose_hub.specs.declared.sockets.Ready.{Ready}
 use Rattle.compose_hub.specs.declared.sockets.Ready.TheVariants.{Listener, Key}
 use Rattle.compose_hub.specs.declared.sockets.Accepted.{Accepted}
@@ -58,32 +58,57 @@ is_failed_queue _ = false
 abbrev pub is_wanted : Queue → ℕ → Limits → Bool
 is_wanted queue accepted limits = is_waits queue && nat_lt accepted limits.connections
 
--- so many nanoseconds it waits at most: not at all where a connection has its turn or one may be accepted into a slot; a second where none could
--- be accepted or a connection waits for room; and else until something is ready
-abbrev pub longest_wait : Queue → Bool → Bool → Bool → Option ℕ
-longest_wait queue slot turns room = if turns || (is_waits queue && slot) then Some 0 else if is_failed_queue queue || room then Some 1000000000 else None
+-- of two connections, or of one, the one with the lesser number: its slot, and the number
+abbrev pub lesser : Option (ℕ × ℕ) → ℕ → Option ℕ → Option (ℕ × ℕ)
+lesser least key None = least
+lesser None key (Some n) = Some (key, n)
+lesser (Some w) key (Some n) = if nat_lt n w.1 then Some (key, n) else Some w
 
--- of two connections, or of one, the one that has waited longer for room: its slot, and since when it waits
-abbrev pub longer : Option (ℕ × ℕ) → ℕ → Option ℕ → Option (ℕ × ℕ)
-longer longest key None = longest
-longer None key (Some since) = Some (key, since)
-longer (Some w) key (Some since) = if nat_lt since w.1 then Some (key, since) else Some w
-
--- of the connections in the first slots this one has waited longest for room, since then; or none waits
-abbrev pub LongestTo : List (Option Client) → ℕ → Option (ℕ × ℕ) → Type 0
-LongestTo slots count None = (j : ℕ) → j < count → waits_since (get_or slots j None) ≡ None
-LongestTo slots count (Some w) = (w.0 < count) × (waits_since (get_or slots w.0 None) ≡ Some w.1) × ((j n : ℕ) → j < count → waits_since (get_or slots j None) ≡ Some n → w.1 ≤ n)
+-- of what the first slots have as their number, this one has the least; or none has one
+abbrev pub LeastTo : (Option Client → Option ℕ) → List (Option Client) → ℕ → Option (ℕ × ℕ) → Type 0
+LeastTo of slots count None = (j : ℕ) → j < count → of (get_or slots j None) ≡ None
+LeastTo of slots count (Some w) = (w.0 < count) × (of (get_or slots w.0 None) ≡ Some w.1) × ((j n : ℕ) → j < count → of (get_or slots j None) ≡ Some n → w.1 ≤ n)
 
 -- the connection in this slot has waited longest for room; or none waits
 abbrev pub WaitsLongest : List (Option Client) → Option ℕ → Type 0
-WaitsLongest slots None = (j : ℕ) → j < length slots → waits_since (get_or slots j None) ≡ None
-WaitsLongest slots (Some k) = (since : ℕ) × LongestTo slots (length slots) (Some (k, since))
+WaitsLongest slots None = LeastTo waits_since slots (length slots) None
+WaitsLongest slots (Some k) = (since : ℕ) × LeastTo waits_since slots (length slots) (Some (k, since))
 
--- the connection in a slot is ended where it is stalled, and else nothing happened
-abbrev pub SlotGivesUp : ℕ → (ℕ → StreamState) → (ℕ → StreamState) → Option Client → Option Client → Option (ℕ × ConnectionEnd) → Type 0
-SlotGivesUp time streams streams' before now None = AllStay streams streams' × (now ≡ before) × ((c : Client) → before ≡ Some c → is_stalled time c ≡ false)
-SlotGivesUp time streams streams' before now (Some e) =
-    (c : Client) × (before ≡ Some c) × (is_stalled time c ≡ true) × (now ≡ None) × (e.0 ≡ c.number) × (e.1 ≡ Stalled) × KeepsBytes c.number streams streams'
+-- ---- time
+
+-- the time in nanoseconds, once so much more has passed; it stays within 64 bits
+abbrev pub later : ℕ → ℕ → ℕ
+later time passed = min (time + passed) (2 ^ 64 - 1)
+
+-- ---- how long it waits
+
+-- in so many nanoseconds the first connection is idle; or none waits for its stream
+abbrev pub IsNextIdle : Option ℕ → ℕ → List (Option Client) → Option ℕ → Type 0
+IsNextIdle idle time slots None = LeastTo (slot_idle_in idle time) slots (length slots) None
+IsNextIdle idle time slots (Some n) = (k : ℕ) × LeastTo (slot_idle_in idle time) slots (length slots) (Some (k, n))
+
+-- the shorter of two waits, where one is no limit
+abbrev pub sooner : Option ℕ → Option ℕ → Option ℕ
+sooner None wait = wait
+sooner wait None = wait
+sooner (Some m) (Some n) = Some (if nat_lt n m then n else m)
+
+-- so many nanoseconds it waits at most, whoever becomes idle: not at all where a connection has its turn or one may be accepted into a slot; a
+-- second where none could be accepted, a connection waits for room, or an end could not be reported; and else until something is ready
+abbrev pub wait_for_work : Queue → Bool → Bool → Bool → Option ℕ
+wait_for_work queue slot turns waits = if turns || (is_waits queue && slot) then Some 0 else if is_failed_queue queue || waits then Some 1000000000 else None
+
+-- ---- who is ended
+
+-- how a connection is ended that keeps others waiting, or the limit of time: because it is stalled, where others wait for room, or because it is idle
+abbrev pub why_ended : Option ℕ → Bool → ℕ → Client → Option ConnectionEnd
+why_ended idle others time c = if others && is_stalled time c then Some Stalled else if is_idle idle time c then Some Idle else None
+
+-- the connection in a slot is ended where there is a cause, and else nothing happened
+abbrev pub SlotGivesUp : Option ℕ → Bool → ℕ → (ℕ → StreamState) → (ℕ → StreamState) → Option Client → Option Client → Option (ℕ × ConnectionEnd) → Type 0
+SlotGivesUp idle others time streams streams' before now None = AllStay streams streams' × (now ≡ before) × ((c : Client) → before ≡ Some c → why_ended idle others time c ≡ None)
+SlotGivesUp idle others time streams streams' before now (Some e) =
+    (c : Client) × (before ≡ Some c) × (why_ended idle others time c ≡ Some e.1) × (now ≡ None) × (e.0 ≡ c.number) × KeepsBytes c.number streams streams'
 
 -- ---- what is ready
 

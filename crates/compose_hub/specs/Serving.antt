@@ -41,7 +41,7 @@ pub record ServesMany (limits : Limits) (reading : Reading) (first now : World) 
   pub numbered : AreNumberedTo limits.connections all
   pub ends : List ToldEnd
   pub told : now.told ≡ told_more first.told ends
-  pub ended : AllByRecursion (λ (e : ToldEnd). HasEnded e.how (now.streams e.number) (after e.number)) ends
+  pub ended : AllByRecursion (λ (e : ToldEnd). HasEnded limits e.how (now.streams e.number) (after e.number)) ends
 
 -- each of the connections that were asked for was told as ended, and once
 abbrev pub EachIsTold : ℕ → List ToldEnd → Type 0
@@ -73,22 +73,26 @@ AllAreStill before now = (key : ℕ) → SlotIsStill (get_or before key None) (g
 abbrev pub AcceptsSo : ℕ → ℕ → Option Client → Option Client → Type 0
 AcceptsSo accepted accepted' before now = ((accepted' ≡ accepted) × (now ≡ before)) ⊎ ((accepted' ≡ accepted + 1) × StandsAs accepted' new_connection now)
 
+-- a client waits for this since then
+abbrev pub WaitsSince : WaitsFor → ℕ → Option Client → Type 0
+WaitsSince waits_for time slot = (c : Client) → slot ≡ Some c → (c.waits_for ≡ waits_for) × (c.since ≡ time)
+
 -- up to this number of turns of a client are turns of its connection
 abbrev pub ClientTurnsSo : ℕ → ℕ → Reading → Turn → ServiceState → ServiceState → (ℕ → StreamState) → (ℕ → StreamState) → Client → Client → Type 0
 ClientTurnsSo most unsent reading turn old new streams streams' before now =
     TurnsSo most unsent reading turn old new before.number streams streams' before.connection now.connection × (now.number ≡ before.number)
 
 -- the connection goes on, or it ended, its slot is empty and its end is said
-abbrev pub GoesOnOrEnds : Client → ConnectionState → StreamState → Option Client → Option (ℕ × ConnectionEnd) → Type 0
-GoesOnOrEnds c after stream now None = StandsAs c.number after now
-GoesOnOrEnds c after stream now (Some told) = (now ≡ None) × (told.0 ≡ c.number) × HasEnded told.1 stream after
+abbrev pub GoesOnOrEnds : Limits → Client → ConnectionState → StreamState → Option Client → Option (ℕ × ConnectionEnd) → Type 0
+GoesOnOrEnds limits c after stream now None = StandsAs c.number after now
+GoesOnOrEnds limits c after stream now (Some told) = (now ≡ None) × (told.0 ≡ c.number) × HasEnded limits told.1 stream after
 
 -- the client in a slot has had turns, which are events of its connection, or nothing happened; its end is said, if it ended
-abbrev pub SlotGoesOn : ℕ → Reading → ServiceState → ServiceState → (ℕ → StreamState) → (ℕ → StreamState) → Option Client → Option Client → Option (ℕ × ConnectionEnd) → Type 0
-SlotGoesOn unsent reading old new streams streams' before now ended =
+abbrev pub SlotGoesOn : Limits → Reading → ServiceState → ServiceState → (ℕ → StreamState) → (ℕ → StreamState) → Option Client → Option Client → Option (ℕ × ConnectionEnd) → Type 0
+SlotGoesOn limits reading old new streams streams' before now ended =
     ((new ≡ old) × AllStay streams streams' × (now ≡ before) × (ended ≡ None))
     ⊎ ((c : Client) × (before ≡ Some c) × (events : List Event) × (after : ConnectionState)
-    × AreTurns unsent reading old new c.number streams streams' c.connection after events × GoesOnOrEnds c after (streams' c.number) now ended)
+    × AreTurns limits.unsent reading old new c.number streams streams' c.connection after events × GoesOnOrEnds limits c after (streams' c.number) now ended)
 
 -- what a connection waits for after its turns
 abbrev pub waits_after : Turn → WaitsFor
@@ -96,22 +100,23 @@ waits_after Waits = ForStream
 waits_after NeedsRoom = ForRoom
 waits_after _ = ForTurn
 
--- the slot of a connection after its turns: it goes on as they leave it and waits as the last one demands, or it ended, and its end is the result
-abbrev pub SlotFollows : Turn → Client → ConnectionState → Option Client → Option (ℕ × ConnectionEnd) → Type 0
-SlotFollows (Ends end) c state now ended = (now ≡ None) × (ended ≡ Some (c.number, Served end))
-SlotFollows turn c state now ended = (ended ≡ None) × StandsAs c.number state now × ((d : Client) → now ≡ Some d → d.waits_for ≡ waits_after turn)
+-- the slot of a connection after its turns: it goes on as they leave it and waits from this time on as the last one demands, or it ended, and its
+-- end is the result
+abbrev pub SlotFollows : Turn → ℕ → Client → ConnectionState → Option Client → Option (ℕ × ConnectionEnd) → Type 0
+SlotFollows (Ends end) time c state now ended = (now ≡ None) × (ended ≡ Some (c.number, Served end))
+SlotFollows turn time c state now ended = (ended ≡ None) × StandsAs c.number state now × WaitsSince (waits_after turn) time now
 
 -- the stream of a connection is closed where it ended, and else all streams stay
 abbrev pub ClosesSo : Turn → ℕ → (ℕ → StreamState) → (ℕ → StreamState) → Type 0
 ClosesSo (Ends end) number streams streams' = KeepsBytes number streams streams'
 ClosesSo _ number streams streams' = AllStay streams streams'
 
--- the client in a slot has had its turns if its turn was next, and else nothing happened
-abbrev pub SlotTurnsSo : ℕ → Reading → ServiceState → ServiceState → (ℕ → StreamState) → (ℕ → StreamState) → Option Client → Option Client → Option (ℕ × ConnectionEnd) → Type 0
-SlotTurnsSo unsent reading old new streams streams' before now ended =
+-- the client in a slot has had its turns if its turn was next, and else nothing happened; this is the time then
+abbrev pub SlotTurnsSo : ℕ → ℕ → Reading → ServiceState → ServiceState → (ℕ → StreamState) → (ℕ → StreamState) → Option Client → Option Client → Option (ℕ × ConnectionEnd) → Type 0
+SlotTurnsSo unsent time reading old new streams streams' before now ended =
     ((new ≡ old) × AllStay streams streams' × (now ≡ before) × (ended ≡ None) × (slot_has_turn before ≡ false))
     ⊎ ((c : Client) × (before ≡ Some c) × (slot_has_turn before ≡ true) × (turn : Turn) × (state : ConnectionState) × (between : ℕ → StreamState)
-    × TurnsSo max_turns unsent reading turn old new c.number streams between c.connection state × ClosesSo turn c.number between streams' × SlotFollows turn c state now ended)
+    × TurnsSo max_turns unsent reading turn old new c.number streams between c.connection state × ClosesSo turn c.number between streams' × SlotFollows turn time c state now ended)
 
 -- ---- a round
 

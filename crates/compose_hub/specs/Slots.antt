@@ -1,5 +1,5 @@
 -- A client in its slot: what it waits for, and its room.
-use Rattle.std.specs.Prelude.{◌≡◌, ⊤, ℕ, ◌+◌, ◌-◌, Bool, true, false, ◌&&◌, ◌||◌, nat_le, nat_lt, if◌then◌else◌, List, [], ◌∷◌, length, Option, Some, None}
+use Rattle.std.specs.Prelude.{◌≡◌, ⊤, ℕ, ◌+◌, ◌-◌, ◌*◌, Bool, true, false, ◌&&◌, ◌||◌, nat_le, nat_lt, if◌then◌else◌, List, [], ◌∷◌, length, Option, Some, None}
 use Rattle.compose_many.specs.Connection.{max_piece}
 use Rattle.compose_many.specs.declared.turn.Turn.{Turn as Follows}
 use Rattle.compose_many.specs.declared.turn.Turn.TheVariants.{Ends}
@@ -13,6 +13,10 @@ use Rattle.compose_hub.specs.declared.client.WaitsFor.TheVariants.{Turn, Stream,
 abbrev pub for_turn : WaitsFor → Bool
 for_turn Turn = true
 for_turn _ = false
+
+abbrev pub for_stream : WaitsFor → Bool
+for_stream Stream = true
+for_stream _ = false
 
 abbrev pub for_room : WaitsFor → Bool
 for_room Room = true
@@ -35,13 +39,26 @@ abbrev pub KeepsShare : Follows → Client → Client → Type 0
 KeepsShare (Ends end) before now = now.has_room ≡ before.has_room
 KeepsShare _ before now = (now.has_room ≡ before.has_room) × (is_fair before ≡ true → is_fair now ≡ true)
 
--- ten seconds, in microseconds
+-- a second and ten of them, in nanoseconds
+abbrev pub second : ℕ
+second = 1000000000
+
 abbrev pub patience : ℕ
-patience = 10000000
+patience = 10 * second
 
 -- it uses its room, and nothing came for ten seconds
 abbrev pub is_stalled : ℕ → Client → Bool
 is_stalled time c = uses_room c && nat_le patience (time - c.since)
+
+-- it has waited for its stream for as many seconds as a connection may be idle
+abbrev pub is_idle : Option ℕ → ℕ → Client → Bool
+is_idle None time c = false
+is_idle (Some seconds) time c = for_stream c.waits_for && nat_le (seconds * second) (time - c.since)
+
+-- so many nanoseconds from now it is idle, unless its stream is ready before
+abbrev pub idle_in : Option ℕ → ℕ → Client → Option ℕ
+idle_in None time c = None
+idle_in (Some seconds) time c = if for_stream c.waits_for then Some (seconds * second - (time - c.since)) else None
 
 -- what it waits for once its stream is ready
 abbrev pub woken : WaitsFor → WaitsFor
@@ -78,6 +95,11 @@ slot_uses_room (Some c) = uses_room c
 abbrev pub waits_since : Option Client → Option ℕ
 waits_since None = None
 waits_since (Some c) = if for_room c.waits_for then Some c.since else None
+
+-- in how many nanoseconds the connection in a slot is idle, if it waits for its stream
+abbrev pub slot_idle_in : Option ℕ → ℕ → Option Client → Option ℕ
+slot_idle_in idle time None = None
+slot_idle_in idle time (Some c) = idle_in idle time c
 
 abbrev pub given_turn : Option Client → Option Client
 given_turn None = None

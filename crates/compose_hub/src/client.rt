@@ -4,7 +4,7 @@ ghost use Rattle.compose_many.specs.Connection.{new_connection};
 ghost use Rattle.compose_hub.specs.Ends.{max_held};
 ghost use Rattle.compose_hub.specs.Turns.{max_turns};
 ghost use Rattle.compose_hub.specs.Serving.{ClientTurnsSo};
-ghost use Rattle.compose_hub.specs.Slots.{uses_room, is_stalled, KeepsShare};
+ghost use Rattle.compose_hub.specs.Slots.{uses_room, is_stalled, is_idle, idle_in, KeepsShare};
 
 use compose_many::{Connection, Limits as TurnLimits, Streams, Turn, turn_on};
 use compose_serve::Answer;
@@ -16,8 +16,11 @@ const TURNS: u32 = 4;
 /// So many bytes a connection may hold without more room.
 const HELD: usize = 65_536;
 
-/// For so long, in microseconds, nothing of a load may come while others wait for its room.
-const PATIENCE: u64 = 10_000_000;
+/// A second, in nanoseconds.
+const SECOND: u64 = 1_000_000_000;
+
+/// For so long, in nanoseconds, nothing of a load may come while others wait for its room.
+const PATIENCE: u64 = 10_000_000_000;
 
 /// How much is served.
 #[derive(Clone, Copy, Debug, PartialEq, Eq, Drop)]
@@ -28,6 +31,8 @@ pub struct Limits {
     pub connections: u32,
     /// Where so many bytes of replies to a connection are unsent, no more of its requests are answered; 0 is as 1.
     pub unsent: usize,
+    /// A connection that has waited for so many seconds for its stream is ended; none is where this is not given.
+    pub idle: Option<u32>,
 }
 
 /// What a connection waits for.
@@ -48,22 +53,23 @@ pub(crate) struct Client {
     number: u32,
     pub(crate) waits_for: WaitsFor,
     has_room: bool,
-    /// Since when it waits for room, or when a piece came last, in microseconds.
+    /// Since when it waits, in nanoseconds.
     since: u64,
 }
 
 impl Client {
-    /// A client that has had no turn.
-    pub(crate) fn new(alloc: Global, number: u32) -> Client
-        ensures { (result.number ≡ number) × (result.connection ≡ new_connection)
+    /// A client that has had no turn, at this time.
+    pub(crate) fn new(alloc: Global, number: u32, time: u64) -> Client
+        ensures new { (result.number ≡ number) × (result.connection ≡ new_connection)
             × (result.has_room ≡ false) }
+        ensures waits { (result.waits_for ≡ WaitsFor.Turn) × (result.since ≡ time) }
     {
         Client {
             connection: Connection::new(alloc),
             number,
             waits_for: WaitsFor::Turn,
             has_room: false,
-            since: 0,
+            since: time,
         }
     }
 
@@ -95,7 +101,32 @@ impl Client {
         self.uses_room() && time.saturating_sub(self.since) >= PATIENCE
     }
 
-    /// Since when it waits for room, or when a piece came last.
+    /// Whether it has waited for its stream for so many seconds.
+    pub(crate) fn is_idle(&self, idle: Option<u32>, time: u64) -> bool
+        ensures { result ≡ is_idle idle time self.now }
+    {
+        match idle {
+            Some(seconds) => {
+                self.waits_for == WaitsFor::Stream
+                    && time.saturating_sub(self.since) >= u64::from(seconds) * SECOND
+            }
+            None => false,
+        }
+    }
+
+    /// In how many nanoseconds it will have waited for its stream for so many seconds, if it waits for it.
+    pub(crate) fn idle_in(&self, idle: Option<u32>, time: u64) -> Option<u64>
+        ensures { result ≡ idle_in idle time self.now }
+    {
+        let seconds = idle?;
+        if self.waits_for != WaitsFor::Stream {
+            return None;
+        }
+        let waited = time.saturating_sub(self.since);
+        Some((u64::from(seconds) * SECOND).saturating_sub(waited))
+    }
+
+    /// Since when it waits.
     pub(crate) fn since(&self) -> u64
         ensures { result ≡ self.now.since }
     {
@@ -118,11 +149,11 @@ impl Client {
         self.since = time;
     }
 
-    /// Waits for room from now on.
-    pub(crate) fn wait_for_room(&mut self, time: u64)
-        ensures { self.new ≡ record self.old { waits_for = WaitsFor.Room; since = time } }
+    /// Waits for this from now on.
+    pub(crate) fn wait(&mut self, waits_for: WaitsFor, time: u64)
+        ensures { self.new ≡ record self.old { waits_for = waits_for; since = time } }
     {
-        self.waits_for = WaitsFor::Room;
+        self.waits_for = waits_for;
         self.since = time;
     }
 
@@ -133,7 +164,6 @@ impl Client {
         service: &mut A,
         alloc: Global,
         unsent: usize,
-        time: u64,
     ) -> Turn
         ensures turns { ClientTurnsSo max_turns unsent A.reading result (A.state service.old)
             (A.state service.new) (N.stream streams.old) (N.stream streams.new) self.old self.new }
@@ -142,7 +172,7 @@ impl Client {
     {
         'turns: for _ in 0..TURNS {
             match self.turn(streams, service, alloc, unsent) {
-                Turn::GoesOn => self.since = time,
+                Turn::GoesOn => {}
                 turn => return turn,
             }
         }

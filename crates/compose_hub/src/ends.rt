@@ -12,6 +12,8 @@ pub enum ConnectionEnd {
     Served(Result<Ended, ServeFault>),
     /// It held much of a load of which nothing came for ten seconds, while others waited for its room.
     Stalled,
+    /// It neither sent nor took anything for as long as a connection may be idle.
+    Idle,
 }
 
 /// To whom it is told how connections ended.
@@ -27,6 +29,12 @@ pub trait Report {
             (λ _. told self.new ≡ told_more (told self.old)
             (record { number = number; how = how } ∷ []))
             (λ _. told self.new ≡ told self.old) };
+
+    /// Reports the ends that could not be reported before, if that is possible now; returns whether none of them is left.
+    ///
+    /// It is called in each round, and where something is left again within a second.
+    fn catch_up(&mut self) -> bool
+        ensures { told self.new ≡ told self.old };
 }
 
 /// Tells the end of a connection, if there is one: its number, and how it ended.

@@ -9,7 +9,8 @@
 //! connection after another leaves them; so a client waits and is not refused. The replies that are unsent on a connection are
 //! bounded, and at most 8 connections hold more than 68 KiB of a load at a time, so that many clients that begin a load cannot fill
 //! the memory: room for more goes to the connection that has waited longest for it, and one of whose load nothing comes for ten seconds
-//! while others wait is ended. A connection that has had 4 turns, or whose load was answered, waits for the others.
+//! while others wait is ended. A connection that has had 4 turns, or whose load was answered, waits for the others. One that neither
+//! sends nor takes anything for longer than it may be idle is ended, where that is limited.
 #![tactic(auto)]
 
 mod client;
@@ -17,6 +18,7 @@ mod ends;
 mod polled;
 mod server;
 mod sockets;
+mod waits;
 
 pub use client::Limits;
 pub use ends::{ConnectionEnd, Report};

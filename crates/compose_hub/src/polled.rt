@@ -14,13 +14,14 @@ use std::alloc::Global;
 use std::io;
 use std::io::ErrorKind;
 use std::net::Net;
+use std::rt::Clock;
 use std::time::Duration;
 
 /// What the listener is reported as.
 const LISTENER: Token = Token(usize::MAX);
 
-/// So much is reported at once.
-const EVENTS: usize = 256;
+/// So much is reported at once: the listener and 1,024 connections, so that none is taken for idle that is ready.
+const EVENTS: usize = 1_025;
 
 /// A stream, and why it gave or took no bytes.
 #[derive(Drop)]
@@ -63,24 +64,34 @@ impl PolledStream {
 ///
 /// Of the bytes on a stream nothing is known, since the system holds them, but why it gave or took none is.
 #[derive(Drop)]
-pub struct PolledSockets {
+pub struct PolledSockets<'c, C> {
+    clock: &'c C,
+    /// When it was asked last how much time has passed.
+    asked: Duration,
     poll: Poll,
     events: Events,
     listener: UnixListener,
     streams: IndexMap<u64, PolledStream>,
 }
 
-impl PolledSockets {
+impl<'c, C: Clock + Net> PolledSockets<'c, C> {
     /// The sockets of a listener that does not wait.
     ///
     /// It takes memory for what is reported at once.
-    pub fn new(net: &impl Net, alloc: Global, listener: UnixListener) -> io::Result<PolledSockets> {
+    pub fn new(
+        clock: &'c C,
+        alloc: Global,
+        listener: UnixListener,
+    ) -> io::Result<PolledSockets<'c, C>> {
         let mut listener = listener;
-        let poll = Poll::new(net)?;
+        let poll = Poll::new(clock)?;
+        let asked = clock.monotonic()?;
         poll.registry()
             .register(&mut listener, LISTENER, Interest::READABLE)?;
         let events = Events::with_capacity(alloc, EVENTS)?;
         Ok(PolledSockets {
+            clock,
+            asked,
             poll,
             events,
             listener,
@@ -126,7 +137,7 @@ fn refused(kind: ErrorKind) -> Accepted
     }
 }
 
-impl Streams for PolledSockets {
+impl<C> Streams for PolledSockets<'_, C> {
     ghost stream = { λ s c. polled_at s.streams c };
 
     /// One read of the socket. O(1) beside that.
@@ -146,7 +157,7 @@ impl Streams for PolledSockets {
     }
 }
 
-impl Sockets for PolledSockets {
+impl<C: Clock + Net> Sockets for PolledSockets<'_, C> {
     ghost attempts = { λ s. None };
 
     /// One attempt to accept. A number that a connection has is given up, and so is one that can't be registered.
@@ -160,14 +171,8 @@ impl Sockets for PolledSockets {
         }
     }
 
-    /// One wait. At most 256 are reported at once, the others at the next.
-    ///
-    /// It has no clock: a wait in which nothing became ready counts as long as it was to be, and any other as nothing.
-    fn poll(
-        &mut self,
-        longest_wait: Option<Duration>,
-        ready: &mut Vec<Ready>,
-    ) -> io::Result<Duration> {
+    /// One wait. At most 1,025 are reported at once, the others at the next.
+    fn poll(&mut self, longest_wait: Option<Duration>, ready: &mut Vec<Ready>) -> io::Result<()> {
         ready.clear();
         self.poll.poll(&mut self.events, longest_wait)?;
         for event in &self.events {
@@ -178,10 +183,17 @@ impl Sockets for PolledSockets {
                 Ready::Key(key)
             })?;
         }
-        if ready.is_empty() {
-            return Ok(longest_wait.unwrap_or(Duration::ZERO));
-        }
-        Ok(Duration::ZERO)
+        Ok(())
+    }
+
+    /// By the clock; no time where it can't be read.
+    fn passed(&mut self) -> Duration {
+        let Ok(now) = self.clock.monotonic() else {
+            return Duration::ZERO;
+        };
+        let passed = now.saturating_sub(self.asked);
+        self.asked = now;
+        passed
     }
 
     /// Closes the socket. O(1).

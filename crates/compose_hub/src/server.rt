@@ -1,12 +1,13 @@
 //! The connections of a service, and their turns.
-ghost use Rattle.std.specs.Prelude.{◌≡◌, ◌≤◌, ◌==◌, ◌&&◌, [], ◌∷◌, ℕ, Bool, Option, List, ◌+◌, ◌<◌, ◌^◌, max, length, get_or, slice_set, vec_len, count_by, true, None, IfOk, OnOk};
+ghost use Rattle.std.specs.Prelude.{◌≡◌, ◌≢◌, ◌||◌, ◌≤◌, ◌==◌, ◌&&◌, [], ◌∷◌, ℕ, Bool, Option, List, ◌+◌, ◌<◌, ◌^◌, max, length, get_or, slice_set, vec_len, count_by, true, None, IfOk, OnOk};
 ghost use Rattle.compose_machine.specs.Machine.{ServiceState, Reading};
 ghost use Rattle.compose_many.specs.Connection.{new_connection};
 ghost use Rattle.compose_hub.specs.Sockets.{KeepsBytes, one_more, IsMore};
 ghost use Rattle.compose_hub.specs.Ends.{ToldEnd};
-ghost use Rattle.compose_hub.specs.Serving.{world, ServesMany, ServesAll, HasServed, GoesOnServing, AcceptsSo, AllAreStill, HasNone, SlotIsStill, SlotTurnsSo, AreRound, with_turn};
-ghost use Rattle.compose_hub.specs.Rounds.{queue_after, retried, is_waits, is_wanted, is_done, has_turns, waits_for_room, has_slot, longest_wait, longer, WaitsLongest, SlotGivesUp, queue_with, MarksReady, KeepsRooms, KeepsRoom};
-ghost use Rattle.compose_hub.specs.Slots.{slot_uses_room, slot_has_room, waits_since, given_turn, given_room};
+ghost use Rattle.compose_hub.specs.Serving.{world, ServesMany, ServesAll, HasServed, GoesOnServing, AcceptsSo, WaitsSince, AllAreStill, HasNone, SlotIsStill, SlotTurnsSo, AreRound, with_turn};
+ghost use Rattle.compose_hub.specs.Rounds.{queue_after, retried, is_waits, is_wanted, is_done, has_turns, waits_for_room, has_slot, later, wait_for_work, sooner, IsNextIdle, why_ended, SlotGivesUp, queue_with, MarksReady, KeepsRooms, KeepsRoom};
+ghost use Rattle.compose_hub.specs.Slots.{slot_uses_room, slot_has_room, given_turn, given_room};
+ghost use Rattle.compose_hub.specs.Sockets.{AllStay};
 ghost use Rattle.std.specs.Option.{option_map, is_none};
 ghost use Rattle.std.specs.List.{list_any, list_all};
 ghost use Rattle.std.specs.Duration.{as_nanos};
@@ -14,6 +15,7 @@ ghost use Rattle.std.specs.Duration.{as_nanos};
 use crate::client::{Client, Limits, WaitsFor};
 use crate::ends::{ConnectionEnd, Report, tell};
 use crate::sockets::{Accepted, Ready, Sockets};
+use crate::waits::{next_idle, sooner, waits_longest};
 use compose_many::Turn;
 use compose_serve::Answer;
 use std::alloc::Global;
@@ -22,9 +24,6 @@ use std::time::Duration;
 
 /// So many connections may hold more of a load than the others.
 const ROOMS: usize = 8;
-
-/// What a round counts at least, in microseconds.
-const ROUND: u64 = 10;
 
 /// Whether connections may wait to be accepted.
 #[derive(Clone, Copy, Debug, PartialEq, Eq, Drop)]
@@ -43,7 +42,7 @@ struct Server {
     slots: Vec<Option<Client>>,
     accepted: u32,
     queue: Queue,
-    /// How long it served, as far as that is counted, in microseconds.
+    /// How long it has served, in nanoseconds.
     time: u64,
 }
 
@@ -57,7 +56,8 @@ struct Server {
 /// says.
 ///
 /// Where a connection can't be accepted for another cause than its own, as too many open files, it is tried again after a second at the
-/// latest. An error is one of waiting, of the memory for the slots, or of the report.
+/// latest. A connection that is idle for longer than it may be is ended. An error is one of waiting, of the memory for the slots, or of
+/// the report.
 ///
 /// It takes memory for as many slots as connections are served at once. A round costs O(slots) beside the turns in it.
 pub fn serve_at_once<N: Sockets, A: Answer, E: Report>(
@@ -77,16 +77,18 @@ pub fn serve_at_once<N: Sockets, A: Answer, E: Report>(
     let mut ready = Vec::new(alloc);
     let mut server = Server::new(alloc, limits.at_once)?;
     'rounds: for _ in 0..u64::MAX {
+        let behind = !report.catch_up();
         server.accept_all(alloc, sockets, limits);
         if server.is_done(limits) {
             return Ok(());
         }
-        let waited = sockets.poll(server.longest_wait(limits), &mut ready)?;
-        server.count_time(waited);
+        sockets.poll(server.longest_wait(limits, behind), &mut ready)?;
+        server.count_time(sockets.passed());
+        let time = server.time;
         server.mark_ready(&ready);
         server.take_turns(sockets, service, alloc, limits, report)?;
         server.share_room();
-        server.give_up_stalled(sockets, limits, report)?;
+        server.give_up(sockets, limits, report, time)?;
     }
     Err(io::Error::from(io::ErrorKind::TimedOut))
 }
@@ -125,14 +127,24 @@ impl Server {
     }
 
     /// How long there is nothing to do unless something becomes ready.
-    fn longest_wait(&self, limits: Limits) -> Option<Duration>
-        ensures { option_map as_nanos result ≡ longest_wait self.now.queue (has_slot limits self.now.accepted self.now.slots.items)
-            (has_turns self.now.slots.items) (waits_for_room self.now.slots.items) }
+    fn longest_wait(&self, limits: Limits, behind: bool) -> Option<Duration>
+        ensures { (idle : Option ℕ) × IsNextIdle limits.idle self.now.time self.now.slots.items idle
+            × (option_map as_nanos result ≡ sooner (wait_for_work self.now.queue (has_slot limits self.now.accepted self.now.slots.items)
+            (has_turns self.now.slots.items) (waits_for_room self.now.slots.items || behind)) idle) }
+    {
+        let idle = next_idle(&self.slots, limits.idle, self.time);
+        sooner(self.wait_for_work(limits, behind), idle)
+    }
+
+    /// The same, whoever becomes idle.
+    fn wait_for_work(&self, limits: Limits, behind: bool) -> Option<Duration>
+        ensures { option_map as_nanos result ≡ wait_for_work self.now.queue (has_slot limits self.now.accepted self.now.slots.items)
+            (has_turns self.now.slots.items) (waits_for_room self.now.slots.items || behind) }
     {
         if self.has_turns() || (self.queue == Queue::Waits && self.has_slot(limits)) {
             return Some(Duration::ZERO);
         }
-        if self.queue == Queue::Failed || self.waits_for_room() {
+        if self.queue == Queue::Failed || self.waits_for_room() || behind {
             return Some(Duration::from_secs(1));
         }
         None
@@ -172,12 +184,11 @@ impl Server {
         self.slots.iter().any(|slot| slot.is_none())
     }
 
-    /// Counts the time of a round in which it waited so long; a round takes 10 microseconds at least.
-    fn count_time(&mut self, waited: Duration)
-        ensures { (self.new.accepted ≡ self.old.accepted) × (self.new.slots ≡ self.old.slots) }
+    /// Counts the time that has passed.
+    fn count_time(&mut self, passed: Duration)
+        ensures { self.new ≡ record self.old { time = later self.old.time (as_nanos passed) } }
     {
-        let micros = u64::try_from(waited.as_micros()).unwrap_or(u64::MAX);
-        self.time = self.time.saturating_add(micros.max(ROUND));
+        self.time = later(self.time, passed);
     }
 
     /// Accepts the connections that wait, while there is a slot for them; where the last attempt failed it is tried again.
@@ -196,7 +207,7 @@ impl Server {
             if !is_wanted(slot, self.queue, self.accepted, limits) {
                 continue;
             }
-            self.queue = accept_into(slot, &mut self.accepted, alloc, sockets, key);
+            self.queue = accept_into(slot, &mut self.accepted, alloc, sockets, key, self.time);
         }
     }
 
@@ -252,9 +263,8 @@ impl Server {
             (with_turn self.old.slots.items)) }
         ensures rooms { KeepsRooms self.old.slots.items self.new.slots.items }
     {
-        let time = self.time;
         'slots: for slot in self.slots.iter_mut() {
-            let ended = serve_slot(slot, sockets, service, alloc, limits.unsent, time);
+            let ended = serve_slot(slot, sockets, service, alloc, limits.unsent, &mut self.time);
             tell(report, ended)?;
         }
         Ok(())
@@ -287,12 +297,14 @@ impl Server {
         give_room(&mut self.slots[key], self.time);
     }
 
-    /// Ends the connections of which nothing came for ten seconds, where others wait for their room.
-    fn give_up_stalled<N: Sockets, E: Report>(
+    /// Ends the connections of whose load nothing came for ten seconds, where others wait for their room, and those that are idle for longer
+    /// than they may be, at the time of the last wait: what came since then is not known.
+    fn give_up<N: Sockets, E: Report>(
         &mut self,
         sockets: &mut N,
         limits: Limits,
         report: &mut E,
+        time: u64,
     ) -> io::Result<()>
         ensures happened { (reading : Reading) (state : ServiceState)
             → HasServed limits reading (world state (N.stream sockets.old) (E.told report.old))
@@ -304,12 +316,9 @@ impl Server {
             self.old.accepted self.new.accepted self.old.slots.items self.new.slots.items) }
         ensures rooms { KeepsRooms self.old.slots.items self.new.slots.items }
     {
-        if !self.waits_for_room() {
-            return Ok(());
-        }
-        let time = self.time;
+        let others = self.waits_for_room();
         'slots: for slot in self.slots.iter_mut() {
-            let ended = give_up(slot, sockets, time);
+            let ended = give_up(slot, sockets, limits.idle, others, time);
             tell(report, ended)?;
         }
         Ok(())
@@ -412,45 +421,11 @@ fn uses_room(slot: &Option<Client>) -> bool
     }
 }
 
-/// Since when the connection in this slot waits for room, if it does.
-fn waits_since(slot: &Option<Client>) -> Option<u64>
-    ensures { result ≡ waits_since slot.now }
+/// The time, once so much more has passed.
+fn later(time: u64, passed: Duration) -> u64
+    ensures { result ≡ later time (as_nanos passed) }
 {
-    match slot {
-        Some(client) if client.waits_for == WaitsFor::Room => Some(client.since()),
-        _ => None,
-    }
-}
-
-/// Which has waited longer for room: the slot and the time since which it waits, or the connection in this slot, if it waits.
-fn longer(longest: Option<(usize, u64)>, key: usize, since: Option<u64>) -> Option<(usize, u64)>
-    ensures { result ≡ longer longest key since }
-{
-    match (longest, since) {
-        (_, None) => longest,
-        (None, Some(since)) => Some((key, since)),
-        (Some((_, least)), Some(since)) => {
-            if since < least {
-                Some((key, since))
-            } else {
-                longest
-            }
-        }
-    }
-}
-
-/// The slot of the connection that has waited longest for room. O(slots).
-fn waits_longest(slots: &[Option<Client>]) -> Option<usize>
-    ensures { WaitsLongest slots.now result }
-{
-    let mut longest = None;
-    'slots: for (key, slot) in slots.iter().enumerate() {
-        longest = longer(longest, key, waits_since(slot));
-    }
-    match longest {
-        Some((key, _)) => Some(key),
-        None => None,
-    }
+    time.saturating_add(u64::try_from(passed.as_nanos()).unwrap_or(u64::MAX))
 }
 
 /// Accepts the next connection into this slot, if there is one; says what is known of the queue then.
@@ -460,9 +435,11 @@ fn accept_into<N: Sockets>(
     alloc: Global,
     sockets: &mut N,
     key: usize,
+    time: u64,
 ) -> Queue
     requires { accepted.old + 1 < 2 ^ 32 }
     ensures accepts { AcceptsSo accepted.old accepted.new slot.old slot.new }
+    ensures since { accepted.new ≢ accepted.old → WaitsSince WaitsFor.Turn time slot.new }
     ensures room { KeepsRoom slot.old slot.new }
     ensures stay { KeepsBytes (accepted.old + 1) (N.stream sockets.old) (N.stream sockets.new) }
     ensures attempt { N.attempts sockets.new ≡ one_more (N.attempts sockets.old) }
@@ -470,7 +447,7 @@ fn accept_into<N: Sockets>(
     let number = *accepted + 1;
     let came = sockets.accept(u64::from(number), key);
     if came == Accepted::Connection {
-        *slot = Some(Client::new(alloc, number));
+        *slot = Some(Client::new(alloc, number, time));
         *accepted = number;
     }
     queue_after(came)
@@ -483,11 +460,12 @@ fn serve_slot<N: Sockets, A: Answer>(
     service: &mut A,
     alloc: Global,
     unsent: usize,
-    time: u64,
+    time: &mut u64,
 ) -> Option<(u32, ConnectionEnd)>
-    ensures turns { SlotTurnsSo unsent A.reading (A.state service.old)
+    ensures turns { SlotTurnsSo unsent time.new A.reading (A.state service.old)
         (A.state service.new) (N.stream sockets.old) (N.stream sockets.new) slot.old slot.new result }
     ensures room { KeepsRoom slot.old slot.new }
+    ensures later { time.old ≤ time.new }
 {
     let Some(client) = slot else {
         return None;
@@ -496,17 +474,11 @@ fn serve_slot<N: Sockets, A: Answer>(
         return None;
     }
     let number = client.number();
-    match client.take_turns(sockets, service, alloc, unsent, time) {
-        Turn::GoesOn => None,
-        Turn::Loaded => None,
-        Turn::Waits => {
-            client.waits_for = WaitsFor::Stream;
-            None
-        }
-        Turn::NeedsRoom => {
-            client.wait_for_room(time);
-            None
-        }
+    match client.take_turns(sockets, service, alloc, unsent) {
+        Turn::GoesOn => pause(client, WaitsFor::Turn, sockets, time),
+        Turn::Loaded => pause(client, WaitsFor::Turn, sockets, time),
+        Turn::Waits => pause(client, WaitsFor::Stream, sockets, time),
+        Turn::NeedsRoom => pause(client, WaitsFor::Room, sockets, time),
         Turn::Ends(how) => {
             *slot = None;
             sockets.close(u64::from(number));
@@ -515,23 +487,55 @@ fn serve_slot<N: Sockets, A: Answer>(
     }
 }
 
-/// Ends the connection in this slot, if nothing came for ten seconds of the load for which it uses its room; its number and how it ended then.
+/// The client waits for this, from the time on that it is now; its connection has not ended.
+fn pause<N: Sockets>(
+    client: &mut Client,
+    waits_for: WaitsFor,
+    sockets: &mut N,
+    time: &mut u64,
+) -> Option<(u32, ConnectionEnd)>
+    ensures waits { client.new ≡ record client.old { waits_for = waits_for; since = time.new } }
+    ensures stay { AllStay (N.stream sockets.old) (N.stream sockets.new) }
+    ensures later { time.old ≤ time.new }
+    ensures none { result ≡ None }
+{
+    *time = later(*time, sockets.passed());
+    client.wait(waits_for, *time);
+    None
+}
+
+/// Why the connection of this client is ended, if it is: it is stalled, where others wait for room, or it is idle.
+fn why_ended(client: &Client, idle: Option<u32>, others: bool, time: u64) -> Option<ConnectionEnd>
+    ensures { result ≡ why_ended idle others time client.now }
+{
+    if others && client.is_stalled(time) {
+        return Some(ConnectionEnd::Stalled);
+    }
+    if client.is_idle(idle, time) {
+        return Some(ConnectionEnd::Idle);
+    }
+    None
+}
+
+/// Ends the connection in this slot, if there is a cause; its number and how it ended then.
 fn give_up<N: Sockets>(
     slot: &mut Option<Client>,
     sockets: &mut N,
+    idle: Option<u32>,
+    others: bool,
     time: u64,
 ) -> Option<(u32, ConnectionEnd)>
-    ensures gives_up { SlotGivesUp time (N.stream sockets.old) (N.stream sockets.new) slot.old slot.new result }
+    ensures gives_up { SlotGivesUp idle others time (N.stream sockets.old) (N.stream sockets.new) slot.old slot.new result }
     ensures room { KeepsRoom slot.old slot.new }
 {
     let Some(client) = slot else {
         return None;
     };
-    if !client.is_stalled(time) {
+    let Some(why) = why_ended(client, idle, others, time) else {
         return None;
-    }
+    };
     let number = client.number();
     *slot = None;
     sockets.close(u64::from(number));
-    Some((number, ConnectionEnd::Stalled))
+    Some((number, why))
 }

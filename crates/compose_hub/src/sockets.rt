@@ -41,13 +41,11 @@ pub trait Sockets: Streams {
         ensures attempt { attempts self.new ≡ one_more (attempts self.old) };
 
     /// Waits until something is ready, and no longer than this; puts what is ready there, in place of what was there.
-    ///
-    /// Says how long it took, or less.
-    fn poll(
-        &mut self,
-        longest_wait: Option<Duration>,
-        ready: &mut Vec<Ready>,
-    ) -> io::Result<Duration>
+    fn poll(&mut self, longest_wait: Option<Duration>, ready: &mut Vec<Ready>) -> io::Result<()>
+        ensures { AllStay (Self.stream self.old) (Self.stream self.new) };
+
+    /// How much time has passed since it was asked last, or since they were made, or less.
+    fn passed(&mut self) -> Duration
         ensures { AllStay (Self.stream self.old) (Self.stream self.new) };
 
     /// Closes the connection with this number, which is not reported from then on.

@@ -1,3 +1,4 @@
+pub mod Failing
 pub mod Listed
 pub mod NamesRead
 pub mod Trees

@@ -23,7 +23,7 @@ names_more folder names old new n are is adds = record {
   files = adds.files ∙ ap (λ l. l ++ header_of n ∷ []) are.files ∙ sym (map-append header_of are.texts (n ∷ []));
 }
 
-abbrev now_of : Bor (List ℕ) → List ℕ
+abbrev pub now_of : Bor (List ℕ) → List ℕ
 now_of b = b.now
 
 -- the step of the loop over names that were given as references

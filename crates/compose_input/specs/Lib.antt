@@ -4,3 +4,4 @@ pub mod Names
 pub mod Places
 pub mod Search
 pub mod Tables
+pub mod Faults

@@ -1,5 +1,6 @@
 //! The files of names.
-ghost use Rattle.std.specs.Prelude.{◌≡◌, map, IfOk, OnOk};
+ghost use Rattle.std.specs.Prelude.{◌≡◌, map, IfOk, IfErr, OnOk};
+ghost use Rattle.compose_input.specs.Faults.{FailsName, FailNames};
 ghost use Rattle.compose_input.specs.Names.{AreNames, AddsNames, IsNamedText};
 
 use crate::fault::Fault;
@@ -28,7 +29,8 @@ pub struct NameFiles<'n> {
 }
 
 impl<'n> NameFiles<'n> {
-    /// Reads the lines of the files of names, in their order; `builtin` stands for the names that are built in. O(bytes).
+    /// Reads the lines of the files of names, in their order; `builtin` stands for the names that are built in. A fault is that of the first
+    /// file that can't be read. O(bytes).
     pub fn read<F: Folder>(
         files: &mut ReadOnce<F>,
         alloc: Global,
@@ -37,6 +39,8 @@ impl<'n> NameFiles<'n> {
         ensures kept { files.new.holds ≡ files.old.holds }
         ensures read { IfOk result
             (λ read. AreNames files.old.holds (map (λ name. name.now) names.now) read) }
+        ensures fault { IfErr result
+            (λ fault. FailNames files.old.holds (map (λ name. name.now) names.now) fault) }
     {
         let mut header = NameFiles {
             lines: Vec::new(alloc),
@@ -71,6 +75,7 @@ fn name_text<F: Folder>(
     ensures kept { files.new.holds ≡ files.old.holds }
     ensures read { IfOk result
         (λ text. IsNamedText files.old.holds (record { name = name.now; text = text.items })) }
+    ensures fault { IfErr result (λ fault. FailsName files.old.holds name.now fault) }
 {
     if name == "builtin" {
         return Ok(Vec::from_slice(alloc, builtin_names().as_bytes())?);

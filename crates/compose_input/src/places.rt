@@ -39,8 +39,9 @@ impl<'a> Places<'a> {
         }
     }
 
-    /// The path of the table of the locale, if there is one: by the files `compose.dir` and `locale.alias` of the system's folder.
-    pub(crate) fn locale_table<F: Folder>(
+    /// The path of the table of the locale, if there is one: by the files `compose.dir` and `locale.alias` of the system's folder, of which one
+    /// that can't be read is as an empty one. Memory alone may be refused. O(bytes).
+    pub fn locale_table<F: Folder>(
         &self,
         files: &mut ReadOnce<F>,
         alloc: Global,
@@ -48,6 +49,7 @@ impl<'a> Places<'a> {
         ensures kept { files.new.holds ≡ files.old.holds }
         ensures found { IfOk result
             (λ table. IsLocaleTable files.old.holds self.now (option_map string_bytes table)) }
+        ensures fault { IfErr result (λ fault. fault ≡ NoMemory) }
     {
         let Some(locale) = self.locale else {
             return Ok(None);
@@ -67,6 +69,7 @@ impl<'a> Places<'a> {
         ensures kept { files.new.holds ≡ files.old.holds }
         ensures read { IfOk result
             (λ bytes. IsListing files.old.holds self.now name.now bytes.items) }
+        ensures fault { IfErr result (λ fault. fault ≡ NoMemory) }
     {
         let path = joined(alloc, self.system, name)?;
         if let Some(root) = self.root {

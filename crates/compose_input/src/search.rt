@@ -1,18 +1,19 @@
 //! The files of a Compose file as it lies on a system.
-ghost use Rattle.std.specs.Prelude.{◌≡◌, IfOk};
+ghost use Rattle.std.specs.Prelude.{◌≡◌, map, option_copied, IfOk, IfErr, string_bytes};
 ghost use Rattle.compose_find.specs.FindGives.{words};
+ghost use Rattle.compose_input.specs.Faults as faults;
+ghost use Rattle.compose_input.specs.Faults.{AreUnopened, FailsFound, FailsSearch, IsKind, IsMissingRoot, IsTriedFault, IsUnopened};
 ghost use Rattle.compose_input.specs.Search.{IsTable, IsSystemTable, opened};
 
 use crate::fault::{Fault, Unopened};
 use crate::places::{Places, found, joined};
-use crate::texts::unread;
 use compose_find::{FindFault, FoundTable, Meanings, beside, find_table};
 use compose_folder::{Folder, ReadOnce, Unread};
-use std::alloc::Global;
+use std::alloc::{AllocError, Global};
 use std::io::ErrorKind;
 
 /// The files of the Compose file at this path, includes followed, and what they hold; `-` is standard input. O(bytes), and O(s * i) in the sources and
-/// their includes for each file that is looked for.
+/// their includes for each file that is looked for. A fault says why the search ended.
 pub fn find_files<F: Folder>(
     files: &mut ReadOnce<F>,
     alloc: Global,
@@ -22,6 +23,8 @@ pub fn find_files<F: Folder>(
     ensures kept { files.new.holds ≡ files.old.holds }
     ensures found { IfOk result
         (λ table. IsSystemTable files.old.holds places.entry file.now table) }
+    ensures fault { IfErr result
+        (λ fault. FailsFound files.old.holds places.entry file.now fault) }
 {
     let locale = places.locale_table(files, alloc)?;
     search(files, alloc, places.meanings(locale.as_deref()), file)
@@ -37,6 +40,8 @@ fn search<F: Folder>(
     ensures kept { files.new.holds ≡ files.old.holds }
     ensures found { IfOk result
         (λ table. IsTable files.old.holds (words meanings.entry) root.now table) }
+    ensures fault { IfErr result
+        (λ fault. FailsSearch files.old.holds (words meanings.entry) root.now fault) }
 {
     let mut looked = compose_find::Files::new(alloc);
     for _ in 0..u64::MAX {
@@ -46,7 +51,11 @@ fn search<F: Folder>(
                 let bytes = found(files, alloc, opened(&path, root))?;
                 looked.add(alloc, &path, bytes)?;
             }
-            Err(fault) => return Err(search_fault(files, alloc, meanings, fault)?),
+            Err(FindFault::NoMemory) => return Err(Fault::NoMemory),
+            Err(FindFault::MissingRoot { path }) => {
+                return Err(missing_root(files, alloc, root, &path)?);
+            }
+            Err(fault) => return Err(include_fault(files, alloc, meanings, root, fault)?),
         }
     }
     Err(Fault::NoMemory)
@@ -62,75 +71,108 @@ fn opened<'p>(path: &'p str, root: &str) -> &'p str
     path
 }
 
-/// Why not all files are found.
-fn search_fault<F: Folder>(
+/// That the root can't be read, and why.
+fn missing_root<F: Folder>(
     files: &mut ReadOnce<F>,
     alloc: Global,
-    meanings: Meanings<'_>,
-    fault: FindFault,
-) -> Result<Fault, Fault>
-    ensures { files.new.holds ≡ files.old.holds }
+    root: &str,
+    path: &str,
+) -> Result<Fault, AllocError>
+    ensures kept { files.new.holds ≡ files.old.holds }
+    ensures is { IfOk result
+        (λ fault. IsMissingRoot files.old.holds root.now path.now fault) }
 {
-    match fault {
-        FindFault::NoMemory => Ok(Fault::NoMemory),
-        FindFault::MissingRoot { path } => {
-            let kind = kind_at(files, alloc, &path)?;
-            Ok(unread(alloc, &path, kind))
-        }
-        fault => {
-            let tried = tried_paths(files, alloc, meanings, &fault)?;
-            Ok(Fault::Find { fault, tried })
-        }
-    }
+    Ok(Fault::Unread(unopened(files, alloc, root, path)?))
 }
 
-/// The paths at which the file of an include was looked for, in that order, and why nothing is read there.
-fn tried_paths<F: Folder>(
+/// That an include has no file or leads nowhere, and the paths at which its file was looked for.
+fn include_fault<F: Folder>(
     files: &mut ReadOnce<F>,
     alloc: Global,
     meanings: Meanings<'_>,
-    fault: &FindFault,
-) -> Result<Vec<Unopened>, Fault>
-    ensures { files.new.holds ≡ files.old.holds }
+    root: &str,
+    fault: FindFault,
+) -> Result<Fault, AllocError>
+    ensures kept { files.new.holds ≡ files.old.holds }
+    ensures is { IfOk result
+        (λ found. IsTriedFault files.old.holds (words meanings.entry) root.now fault found) }
+{
+    let places = tried_places(alloc, meanings.root, &fault)?;
+    let tried = all_unopened(files, alloc, root, &places)?;
+    Ok(Fault::Find { fault, tried })
+}
+
+/// Why nothing is read at each of these paths.
+fn all_unopened<F: Folder>(
+    files: &mut ReadOnce<F>,
+    alloc: Global,
+    root: &str,
+    paths: &[String],
+) -> Result<Vec<Unopened>, AllocError>
+    ensures kept { files.new.holds ≡ files.old.holds }
+    ensures are { IfOk result
+        (λ tried. AreUnopened files.old.holds root.now (map string_bytes paths.now) tried.items) }
 {
     let mut tried = Vec::new(alloc);
-    let FindFault::MissingFile { from, path, .. } = fault else {
-        return Ok(tried);
-    };
-    if let (Some(root), true) = (meanings.root, path.starts_with('/')) {
-        tried.push(unopened(files, alloc, joined(alloc, root, path)?)?)?;
-    }
-    tried.push(unopened(files, alloc, String::from_str(alloc, path)?)?)?;
-    let other = beside(alloc, from, path)?;
-    if other != *path {
-        tried.push(unopened(files, alloc, other)?)?;
+    for path in paths {
+        tried.push(unopened(files, alloc, root, path)?)?;
     }
     Ok(tried)
 }
 
-/// Why nothing is read at this path.
-fn unopened<F: Folder>(
-    files: &mut ReadOnce<F>,
+/// The paths at which the file of an include was looked for, in that order; none where the search ended otherwise.
+fn tried_places(
     alloc: Global,
-    path: String,
-) -> Result<Unopened, Fault>
-    ensures { files.new.holds ≡ files.old.holds }
+    root: Option<&str>,
+    fault: &FindFault,
+) -> Result<Vec<String>, AllocError>
+    ensures { IfOk result
+        (λ places. map string_bytes places.items
+        ≡ faults.places_of (option_copied root.entry) fault.now) }
 {
-    let kind = kind_at(files, alloc, &path)?;
-    Ok(Unopened { path, kind })
+    let mut places = Vec::new(alloc);
+    let FindFault::MissingFile { from, path, .. } = fault else {
+        return Ok(places);
+    };
+    if let (Some(root), true) = (root, path.starts_with('/')) {
+        places.push(joined(alloc, root, path)?)?;
+    }
+    places.push(String::from_str(alloc, path)?)?;
+    let other = beside(alloc, from, path)?;
+    if other != *path {
+        places.push(other)?;
+    }
+    Ok(places)
 }
 
 /// Why nothing is read at this path; that it isn't there, where it can be read by now.
+fn unopened<F: Folder>(
+    files: &mut ReadOnce<F>,
+    alloc: Global,
+    root: &str,
+    path: &str,
+) -> Result<Unopened, AllocError>
+    ensures kept { files.new.holds ≡ files.old.holds }
+    ensures is { IfOk result
+        (λ unopened. IsUnopened files.old.holds root.now path.now unopened) }
+{
+    let kind = kind_at(files, alloc, opened(path, root))?;
+    let path = String::from_str(alloc, path)?;
+    Ok(Unopened { path, kind })
+}
+
+/// Why nothing is read of what is opened at this path; that it isn't there, where it can be read by now.
 fn kind_at<F: Folder>(
     files: &mut ReadOnce<F>,
     alloc: Global,
     path: &str,
-) -> Result<ErrorKind, Fault>
-    ensures { files.new.holds ≡ files.old.holds }
+) -> Result<ErrorKind, AllocError>
+    ensures kept { files.new.holds ≡ files.old.holds }
+    ensures is { IfOk result (λ kind. IsKind files.old.holds path.now kind) }
 {
     match files.read(alloc, path) {
         Ok(_) => Ok(ErrorKind::NotFound),
         Err(Unread::Refused(kind)) => Ok(kind),
-        Err(Unread::NoMemory) => Err(Fault::NoMemory),
+        Err(Unread::NoMemory) => Err(AllocError),
     }
 }

@@ -1,5 +1,6 @@
 //! The files of a table.
-ghost use Rattle.std.specs.Prelude.{◌≡◌, map, IfOk, OnOk, string_bytes};
+ghost use Rattle.std.specs.Prelude.{◌≡◌, map, IfOk, IfErr, OnOk, string_bytes};
+ghost use Rattle.compose_input.specs.Faults.{FailsManifest, FailsEntry, FailEntries};
 ghost use Rattle.compose_input.specs.Search.{IsNote};
 ghost use Rattle.compose_input.specs.Tables.{IsManifest, AreEntries, IsEntryRead};
 
@@ -29,10 +30,12 @@ pub struct TableFiles {
 }
 
 impl TableFiles {
+    ghost use Rattle.compose_input.specs.Faults.{FailsListed, FailsFound};
     ghost use Rattle.compose_input.specs.Tables.{IsListed, IsFoundOnSystem, sources_of};
     ghost use Rattle.compose_migration.specs.MigrationGives.{table_given};
 
-    /// Reads a manifest, and the files that it lists. A refusal of the sources is told of this part. O(bytes).
+    /// Reads a manifest, and the files that it lists. A fault is that of the manifest, or of the first entry whose file is refused; the fault of a
+    /// source names this part. O(bytes).
     pub fn listed<F: Folder>(
         files: &mut ReadOnce<F>,
         alloc: Global,
@@ -41,6 +44,8 @@ impl TableFiles {
     ) -> Result<TableFiles, Fault>
         ensures kept { files.new.holds ≡ files.old.holds }
         ensures listed { IfOk result (λ table. IsListed files.old.holds path.now table) }
+        ensures fault { IfErr result
+            (λ fault. FailsListed files.old.holds part.now path.now fault) }
     {
         let manifest = read_listing(files, alloc, path)?;
         let read = read_entries(files, alloc, part, path, &manifest)?;
@@ -53,7 +58,7 @@ impl TableFiles {
         })
     }
 
-    /// Finds the files of a Compose file as it lies on a system, and reads them. O(bytes).
+    /// Finds the files of a Compose file as it lies on a system, and reads them. A fault says why they are not found. O(bytes).
     pub fn found<F: Folder>(
         files: &mut ReadOnce<F>,
         alloc: Global,
@@ -64,6 +69,8 @@ impl TableFiles {
         ensures kept { files.new.holds ≡ files.old.holds }
         ensures found { IfOk result
             (λ table. IsFoundOnSystem files.old.holds places.entry path.now rule table) }
+        ensures fault { IfErr result
+            (λ fault. FailsFound files.old.holds places.entry path.now fault) }
     {
         let found = find_files(files, alloc, places, path)?;
         let note = files_note(alloc, places, path, &found.files)?;
@@ -145,6 +152,7 @@ fn read_listing<F: Folder>(
 ) -> Result<Manifest, Fault>
     ensures kept { files.new.holds ≡ files.old.holds }
     ensures read { IfOk result (λ manifest. IsManifest files.old.holds path.now manifest) }
+    ensures fault { IfErr result (λ fault. FailsManifest files.old.holds path.now fault) }
 {
     let bytes = read_text(files, alloc, path)?;
     match read_manifest(alloc, &bytes) {
@@ -177,6 +185,9 @@ fn read_entries<F: Folder>(
     ensures read { IfOk result
         (λ read. AreEntries files.old.holds manifest.now
         at.now manifest.now.entries (map string_bytes read.paths.items) read.sources) }
+    ensures fault { IfErr result
+        (λ fault. FailEntries files.old.holds part.now manifest.now at.now manifest.now.entries
+        fault) }
 {
     let mut read = ReadEntries {
         paths: Vec::new(alloc),
@@ -203,6 +214,9 @@ fn add_entry<F: Folder>(
         (IsEntryRead files.old.holds manifest.now
         at.now entry.now (map string_bytes read.old.paths.items)
         (map string_bytes read.new.paths.items) read.old.sources read.new.sources) }
+    ensures fault { IfErr result
+        (λ fault. FailsEntry files.old.holds part.now manifest.now at.now entry.now
+        read.old.sources fault) }
 {
     let path = file_path(alloc, manifest, at, entry)?;
     let bytes = read_named(files, alloc, &path)?;

@@ -1,5 +1,5 @@
 -- The definition that a line gives, by what it writes.
-use Rattle.std.proofs.Common.{◌≡◌, ◌+◌, ℕ, List, [], ◌∷◌, Bool, true, false, cond, refl, sym, ◌∙◌, ap, ap₂, length}
+use Rattle.std.proofs.Common.{◌≡◌, ◌+◌, ℕ, List, [], ◌∷◌, Bool, true, false, cond, refl, ◌∙◌, ap, ap₂, length}
 use Rattle.std.specs.Prelude.{Option, Some, None, Result, Ok, Err, not, nat_lt, unwrap_or}
 use Rattle.std.specs.Option.{option_map, option_and_then, option_map_or}
 use Rattle.std.specs.Result.{result_ok}
@@ -13,10 +13,10 @@ use Rattle.compose_lex.specs.Fault.{reading_of}
 use Rattle.compose_lex.specs.Escape.{text_of}
 use Rattle.compose_lex.specs.declared.LexFault.{LexFault}
 use Rattle.compose_read.specs.Lines.{Source, Visit, source_named, max_depth}
-use Rattle.compose_read.specs.Read.{at_line, event_keysym, sequence_of, string_text, result_text, definition_of, include_fault, said, line_gives}
+use Rattle.compose_read.specs.Read.{at_line, event_keysym, sequence_of, string_text, result_text, definition_of, said, line_gives}
 use Rattle.compose_read.specs.declared.ReadFault.{ReadFault}
 use Rattle.compose_read.specs.declared.ReadFault.TheVariants.{NotUtf8, UnknownKeysym, IgnoredKeysym, MissingInclude, IncludeDepth}
-use Rattle.compose_lint.specs.Productions.{Written, parts_of, production_of, fed_keysym, fed_sequence, string_given, name_given, text_given, definition_given}
+use Rattle.compose_lint.specs.Productions.{parts_of, production_of, fed_sequence, string_given, name_given, definition_given}
 use Rattle.compose_lint.specs.Lines.{definition_in}
 
 module _ (names : KeysymNames) (sources : List Source) (v : Visit) where

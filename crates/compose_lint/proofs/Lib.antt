@@ -3,3 +3,7 @@ pub mod NextLine
 pub mod OneMore
 pub mod LastOnes
 pub mod OneSource
+pub mod PrefixOnes
+pub mod Tests
+pub mod Leading
+pub mod MoreVisits

@@ -1,5 +1,5 @@
 -- What `lint` answers on the names, the sources and the paths of their files that it is given.
-use Rattle.std.specs.Prelude.{◌≡◌, ◌≢◌, List, [], ℕ, take, slice_get, Result, Ok, Err, string_bytes, ⊤}
+use Rattle.std.specs.Prelude.{◌≡◌, ◌≢◌, Bool, List, [], ℕ, take, slice_get, Result, Ok, Err, string_bytes, ⊤}
 use Rattle.keysym_core.specs.Names.{KeysymNames}
 use Rattle.keysym_core.specs.declared.fault.NameFault.{NameFault}
 use Rattle.std.specs.Option.{option_map_or}
@@ -34,8 +34,8 @@ abbrev pub first_faults : KeysymNames → List Source → List ReadFault
 first_faults names sources = take max_faults (faults_of names sources (root_of sources))
 
 -- the answer by these names
-abbrev pub IsLinted : Readers → List Source → List (List ℕ) → KeysymNames → Answer → Type 0
-IsLinted readers sources paths names answer = Tells (findings_text sources (first_faults names sources) paths) (findings names readers (first_faults names sources) sources) answer
+abbrev pub IsLinted : Readers → Bool → List Source → List (List ℕ) → KeysymNames → Answer → Type 0
+IsLinted readers is_all sources paths names answer = Tells (findings_text sources (first_faults names sources) paths) (findings names readers is_all (first_faults names sources) sources) answer
 
 -- the answer by the names of the header, or that they are refused; memory may be refused too
 abbrev pub LintGives : (KeysymNames → Answer → Type 0) → Result KeysymNames NameFault → Result Answer Refusal → Type 0

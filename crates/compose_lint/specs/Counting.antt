@@ -1,5 +1,5 @@
 -- Which of the lines of a file counts for a sequence (Compose(5): a later definition overrides an earlier one).
-use Rattle.std.specs.Prelude.{◌≡◌, ℕ, Bool, false, bytes_eq, List, reverse, Option, slice_get}
+use Rattle.std.specs.Prelude.{ℕ, Bool, false, bytes_eq, List, reverse, Option}
 use Rattle.std.specs.List.{find}
 use Rattle.std.specs.Option.{option_map_or}
 use Rattle.compose_lint.specs.Lines.{LintLine}

@@ -1,5 +1,5 @@
 -- The faults of lines.
-use Rattle.std.specs.Prelude.{ℕ, Bool, false, ◌==◌, ◌&&◌, List, [], ◌∷◌, position}
+use Rattle.std.specs.Prelude.{Bool, false, ◌==◌, ◌&&◌, List, [], ◌∷◌, position}
 use Rattle.std.specs.Option.{option_map_or}
 use Rattle.compose_read.specs.declared.ReadFault.{ReadFault}
 use Rattle.compose_messages.specs.Places.{line_of}

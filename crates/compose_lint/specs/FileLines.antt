@@ -1,10 +1,11 @@
 -- Lines that other readers of Compose files skip for how the file is written: each class is one line of docs/READERS.md.
-use Rattle.std.specs.Prelude.{ℕ, Bool, true, false, not, ◌==◌, ◌&&◌, ◌||◌, nat_eq, is_some, position, unwrap_or, List, [], ◌∷◌, length, take, drop, take_while, reverse, Option}
+use Rattle.std.specs.Prelude.{ℕ, Bool, false, not, ◌==◌, ◌&&◌, ◌||◌, nat_eq, is_some, List, [], ◌∷◌, length, take, drop, take_while, reverse}
 use Rattle.std.specs.List.{list_any, starts_with, zip}
 use Rattle.std.specs.Option.{option_map_or}
 use Rattle.compose_text.specs.Bytes.{is_blank}
 use Rattle.compose_read.specs.Visits.{raw_include}
 use Rattle.compose_lint.specs.Productions.{Written, production_of}
+pub use Rattle.compose_lint.specs.Productions.{begins_string_or_comment, head_len}
 use Rattle.compose_lint.specs.Lines.{LintLine}
 
 -- ---- the first and the last line of a file
@@ -30,14 +31,6 @@ abbrev pub is_without_newline : List ℕ → ℕ → LintLine → Bool
 is_without_newline bytes lines l = l.line == lines && is_unended bytes && says_something l.bytes
 
 -- ---- blanks
-
--- a quote (code 34) or a `#` (code 35)
-abbrev pub begins_string_or_comment : ℕ → Bool
-begins_string_or_comment b = b == 34 || b == 35
-
--- how many bytes come before the string or the comment
-abbrev pub head_len : List ℕ → ℕ
-head_len line = unwrap_or (position begins_string_or_comment line) (length line)
 
 -- of what follows the string the bytes before the comment
 abbrev pub tail : List ℕ → List ℕ → List ℕ

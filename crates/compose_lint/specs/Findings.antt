@@ -1,6 +1,5 @@
 -- What is found in the lines of a file, each kind by itself.
-use Rattle.std.specs.Prelude.{ℕ, Bool, ◌+◌, ◌&&◌, not, nat_lt, bytes_eq, if◌then◌else◌, List, [], ◌∷◌, ◌++◌, length, map, flat_map, Option, Some, None, option_to_list, false}
-use Rattle.std.specs.List.{list_any}
+use Rattle.std.specs.Prelude.{ℕ, Bool, ◌&&◌, not, nat_lt, bytes_eq, if◌then◌else◌, List, [], ◌∷◌, ◌++◌, length, map, flat_map, Option, Some, false}
 use Rattle.std.specs.Option.{option_map_or, option_and_then}
 use Rattle.keysym_core.specs.Names.{KeysymNames}
 use Rattle.compose_model.specs.Table.{Definition}
@@ -9,13 +8,15 @@ use Rattle.compose_read.specs.Lines.{Source}
 use Rattle.compose_read.specs.declared.ReadFault.{ReadFault}
 use Rattle.compose_lint.specs.Faults.{fault_kinds}
 use Rattle.compose_lint.specs.FileLines.{is_after_mark, is_without_newline, has_return, has_spaced_name}
-use Rattle.compose_lint.specs.Lines.{LintLine, lines_in}
+use Rattle.compose_lint.specs.Lines.{LintLine, SourceLines, all_lines, all_sources}
 use Rattle.compose_lint.specs.Counting.{last_defining}
+use Rattle.compose_lint.specs.Longer.{longer_place, place_of}
+use Rattle.compose_lint.specs.Comments.{has_misplaced_comment}
 use Rattle.compose_lint.specs.Texts.{repeats_mark, is_normal, has_other_character}
 use Rattle.compose_lint.specs.Readers.{has_ten_keysyms, has_eleven_keysyms, has_no_symbol, has_longest_text, has_wide_keysym, has_digit_name, has_no_string, has_letter_escape}
 use Rattle.compose_lint.specs.declared.finding.Finding.{Finding}
 use Rattle.compose_lint.specs.declared.finding.Kind.{Kind}
-use Rattle.compose_lint.specs.declared.finding.Kind.TheVariants.{Overridden, Repeated, Keysym, Mark, Form, Reader}
+use Rattle.compose_lint.specs.declared.finding.Kind.TheVariants.{Overridden, Repeated, Prefix, Keysym, Mark, Form, Comment, Redundant, Reader}
 use Rattle.compose_lint.specs.declared.reader.Readers.{Readers}
 use Rattle.compose_lint.specs.declared.reader.Reader.TheVariants.{LibX11, Libxkbcommon, Gtk3, Gtk4}
 use Rattle.compose_lint.specs.declared.reader.Class.TheVariants.{ByteOrderMark, NoNewline, CarriageReturn, SpacedName, ManyKeysyms, NoSymbol, LongestText, WideKeysym, DigitName, NoString, LetterEscape}
@@ -82,24 +83,44 @@ abbrev pub kinds_if : KeysymNames → Readers → List LintLine → LintLine →
 kinds_if names readers lines l (Some p) (Some d) = kinds_of names readers lines l p d
 kinds_if names readers lines l _ _ = []
 
--- what is found in a line of the file with these bytes: its first fault, how it is written, and, where it gives a definition, what is found of this
-abbrev pub line_kinds : KeysymNames → Readers → List ReadFault → List ℕ → List LintLine → LintLine → List Kind
-line_kinds names readers faults bytes lines l =
+-- what is found in a line of the file with these bytes by that file alone: its first fault, how it is written, and, where it gives a definition, what is found of this
+abbrev pub own_kinds : KeysymNames → Readers → List ReadFault → List ℕ → List LintLine → LintLine → List Kind
+own_kinds names readers faults bytes lines l =
     fault_kinds faults l ++ file_kinds readers bytes (length lines) l ++ kinds_if names readers lines l (production_of l.bytes) l.definition
 
-abbrev pub line_findings : KeysymNames → Readers → List ReadFault → List ℕ → List LintLine → LintLine → List Finding
-line_findings names readers faults bytes lines l = map (λ k. record { source = l.source; line = l.line; kind = k }) (line_kinds names readers faults bytes lines l)
+-- ---- the lines of all files
+
+-- of any file a line defines a longer sequence that begins with that of the line
+abbrev pub prefix_kinds : List LintLine → LintLine → List Kind
+prefix_kinds all l = option_map_or (λ place. Prefix place ∷ []) (option_and_then (λ d. longer_place all d.sequence) l.definition) []
+
+-- the comment of the line belongs to another text
+abbrev pub comment_kinds : List LintLine → LintLine → List Kind
+comment_kinds all l = when (has_misplaced_comment all l) Comment
+
+-- what the line says again, where this line of an included file counts for its sequence
+abbrev pub again : Definition → LintLine → List Kind
+again d m = if gives_text d.text m then Redundant (place_of m) ∷ [] else []
+
+-- the line says again what the included files say, of whose lines for a sequence the last one counts
+abbrev pub redundant_kinds : List LintLine → LintLine → List Kind
+redundant_kinds included l = option_map_or (λ d. option_map_or (again d) (last_defining included d.sequence) []) l.definition []
+
+-- what is found in a line of the file, where these are the lines of all files
+abbrev pub line_kinds : KeysymNames → Readers → List ReadFault → List LintLine → SourceLines → LintLine → List Kind
+line_kinds names readers faults all f l = own_kinds names readers faults f.bytes f.lines l ++ prefix_kinds all l ++ comment_kinds all l ++ redundant_kinds f.included l
+
+abbrev pub line_findings : KeysymNames → Readers → List ReadFault → List LintLine → SourceLines → LintLine → List Finding
+line_findings names readers faults all f l = map (λ k. record { source = l.source; line = l.line; kind = k }) (line_kinds names readers faults all f l)
 
 -- what is found in the lines of a file, in order
-abbrev pub findings_in : KeysymNames → Readers → List ReadFault → List ℕ → List LintLine → List Finding
-findings_in names readers faults bytes lines = flat_map (line_findings names readers faults bytes lines) lines
+abbrev pub findings_in : KeysymNames → Readers → List ReadFault → List LintLine → SourceLines → List Finding
+findings_in names readers faults all f = flat_map (line_findings names readers faults all f) f.lines
 
--- what is found in these sources, the first of which has this index
-abbrev pub findings_from : KeysymNames → Readers → List ReadFault → List Source → ℕ → List Source → List Finding
-findings_from names readers faults sources i [] = []
-findings_from names readers faults sources i (s ∷ rest) =
-    findings_in names readers faults s.bytes (lines_in names sources i) ++ findings_from names readers faults sources (1 + i) rest
+-- what is found in the lines of these files
+abbrev pub findings_of : KeysymNames → Readers → List ReadFault → List SourceLines → List Finding
+findings_of names readers faults files = flat_map (findings_in names readers faults (all_lines files)) files
 
--- what is found in the lines of all sources, each once, in order, where these are the faults that are read
-abbrev pub findings : KeysymNames → Readers → List ReadFault → List Source → List Finding
-findings names readers faults sources = findings_from names readers faults sources 0 sources
+-- what is found in the lines of all sources, each once, in order, where these are the faults that are read; what is redundant only where all is asked for
+abbrev pub findings : KeysymNames → Readers → Bool → List ReadFault → List Source → List Finding
+findings names readers is_all faults sources = findings_of names readers faults (all_sources names sources is_all)

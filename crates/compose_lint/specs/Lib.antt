@@ -5,6 +5,9 @@ pub mod Readers
 pub mod FileLines
 pub mod Faults
 pub mod Counting
+pub mod Longer
+pub mod Commonest
+pub mod Comments
 pub mod Findings
 pub mod Lost
 pub mod Report

@@ -3,7 +3,6 @@ use Rattle.std.specs.Prelude.{ℕ, Bool, true, false, List, [], count_by}
 use Rattle.keysym_core.specs.Names.{KeysymNames}
 use Rattle.compose_read.specs.Lines.{Source}
 use Rattle.compose_lint.specs.Findings.{findings}
-use Rattle.compose_lint.specs.declared.finding.Finding.{Finding}
 use Rattle.compose_lint.specs.declared.finding.Kind.{Kind}
 use Rattle.compose_lint.specs.declared.finding.Kind.TheVariants.{Reader}
 use Rattle.compose_lint.specs.declared.reader.Readers.{Readers}
@@ -22,4 +21,4 @@ both_libraries = record { libx11 = true; libxkbcommon = true; gtk3 = false; gtk4
 
 -- how often a line of these sources is skipped by one of the two
 abbrev pub lost_count : KeysymNames → List Source → ℕ
-lost_count names sources = count_by (λ f. skips_line f.kind) (findings names both_libraries [] sources)
+lost_count names sources = count_by (λ f. skips_line f.kind) (findings names both_libraries false [] sources)

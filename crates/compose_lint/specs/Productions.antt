@@ -1,8 +1,8 @@
 -- What a production writes (Compose(5), "FILE DESCRIPTION"), and the definition that it gives.
-use Rattle.std.specs.Prelude.{ℕ, if◌then◌else◌, List, [], ◌∷◌, Option, Some, None, Result, Ok, unwrap_or}
+use Rattle.std.specs.Prelude.{ℕ, Bool, ◌==◌, ◌||◌, if◌then◌else◌, List, [], ◌∷◌, length, drop, position, Option, Some, None, Result, Ok, unwrap_or}
 use Rattle.std.specs.Option.{option_map, option_and_then}
 use Rattle.std.specs.Result.{result_ok}
-use Rattle.std.specs.Str.{is_utf8}
+use Rattle.std.specs.Str.{is_utf8, trim}
 use Rattle.keysym_core.specs.Keysym.{is_ignored}
 use Rattle.keysym_core.specs.Names.{KeysymNames, value, text}
 use Rattle.compose_model.specs.Table.{Definition}
@@ -24,6 +24,32 @@ parts_of _ = None
 -- what the line writes, if it is a text and reads as a production
 abbrev pub production_of : List ℕ → Option Written
 production_of line = if is_utf8 line then parts_of (reading_of line) else None
+
+-- ---- where the parts of a line stand
+
+-- a quote (code 34) or a `#` (code 35)
+abbrev pub begins_string_or_comment : ℕ → Bool
+begins_string_or_comment b = b == 34 || b == 35
+
+-- how many bytes come before the string or the comment
+abbrev pub head_len : List ℕ → ℕ
+head_len line = unwrap_or (position begins_string_or_comment line) (length line)
+
+-- what stands behind the string with this raw text
+abbrev pub behind_string : List ℕ → List ℕ → List ℕ
+behind_string line raw = drop (length raw) (drop 2 (drop (head_len line) line))
+
+-- the bytes as a text without white space at its ends, if they are one
+abbrev pub trimmed : List ℕ → Option (List ℕ)
+trimmed bytes = if is_utf8 bytes then Some (trim bytes) else None
+
+-- what stands behind the first `#` (code 35) of these bytes, if there is one
+abbrev pub comment_in : List ℕ → Option (List ℕ)
+comment_in bytes = option_and_then (λ i. trimmed (drop 1 (drop i bytes))) (position (λ b. b == 35) bytes)
+
+-- the comment of a line with a string
+abbrev pub comment_of : List ℕ → Option (List ℕ)
+comment_of line = option_and_then (λ p. option_and_then (λ raw. comment_in (behind_string line raw)) p.raw) (production_of line)
 
 -- ---- words for private functions
 

@@ -1,5 +1,5 @@
 -- What is wrong with a text by itself (Unicode Standard Annex 15, and section 3.11 of the standard).
-use Rattle.std.specs.Prelude.{ℕ, Bool, not, ◌==◌, ◌&&◌, false, List, drop, chars, bytes_eq, encode_utf8, encode_utf8_all, is_some, Option}
+use Rattle.std.specs.Prelude.{ℕ, Bool, not, ◌==◌, ◌&&◌, false, List, drop, chars, bytes_eq, encode_utf8, encode_utf8_all, is_some}
 use Rattle.std.specs.List.{list_any, zip}
 use Rattle.std.specs.Option.{option_map_or, option_and_then}
 use Rattle.ucd_normal.specs.CanonicalCombiningClass.{canonical_combining_class}

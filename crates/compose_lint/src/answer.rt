@@ -17,13 +17,15 @@ use std::alloc::{AllocError, Global};
 const MOST_FAULTS: usize = 1000;
 
 /// What `lint` is given: the names of keysyms as a header, the sources of a table, the path of the
-/// file of each, in their order, and the readers that are asked for.
+/// file of each, in their order, the readers that are asked for, and whether what included files
+/// say too is asked for.
 #[derive(Clone, Copy)]
 pub struct LintInput<'a> {
     pub header: &'a [u8],
     pub sources: &'a Sources,
     pub paths: &'a [&'a str],
     pub readers: Readers,
+    pub is_all: bool,
 }
 
 /// A line for each finding, `PATH:LINE:COLUMN: KIND: SENTENCE`, by source and by line, with the
@@ -33,7 +35,7 @@ pub struct LintInput<'a> {
 /// `Names` where the header is refused, and `NoMemory`.
 pub fn lint_table(alloc: Global, input: &LintInput<'_>) -> Result<Answer, Refusal>
     ensures { LintGives
-        (IsLinted input.entry.now.readers input.entry.now.sources.now
+        (IsLinted input.entry.now.readers input.entry.now.is_all input.entry.now.sources.now
         (map (λ path. path.now) input.entry.now.paths.now))
         (names_of input.entry.now.header.now) result }
 {
@@ -48,7 +50,7 @@ pub fn lint_table(alloc: Global, input: &LintInput<'_>) -> Result<Answer, Refusa
 /// The answer by these names.
 fn answer_by(alloc: Global, names: &Names, input: &LintInput<'_>) -> Result<Answer, AllocError>
     ensures { IfOk result
-        (IsLinted input.entry.now.readers input.entry.now.sources.now
+        (IsLinted input.entry.now.readers input.entry.now.is_all input.entry.now.sources.now
         (map (λ path. path.now) input.entry.now.paths.now) names.now) }
 {
     let faults = first_faults(alloc, names, input.sources)?;
@@ -76,10 +78,17 @@ fn answer_with(
 ) -> Result<Answer, AllocError>
     requires { faults.now ≡ first_faults names.now input.now.sources.now }
     ensures { IfOk result
-        (IsLinted input.entry.now.readers input.entry.now.sources.now
+        (IsLinted input.entry.now.readers input.entry.now.is_all input.entry.now.sources.now
         (map (λ path. path.now) input.entry.now.paths.now) names.now) }
 {
-    let found = find_findings(alloc, names, input.sources, input.readers, faults)?;
+    let found = find_findings(
+        alloc,
+        names,
+        input.sources,
+        input.readers,
+        input.is_all,
+        faults,
+    )?;
     let found_in = FoundIn {
         sources: input.sources,
         paths: input.paths,
@@ -88,7 +97,7 @@ fn answer_with(
     answer_of(alloc, found_in, &found)
 }
 
-/// The answer that tells these findings.
+/// The answer with the lines of these findings.
 fn answer_of(alloc: Global, found_in: FoundIn<'_>, found: &[Finding]) -> Result<Answer, AllocError>
     ensures { IfOk result
         (Tells

@@ -77,8 +77,8 @@ fn head_end(line: &[u8]) -> Option<usize>
     line.iter().position(|byte| begins_string_or_comment(*byte))
 }
 
-/// How many bytes come before the string or the comment.
-fn head_len(line: &[u8]) -> usize
+/// How many bytes come before the string or the comment. O(bytes).
+pub(crate) fn head_len(line: &[u8]) -> usize
     ensures { result ≡ words.head_len line.now }
 {
     match head_end(line) {

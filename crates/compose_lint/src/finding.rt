@@ -1,6 +1,13 @@
 //! What is found in a line.
 use crate::reader::{Class, Reader};
 
+/// Where a line stands: the index of its source, from 0, and its number, from 1.
+#[derive(Clone, Copy, Debug, PartialEq, Eq, Drop)]
+pub struct LinePlace {
+    pub source: usize,
+    pub line: usize,
+}
+
 /// What is found in a line.
 #[derive(Clone, Copy, Debug, PartialEq, Eq, Drop)]
 pub enum Kind {
@@ -10,12 +17,18 @@ pub enum Kind {
     Overridden { line: usize },
     /// The line with this number of the same file defines the sequence again, with the same text.
     Repeated { line: usize },
+    /// The line at this place defines a longer sequence that begins with that of this one.
+    Prefix(LinePlace),
     /// The keysym beside the string has another character.
     Keysym,
     /// The text has one combining mark twice in a row.
     Mark,
     /// The text is not in normal form C.
     Form,
+    /// The comment stands most often beside another text, and the text beside another comment.
+    Comment,
+    /// The line at this place, of an included file, gives the sequence the same text.
+    Redundant(LinePlace),
     /// The reader doesn't take the line, or types it otherwise.
     Reader(Reader, Class),
 }

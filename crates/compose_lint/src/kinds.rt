@@ -5,20 +5,28 @@ ghost use Rattle.std.specs.Option.{option_and_then};
 ghost use Rattle.indexmap.specs.IndexMap.{get_by};
 ghost use Rattle.compose_lint.specs.Counting.{last_defining};
 ghost use Rattle.compose_lint.specs.Productions.{production_of};
+ghost use Rattle.compose_lint.specs.Lines.{all_lines};
+ghost use Rattle.compose_lint.specs.Longer.{longer_place};
+ghost use Rattle.compose_lint.specs.Comments.{comments_in, turned};
+ghost use Rattle.compose_lint.specs.Commonest.{IsLed, times};
 ghost use Rattle.compose_lint.specs.Findings as words;
 
 use crate::classes::{
     has_digit_name, has_eleven_keysyms, has_letter_escape, has_longest_text, has_no_string,
     has_no_symbol, has_ten_keysyms, has_wide_keysym,
 };
+use crate::comments::has_misplaced_comment;
+use crate::commonest::Leaders;
 use crate::counting::{LastLines, last_lines};
 use crate::definition::LineDefinition;
 use crate::faults::push_fault_kinds;
 use crate::file_lines::{has_return, has_spaced_name, is_after_mark, is_without_newline};
 use crate::finding::{Finding, Kind};
 use crate::lines::LintLine;
+use crate::longer::LongerPlaces;
 use crate::production::Production;
 use crate::reader::{Class, Reader, Readers};
+use crate::source_lines::SourceLines;
 use crate::texts::{has_other_character, is_normal, repeats_mark};
 use compose_read::ReadFault;
 use keysym_core::{Keysym, Names};
@@ -304,8 +312,8 @@ fn push_kinds_if(
     }
 }
 
-/// What is found in a line of the file.
-fn line_kinds(
+/// What is found in a line of the file by that file alone.
+fn own_kinds(
     alloc: Global,
     file: LintFile<'_, '_>,
     last: &LastLines<'_>,
@@ -316,7 +324,7 @@ fn line_kinds(
         ≡ last_defining file.lines.now q.now }
     ensures { IfOk result
         (λ kinds. kinds.items
-        ≡ words.line_kinds file.entry.names.now file.entry.readers file.entry.faults.now
+        ≡ words.own_kinds file.entry.names.now file.entry.readers file.entry.faults.now
         file.entry.bytes.now file.entry.lines.now line.now) }
 {
     let mut kinds = Vec::new(alloc);
@@ -349,22 +357,110 @@ fn push_kinds(
     Ok(())
 }
 
+/// Adds that a line of any file defines a longer sequence that begins with that of the line, if so.
+fn push_prefix_kinds(
+    kinds: &mut Vec<Kind>,
+    files: &[SourceLines<'_>],
+    longer: &LongerPlaces<'_>,
+    line: &LintLine<'_>,
+) -> Result<(), AllocError>
+    requires { (q : Bor (List ℕ))
+        → get_by (λ k. bytes_eq q.now k.now) longer.now ≡ longer_place (all_lines files.now) q.now }
+    ensures { OnOk result
+        (kinds.new.items ≡ kinds.old.items ++ words.prefix_kinds (all_lines files.now) line.now) }
+{
+    if let Some(definition) = line.definition() {
+        if let Some(place) = longer.get(definition.sequence()) {
+            kinds.push(Kind::Prefix(*place))?;
+        }
+    }
+    Ok(())
+}
+
+/// Adds that the line says again what the included files say, if so.
+fn push_redundant_kinds(
+    kinds: &mut Vec<Kind>,
+    included: &[LintLine<'_>],
+    last: &LastLines<'_>,
+    line: &LintLine<'_>,
+) -> Result<(), AllocError>
+    requires { (q : Bor (List ℕ))
+        → option_and_then (slice_get included.now) (get_by (λ k. bytes_eq q.now k.now) last.now)
+        ≡ last_defining included.now q.now }
+    ensures { OnOk result
+        (kinds.new.items ≡ kinds.old.items ++ words.redundant_kinds included.now line.now) }
+{
+    let Some(definition) = line.definition() else {
+        return Ok(());
+    };
+    match counting_line(included, last, definition.sequence()) {
+        Some(counting) => push_again(kinds, definition, counting),
+        None => Ok(()),
+    }
+}
+
+/// Adds that the line says the same again as this line of an included file, if so.
+fn push_again(
+    kinds: &mut Vec<Kind>,
+    definition: &LineDefinition,
+    counting: &LintLine<'_>,
+) -> Result<(), AllocError>
+    ensures { OnOk result
+        (kinds.new.items ≡ kinds.old.items ++ words.again definition.now counting.now) }
+{
+    let is_same = gives_text(definition.text(), counting);
+    push_when(kinds, is_same, Kind::Redundant(counting.place()))
+}
+
+/// What the lines of all files say of a line: the places of longer sequences, and what stands most
+/// often beside each comment and beside each text.
+#[derive(Clone, Copy)]
+pub(crate) struct AllFiles<'c, 'b, 'a> {
+    pub(crate) files: &'b [SourceLines<'a>],
+    pub(crate) longer: &'c LongerPlaces<'b>,
+    pub(crate) by_comment: &'c Leaders<'b>,
+    pub(crate) by_text: &'c Leaders<'b>,
+}
+
 /// Adds what is found in the lines of a file, in order. O(bytes).
 pub(crate) fn push_findings(
     alloc: Global,
     findings: &mut Vec<Finding>,
+    all: AllFiles<'_, '_, '_>,
     file: LintFile<'_, '_>,
+    included: &[LintLine<'_>],
 ) -> Result<(), AllocError>
+    requires longer { (q : Bor (List ℕ))
+        → get_by (λ k. bytes_eq q.now k.now) all.longer.now
+        ≡ longer_place (all_lines all.files.now) q.now }
+    requires comments { (k : Bor (List ℕ))
+        → IsLed (times (comments_in (all_lines all.files.now)) k.now) k.now
+        (comments_in (all_lines all.files.now))
+        (get_by (λ p. bytes_eq k.now p.now) all.by_comment.now) }
+    requires texts { (k : Bor (List ℕ))
+        → IsLed (times (map turned (comments_in (all_lines all.files.now))) k.now) k.now
+        (map turned (comments_in (all_lines all.files.now)))
+        (get_by (λ p. bytes_eq k.now p.now) all.by_text.now) }
     ensures { OnOk result
         (findings.new.items
         ≡ findings.old.items
         ++ words.findings_in file.entry.names.now file.entry.readers file.entry.faults.now
-        file.entry.bytes.now file.entry.lines.now) }
+        (all_lines all.entry.files.now)
+        (record {
+          bytes = file.entry.bytes.now;
+          lines = file.entry.lines.now;
+          included = included.now;
+        })) }
 {
     let lines = file.lines;
     let last = last_lines(alloc, lines)?;
+    let last_included = last_lines(alloc, included)?;
     for line in lines {
-        let kinds = line_kinds(alloc, file, &last, line)?;
+        let mut kinds = own_kinds(alloc, file, &last, line)?;
+        push_prefix_kinds(&mut kinds, all.files, all.longer, line)?;
+        let is_misplaced = has_misplaced_comment(all.files, all.by_comment, all.by_text, line);
+        push_when(&mut kinds, is_misplaced, Kind::Comment)?;
+        push_redundant_kinds(&mut kinds, included, &last_included, line)?;
         push_kinds(findings, line, &kinds)?;
     }
     Ok(())

@@ -3,7 +3,9 @@ ghost use Rattle.std.specs.Prelude.{◌≡◌, ◌<◌, length, map, IfOk};
 ghost use Rattle.compose_read.specs.Lines.{own_lines, without_mark};
 ghost use Rattle.compose_lint.specs.Lines.{lines_in};
 
+use crate::comment::comment_of;
 use crate::definition::{LineDefinition, line_definition};
+use crate::finding::LinePlace;
 use crate::production::{Production, production_of};
 use compose_read::Sources;
 use compose_text::first_line;
@@ -21,9 +23,12 @@ pub(crate) struct LintLine<'a> {
     /// Its bytes, without the newline.
     pub(crate) bytes: &'a [u8],
     pub(crate) definition: Option<LineDefinition>,
+    /// The comment beside its string.
+    pub(crate) comment: Option<&'a [u8]>,
 }
 
 impl<'a> Model for LintLine<'a> {
+    ghost use Rattle.std.specs.Prelude.{option_copied};
     ghost use Rattle.compose_lint.specs.Lines as lines;
 
     ghost Value = { lines.LintLine };
@@ -33,12 +38,14 @@ impl<'a> Model for LintLine<'a> {
       line = l.line;
       bytes = l.bytes.now;
       definition = l.definition;
+      comment = option_copied l.comment;
     } };
 }
 
 impl<'a> LintLine<'a> {
     ghost use Rattle.std.specs.Prelude.{◌≡◌, option_copied};
     ghost use Rattle.compose_lint.specs.Productions.{production_of};
+    ghost use Rattle.compose_lint.specs.Longer.{place_of};
 
     /// The definition that it gives.
     pub(crate) fn definition(&self) -> Option<&LineDefinition>
@@ -61,11 +68,28 @@ impl<'a> LintLine<'a> {
         self.line
     }
 
+    /// Where it stands.
+    pub(crate) fn place(&self) -> LinePlace
+        ensures { result ≡ place_of self.now }
+    {
+        LinePlace {
+            source: self.source,
+            line: self.line,
+        }
+    }
+
     /// Its bytes, without the newline.
     pub(crate) fn bytes(&self) -> &'a [u8]
         ensures { result.now ≡ self.now.bytes }
     {
         self.bytes
+    }
+
+    /// The comment beside its string, if it has both.
+    pub(crate) fn comment(&self) -> Option<&'a [u8]>
+        ensures { option_copied result ≡ self.now.comment }
+    {
+        self.comment
     }
 
     /// What it writes, if it reads as a production.
@@ -93,11 +117,13 @@ pub(crate) fn lines_in<'a>(
         line += 1;
         rest = behind;
         let definition = line_definition(alloc, names, bytes)?;
+        let comment = comment_of(bytes);
         lines.push(LintLine {
             source,
             line,
             bytes,
             definition,
+            comment,
         })?;
     }
     Ok(lines)

@@ -1,39 +1,102 @@
 //! What is found in a table.
-ghost use Rattle.std.specs.Prelude.{◌≡◌, IfOk};
-ghost use Rattle.compose_lint.specs.Findings.{findings};
+ghost use Rattle.std.specs.Prelude.{◌≡◌, ℕ, List, map, IfOk, bytes_eq};
+ghost use Rattle.std.specs.Borrow.{Bor};
+ghost use Rattle.indexmap.specs.IndexMap.{get_by};
+ghost use Rattle.compose_lint.specs.Lines.{all_lines};
+ghost use Rattle.compose_lint.specs.Longer.{longer_place};
+ghost use Rattle.compose_lint.specs.Comments.{comments_in, turned};
+ghost use Rattle.compose_lint.specs.Commonest.{IsLed, times};
+ghost use Rattle.compose_lint.specs.Findings.{findings, findings_of};
 
+use crate::comments::{comments_in, texts_of};
+use crate::commonest::leaders;
 use crate::finding::Finding;
-use crate::kinds::{LintFile, push_findings};
-use crate::lines::lines_in;
+use crate::kinds::{AllFiles, LintFile, push_findings};
+use crate::longer::longer_places;
 use crate::reader::Readers;
+use crate::source_lines::{SourceLines, all_sources};
 use compose_read::{ReadFault, Sources};
 use keysym_core::Names;
 use std::alloc::{AllocError, Global};
 
 /// What is found in the lines of the sources, each line once: by source, by line, and in a line by
 /// kind. Of the given faults, those of these sources, a line has the first one that stands in it. A
-/// faulty line defines nothing. Of other readers only those that are asked for are found. O(bytes +
-/// lines × faults) time, and memory for the lines of one source and the findings.
+/// faulty line defines nothing. Of other readers only those that are asked for are found, and what
+/// included files say too only where all is asked for. O(bytes + lines × faults) time, and memory
+/// for the lines of all sources and the findings; where all is asked for, the lines that a source
+/// includes are read and kept for each source.
 pub fn find_findings(
     alloc: Global,
     names: &Names,
     sources: &Sources,
     readers: Readers,
+    is_all: bool,
     faults: &[ReadFault],
 ) -> Result<Vec<Finding>, AllocError>
-    ensures { IfOk result (λ found. found.items ≡ findings names.now readers faults.now sources.now) }
+    ensures { IfOk result
+        (λ found. found.items ≡ findings names.now readers is_all faults.now sources.now) }
+{
+    let files = all_sources(alloc, names, sources, is_all)?;
+    findings_of(alloc, names, readers, faults, &files)
+}
+
+/// What is found in the lines of these files.
+fn findings_of(
+    alloc: Global,
+    names: &Names,
+    readers: Readers,
+    faults: &[ReadFault],
+    files: &[SourceLines<'_>],
+) -> Result<Vec<Finding>, AllocError>
+    ensures { IfOk result
+        (λ found. found.items ≡ findings_of names.now readers faults.now files.now) }
+{
+    let longer = longer_places(alloc, files)?;
+    let comments = comments_in(alloc, files)?;
+    let texts = texts_of(alloc, &comments)?;
+    let by_comment = leaders(alloc, &comments)?;
+    let by_text = leaders(alloc, &texts)?;
+    let all = AllFiles {
+        files,
+        longer: &longer,
+        by_comment: &by_comment,
+        by_text: &by_text,
+    };
+    findings_by(alloc, names, readers, faults, all)
+}
+
+/// The same by what the lines of all files say of a line.
+fn findings_by(
+    alloc: Global,
+    names: &Names,
+    readers: Readers,
+    faults: &[ReadFault],
+    all: AllFiles<'_, '_, '_>,
+) -> Result<Vec<Finding>, AllocError>
+    requires longer { (q : Bor (List ℕ))
+        → get_by (λ k. bytes_eq q.now k.now) all.longer.now
+        ≡ longer_place (all_lines all.files.now) q.now }
+    requires comments { (k : Bor (List ℕ))
+        → IsLed (times (comments_in (all_lines all.files.now)) k.now) k.now
+        (comments_in (all_lines all.files.now))
+        (get_by (λ p. bytes_eq k.now p.now) all.by_comment.now) }
+    requires texts { (k : Bor (List ℕ))
+        → IsLed (times (map turned (comments_in (all_lines all.files.now))) k.now) k.now
+        (map turned (comments_in (all_lines all.files.now)))
+        (get_by (λ p. bytes_eq k.now p.now) all.by_text.now) }
+    ensures { IfOk result
+        (λ found. found.items ≡ findings_of names.now readers faults.now all.entry.files.now) }
 {
     let mut found = Vec::new(alloc);
-    for source in 0..sources.count() {
-        let lines = lines_in(alloc, names, sources, source)?;
+    for source in all.files {
         let file = LintFile {
             names,
             readers,
             faults,
-            bytes: sources.bytes(source),
-            lines: &lines,
+            bytes: source.bytes(),
+            lines: source.lines(),
         };
-        push_findings(alloc, &mut found, file)?;
+        push_findings(alloc, &mut found, all, file, source.included())?;
     }
     Ok(found)
 }

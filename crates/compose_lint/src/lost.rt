@@ -20,7 +20,7 @@ pub fn lost_count(alloc: Global, names: &Names, sources: &Sources) -> Result<usi
         gtk3: false,
         gtk4: false,
     };
-    let found = find_findings(alloc, names, sources, readers, &[])?;
+    let found = find_findings(alloc, names, sources, readers, false, &[])?;
     Ok(skipped_count(&found))
 }
 

@@ -3,7 +3,7 @@ ghost use Rattle.std.specs.Prelude.{◌≡◌, ◌++◌, [], slice_get, map, IfO
 ghost use Rattle.std.specs.Option.{option_map_or};
 ghost use Rattle.compose_lint.specs.Report as words;
 
-use crate::finding::{Finding, Kind};
+use crate::finding::{Finding, Kind, LinePlace};
 use crate::reader::{Class, Reader};
 use compose_messages::{fault_position, read_message};
 use compose_read::{ReadFault, Sources};
@@ -87,11 +87,16 @@ impl fmt::Display for Kind {
                     "repeated: line {line} gives the sequence the same text again"
                 )
             }
+            Kind::Prefix(_) => f.write_str("prefix"),
             Kind::Keysym => f.write_str(
                 "keysym: the keysym after the string has another character",
             ),
             Kind::Mark => f.write_str("mark: the text has one combining mark twice in a row"),
             Kind::Form => f.write_str("form: the text is not in normal form C"),
+            Kind::Comment => f.write_str(
+                "comment: the comment stands most often beside another text, and the text beside another comment",
+            ),
+            Kind::Redundant(_) => f.write_str("redundant"),
             Kind::Reader(reader, class) => write!(f, "{reader}: {class}"),
         }
     }
@@ -133,6 +138,8 @@ fn push_line(text: &mut String, found_in: FoundIn<'_>, finding: Finding) -> Resu
 {
     match finding.kind {
         Kind::Fault { index } => push_fault_at(text, found_in, index),
+        Kind::Prefix(place) => push_prefix(text, found_in.paths, finding, place),
+        Kind::Redundant(place) => push_redundant(text, found_in.paths, finding, place),
         _ => push_kind(text, found_in.paths, finding),
     }
 }
@@ -184,6 +191,91 @@ fn push_kind(text: &mut String, paths: &[&str], finding: Finding) -> Result<(), 
     let (line, kind) = (finding.line, finding.kind);
     writeln!(text, "{path}:{line}:1: {kind}")?;
     Ok(())
+}
+
+/// Adds the path and the number of a line.
+fn push_place(text: &mut String, paths: &[&str], place: LinePlace) -> Result<(), AllocError>
+    ensures { OnOk result
+        (string_bytes text.new
+        ≡ string_bytes text.old ++ words.place_text (map (λ path. path.now) paths.now) place) }
+{
+    let (path, line) = (Shown(path_of(paths, place.source)), place.line);
+    write!(text, "{path}:{line}")?;
+    Ok(())
+}
+
+/// Adds the column 1 and the word of a kind.
+fn push_kind_text(text: &mut String, word: &str) -> Result<(), AllocError>
+    ensures { OnOk result
+        (string_bytes text.new ≡ string_bytes text.old ++ words.kind_text word.now) }
+{
+    text.push_str(":1: ")?;
+    text.push_str(word)?;
+    text.push_str(": ")
+}
+
+/// Adds a sentence behind a place, and a newline.
+fn push_sentence(text: &mut String, sentence: &str) -> Result<(), AllocError>
+    ensures { OnOk result
+        (string_bytes text.new ≡ string_bytes text.old ++ words.sentence_text sentence.now) }
+{
+    text.push_str(" ")?;
+    text.push_str(sentence)?;
+    text.push_str("\n")
+}
+
+/// Adds the line of a finding of this kind, with the place of another line and what is said of it.
+fn push_beside(
+    text: &mut String,
+    word: &str,
+    sentence: &str,
+    paths: &[&str],
+    finding: Finding,
+    place: LinePlace,
+) -> Result<(), AllocError>
+    ensures { OnOk result
+        (string_bytes text.new
+        ≡ string_bytes text.old
+        ++ words.beside_line word.now sentence.now (map (λ path. path.now) paths.now) finding place) }
+{
+    let (source, line) = (finding.source, finding.line);
+    push_place(text, paths, LinePlace { source, line })?;
+    push_kind_text(text, word)?;
+    push_place(text, paths, place)?;
+    push_sentence(text, sentence)
+}
+
+/// Adds the line of a finding, where a line at this place defines a longer sequence.
+fn push_prefix(
+    text: &mut String,
+    paths: &[&str],
+    finding: Finding,
+    place: LinePlace,
+) -> Result<(), AllocError>
+    ensures { OnOk result
+        (string_bytes text.new
+        ≡ string_bytes text.old
+        ++ words.prefix_line (map (λ path. path.now) paths.now) finding place) }
+{
+    let sentence =
+        "defines a longer sequence that begins with this one, and the longer one is typed";
+    push_beside(text, "prefix", sentence, paths, finding, place)
+}
+
+/// Adds the line of a finding, where a line at this place of an included file says the same.
+fn push_redundant(
+    text: &mut String,
+    paths: &[&str],
+    finding: Finding,
+    place: LinePlace,
+) -> Result<(), AllocError>
+    ensures { OnOk result
+        (string_bytes text.new
+        ≡ string_bytes text.old
+        ++ words.redundant_line (map (λ path. path.now) paths.now) finding place) }
+{
+    let sentence = "is included, and gives the sequence the same text";
+    push_beside(text, "redundant", sentence, paths, finding, place)
 }
 
 /// The path of the source with this index; nothing where there is none.

@@ -36,6 +36,7 @@ use Rattle.compose_listing.specs.Line.{keys_text, place_comment, listed_line}
 use Rattle.compose_listing.specs.Line as printed
 use Rattle.compose_listing.specs.Held.{is_writable}
 use Rattle.compose_listing.specs.Listing.{line_of, sequence_line, listing}
+use Rattle.compose_listing.specs.declared.form.ListForm.TheVariants.{Lines}
 use Rattle.compose_listing.proofs.Said.{IsNamed, counts_named, is_read}
 
 -- ---- no newline but the last byte
@@ -151,9 +152,9 @@ module _ (names : KeysymNames) (sources : List Source) (paths : List (List ℕ))
           line_plain line.keys (text_for s) (get_or paths line.place.source []) line.place.line keys
 
   module _ (s : List ℕ) (here : IsListable s) where
-    ended : sequence_line names lines paths table s ≡ words s ++ 10 ∷ []
+    ended : sequence_line Lines names lines paths table s ≡ words s ++ 10 ∷ []
     ended =
-        ap (λ o. option_map_or (line_of paths (text_for s)) o []) here.counts
+        ap (λ o. option_map_or (line_of Lines paths (text_for s)) o []) here.counts
         ∙ ap (λ o. option_map_or (words_of s) o [] ++ 10 ∷ []) (sym here.counts)
 
     some_text : length (text_for s) == 0 ≡ false
@@ -210,7 +211,7 @@ module _ (names : KeysymNames) (sources : List Source) (paths : List (List ℕ))
 
   -- ---- all of them
 
-  pub joined : (xs : List (List ℕ)) → All IsListable xs → flat_map (sequence_line names lines paths table) xs ≡ flat_map (λ s. words s ++ 10 ∷ []) xs
+  pub joined : (xs : List (List ℕ)) → All IsListable xs → flat_map (sequence_line Lines names lines paths table) xs ≡ flat_map (λ s. words s ++ 10 ∷ []) xs
   joined [] h = refl
   joined (x ∷ xs) h = ap₂ (λ a b. a ++ b) (ended x (All-head IsListable x xs h)) (joined xs (All-tail IsListable x xs h))
 

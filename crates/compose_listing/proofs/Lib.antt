@@ -1,4 +1,8 @@
 pub mod Lines
+pub mod Ordered
+pub mod Keys
+pub mod Parts
+pub mod Followed
 pub mod Said
 pub mod Again
 pub mod Table

@@ -1,14 +1,23 @@
 -- What `how` and `list` answer on a table in its sources (this project's profile).
-use Rattle.std.specs.Prelude.{◌≡◌, ℕ, Bool, nat_lt, if◌then◌else◌, List, [], ◌∷◌, map, take, flat_map, length, string_bytes}
+use Rattle.std.specs.Prelude.{◌≡◌, ℕ, Bool, nat_lt, if◌then◌else◌, List, [], ◌∷◌, map, take, filter, flat_map, length, Option, Some, None, Result, Ok, string_bytes}
+use Rattle.compose_text.specs.Results.{◌>>=◌}
 use Rattle.keysym_core.specs.Names.{KeysymNames}
 use Rattle.compose_model.specs.Table.{Definition}
+use Rattle.compose_model.specs.Certificate.{Repertoire}
+use Rattle.compose_cert.specs.Repertoire.{repertoire_of}
 use Rattle.compose_read.specs.Lines.{Source, Visit}
 use Rattle.compose_places.specs.Counting.{read_lines}
-use Rattle.compose_answer.specs.Parts.{TypedParts}
+use Rattle.compose_migration.specs.Migration.{TableSources, or_because}
+use Rattle.compose_check.specs.Input.{no_repertoire}
+use Rattle.compose_answer.specs.Parts.{NoAnswer, TypedParts, type_parts, unread}
 use Rattle.compose_answer.specs.declared.answer.Answer.{Answer}
 use Rattle.compose_answer.specs.declared.answer.Answer.TheVariants.{Yes, No, Invalid, FreshNotAllowed}
 use Rattle.compose_lookup.specs.Lookup.{giving, shortest_first}
-use Rattle.compose_listing.specs.Listing.{listing, sequence_line}
+use Rattle.compose_listing.specs.Chosen.{chosen, is_typable, AreInOrder}
+use Rattle.compose_listing.specs.Listing.{sequence_line}
+use Rattle.compose_listing.specs.Next.{next_lines}
+use Rattle.compose_listing.specs.declared.form.ListForm.{ListForm}
+use Rattle.compose_listing.specs.declared.form.ListOrder.{ListOrder}
 use Rattle.compose_listing.specs.declared.how.Ways.{Ways}
 
 -- the name of the first source, which is the root; without sources an empty one
@@ -22,28 +31,61 @@ lines_of_sources sources = read_lines sources (root_of sources)
 
 -- ---- list
 
--- a line for each sequence of the table, in order
-abbrev pub IsListed : List Source → List (List ℕ) → TypedParts → Answer → Type 0
-IsListed sources paths p (Yes text) = string_bytes text ≡ listing p.names (lines_of_sources sources) paths p.table
-IsListed sources paths p (No text) = ⊥
-IsListed sources paths p (Invalid fault) = ⊥
-IsListed sources paths p (FreshNotAllowed keysym) = ⊥
+-- the lines of exactly the sequences that begin with these keys, and give the text if one is asked for, each once and in the order that is asked for
+pub record IsListing (names : KeysymNames) (visits : List Visit) (paths : List (List ℕ)) (table : List Definition) (keys : List ℕ) (text : Option (List ℕ))
+    (order : ListOrder) (form : ListForm) (printed : List ℕ) : Type 0 where
+  pub sequences : List (List ℕ)
+  pub in_order : AreInOrder order names visits table (chosen table keys text) sequences
+  pub lines : printed ≡ flat_map (sequence_line form names visits paths table) sequences
+
+abbrev pub IsListed : List Source → List (List ℕ) → Option (List ℕ) → ListOrder → ListForm → TypedParts → Answer → Type 0
+IsListed sources paths text order form p (Yes printed) = IsListing p.names (lines_of_sources sources) paths p.table p.keys text order form (string_bytes printed)
+IsListed sources paths text order form p (No printed) = ⊥
+IsListed sources paths text order form p (Invalid fault) = ⊥
+IsListed sources paths text order form p (FreshNotAllowed keysym) = ⊥
+
+-- a line for each key with which some sequence goes on after the keys
+abbrev pub IsNext : ListForm → TypedParts → Answer → Type 0
+IsNext form p (Yes printed) = string_bytes printed ≡ next_lines form p.names p.table p.keys
+IsNext form p (No printed) = ⊥
+IsNext form p (Invalid fault) = ⊥
+IsNext form p (FreshNotAllowed keysym) = ⊥
 
 -- ---- how
+
+-- the names and the table, and the repertoire if one is given
+pub record HowParts : Type 0 where
+  pub typed : TypedParts
+  pub repertoire : Option Repertoire
+
+abbrev pub given_repertoire : Option (List ℕ) → Result (Option Repertoire) NoAnswer
+given_repertoire None = Ok None
+given_repertoire (Some bytes) = or_because (λ why. unread (no_repertoire why)) (repertoire_of bytes) >>= (λ r. Ok (Some r))
+
+-- they are read in the order names, table, repertoire
+abbrev pub how_parts : List ℕ → TableSources → Option (List ℕ) → Result HowParts NoAnswer
+how_parts header given repertoire = do
+  p ← type_parts header [] given
+  r ← given_repertoire repertoire
+  Ok (record { typed = p; repertoire = r })
 
 -- all of them, or the first alone
 abbrev pub shown_of : {X : Type 0} → Bool → List X → List X
 shown_of first xs = if first then take 1 xs else xs
 
--- the lines of the sequences that give a text, the shortest first
-abbrev pub ways : KeysymNames → List Visit → List (List ℕ) → List Definition → Bool → List ℕ → List ℕ
-ways names visits paths table first text = flat_map (sequence_line names visits paths table) (shown_of first (shortest_first (giving table text)))
+-- the sequences that give a text and have keys of the repertoire alone, if one is given: the shortest first
+abbrev pub typed_by : List Definition → Option Repertoire → List ℕ → List (List ℕ)
+typed_by table repertoire text = filter (is_typable repertoire) (shortest_first (giving table text))
 
--- some sequence gives the text
-abbrev pub is_given : List Definition → List ℕ → Bool
-is_given table text = nat_lt 0 (length (shortest_first (giving table text)))
+-- what is printed of them
+abbrev pub ways : ListForm → KeysymNames → List Visit → List (List ℕ) → List Definition → Option Repertoire → Bool → List ℕ → List ℕ
+ways form names visits paths table repertoire first text = flat_map (sequence_line form names visits paths table) (shown_of first (typed_by table repertoire text))
 
--- for each text in turn its lines, and whether some sequence gives it
-pub record AreWays (sources : List Source) (paths texts : List (List ℕ)) (first : Bool) (p : TypedParts) (answer : Ways) : Type 0 where
-  pub lines : string_bytes answer.lines ≡ flat_map (ways p.names (lines_of_sources sources) paths p.table first) texts
-  pub found : answer.found.items ≡ map (is_given p.table) texts
+-- there is one
+abbrev pub is_given : List Definition → Option Repertoire → List ℕ → Bool
+is_given table repertoire text = nat_lt 0 (length (typed_by table repertoire text))
+
+-- for each text in turn its lines, and whether there are any
+pub record AreWays (sources : List Source) (paths texts : List (List ℕ)) (first : Bool) (form : ListForm) (p : HowParts) (answer : Ways) : Type 0 where
+  pub lines : string_bytes answer.lines ≡ flat_map (ways form p.typed.names (lines_of_sources sources) paths p.typed.table p.repertoire first) texts
+  pub found : answer.found.items ≡ map (is_given p.typed.table p.repertoire) texts

@@ -1,12 +1,36 @@
--- The lines of leaves. Words for private functions.
-use Rattle.std.specs.Prelude.{ℕ, List, [], get_or, Option, None}
+-- The leaves of a table that is listed. Words for private functions.
+use Rattle.std.specs.Prelude.{ℕ, Bool, true, false, ◌&&◌, List, [], get_or, filter, Option, None}
 use Rattle.std.specs.Option.{option_map_or}
+use Rattle.keysym_core.specs.Names.{KeysymNames, value}
 use Rattle.compose_model.specs.Table.{Definition}
+use Rattle.compose_model.specs.Certificate.{Repertoire, is_key}
 use Rattle.compose_tree.specs.declared.table.LeafId.{LeafId}
 use Rattle.compose_places.specs.Counting.{WrittenLine}
-use Rattle.compose_lookup.specs.TextIndex.{text_of}
+use Rattle.compose_lookup.specs.TextIndex.{text_of, has_text, sequence_at}
+use Rattle.compose_listing.specs.Chosen.{begins_with, is_typable, place_of}
 use Rattle.compose_listing.specs.Listing.{line_of}
+use Rattle.compose_listing.specs.declared.form.ListForm.{ListForm}
 
--- the line of a leaf's sequence, where these are the lines that count for the leaves
-abbrev pub leaf_line : List Definition → List (Option WrittenLine) → List (List ℕ) → LeafId → List ℕ
-leaf_line table lines paths leaf = option_map_or (line_of paths (text_of table leaf)) (get_or lines leaf.0 None) []
+-- what is printed of a leaf's sequence, where these are the lines that count for the leaves
+abbrev pub leaf_line : ListForm → List Definition → List (Option WrittenLine) → List (List ℕ) → LeafId → List ℕ
+leaf_line form table lines paths leaf = option_map_or (line_of form paths (text_of table leaf)) (get_or lines leaf.0 None) []
+
+-- the leaf has the text, if one is asked for
+abbrev pub has_asked : List Definition → Option (List ℕ) → LeafId → Bool
+has_asked table text leaf = option_map_or (λ t. has_text table t leaf) text true
+
+-- the leaf's sequence begins with these keys, and has the text if one is asked for
+abbrev pub is_chosen : List Definition → List ℕ → Option (List ℕ) → LeafId → Bool
+is_chosen table keys text leaf = begins_with keys (sequence_at table leaf) && has_asked table text leaf
+
+-- those of leaves whose sequences the repertoire's keys can type
+abbrev pub typable_leaves : List Definition → Option Repertoire → List LeafId → List LeafId
+typable_leaves table repertoire leaves = filter (λ leaf. is_typable repertoire (sequence_at table leaf)) leaves
+
+-- the key is one of the repertoire's
+abbrev pub is_typable_key : KeysymNames → Repertoire → List ℕ → Bool
+is_typable_key names repertoire key = option_map_or (is_key repertoire) (value names key) false
+
+-- the place of the line that counts for a leaf
+abbrev pub place_at : List (Option WrittenLine) → LeafId → ℕ × ℕ
+place_at lines leaf = place_of (get_or lines leaf.0 None)

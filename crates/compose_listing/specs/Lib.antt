@@ -1,6 +1,8 @@
 pub mod Line
 pub mod Listing
+pub mod Chosen
 pub mod Leaves
+pub mod Next
 pub mod Answers
 pub mod Held
 pub mod Wanted

@@ -1,8 +1,11 @@
--- The line of a sequence in the form of a Compose file (Compose(5), "FILE DESCRIPTION"), with its place as a comment.
+-- The line of a sequence in the form of a Compose file (Compose(5), "FILE DESCRIPTION"), with its place as a comment; or a JSON object (RFC 8259).
 use Rattle.std.specs.Prelude.{ℕ, ◌==◌, if◌then◌else◌, List, ◌++◌, length, flat_map, codes}
 use Rattle.std.specs.Fmt.{decimal}
 use Rattle.compose_lex.specs.Escape.{quote}
 use Rattle.compose_shown.specs.Shown.{shown_text}
+use Rattle.compose_diff.specs.Json.{json_string, json_strings}
+use Rattle.compose_listing.specs.declared.form.ListForm.{ListForm}
+use Rattle.compose_listing.specs.declared.form.ListForm.TheVariants.{Lines, Json}
 
 -- each key between `<` and `>`, and a blank after it
 abbrev pub keys_text : List (List ℕ) → List ℕ
@@ -19,3 +22,12 @@ place_comment path line = codes "  # " ++ (shown_text path ++ (codes ":" ++ deci
 -- as `<Multi_key> <e> : "é"  # en_US.UTF-8/Compose:123`
 abbrev pub listed_line : List (List ℕ) → List ℕ → List ℕ → ℕ → List ℕ
 listed_line keys text path line = keys_text keys ++ (codes ": " ++ (result_text text ++ place_comment path line))
+
+-- as `{"keys":["Multi_key","e"],"text":"é","file":"en_US.UTF-8/Compose","line":123}`
+abbrev pub listed_object : List (List ℕ) → List ℕ → List ℕ → ℕ → List ℕ
+listed_object keys text path line =
+    codes "{\"keys\":" ++ (json_strings keys ++ (codes ",\"text\":" ++ (json_string text ++ (codes ",\"file\":" ++ (json_string path ++ (codes ",\"line\":" ++ (decimal line ++ codes "}")))))))
+
+abbrev pub listed : ListForm → List (List ℕ) → List ℕ → List ℕ → ℕ → List ℕ
+listed Lines = listed_line
+listed Json = listed_object

@@ -1,15 +1,17 @@
-//! The sequences of a table as lines of a Compose file: those that give a text, and all of them.
+//! The sequences of a table as lines of a Compose file, or as JSON: those that give a text, and those that begin with some keys.
 //!
 //! [`how_to_type`] gives the lines of the sequences that give a text, the shortest first, and [`list_table`] those of all sequences of a table, as
-//! they count. What it gives is a Compose file without includes, which is read as the same table ([`law_listing`]).
+//! they count, or of some of them. What it gives of all is a Compose file without includes, which is read as the same table ([`law_listing`]).
+//! [`list_next`] gives the keys that can follow some keys.
 //!
 //! ```text
-//! how_to_type::<PackedTable>(alloc, names, &table, &paths, &["≠"], true)?.lines
+//! let wanted = HowWanted { texts: &["≠"], repertoire: None, first: true, form: ListForm::Lines };
+//! how_to_type::<PackedTable>(alloc, names, &table, &paths, wanted)?.lines
 //! <Multi_key> <equal> <slash> : "≠"  # /usr/share/X11/locale/en_US.UTF-8/Compose:123
 //! ```
 #![tactic(auto)]
 
-ghost use Rattle.std.specs.Prelude.{◌≡◌, ℕ, List, [], ◌∷◌, Ok, map, IsTrue};
+ghost use Rattle.std.specs.Prelude.{◌≡◌, ℕ, List, [], ◌∷◌, None, Ok, map, IsTrue};
 ghost use Rattle.std.specs.Str.{is_utf8};
 ghost use Rattle.keysym_core.specs.Names.{KeysymNames};
 ghost use Rattle.compose_model.specs.Table.{Definition};
@@ -18,25 +20,34 @@ ghost use Rattle.compose_model.specs.declared.Rule as rules;
 ghost use Rattle.compose_read.specs.Lines.{Visit};
 ghost use Rattle.compose_tree.specs.TableGives.{table_of};
 ghost use Rattle.compose_places.specs.Counting.{counting_line, AreLines};
+ghost use Rattle.compose_listing.specs.Chosen.{chosen};
 ghost use Rattle.compose_listing.specs.Held.{IsBuilt, are_writable};
 ghost use Rattle.compose_listing.specs.Listing.{listing};
 
+mod chosen;
+mod form;
 mod how;
+mod json;
 mod line;
 mod list;
 mod listed;
+mod next;
+mod order;
 mod read;
 mod wanted;
 
-pub use how::{Ways, how_to_type};
-pub use list::list_table;
+pub use form::{ListForm, ListOrder};
+pub use how::{HowWanted, Ways, how_to_type};
+pub use list::{ListWanted, list_table};
+pub use next::list_next;
 pub use wanted::wanted_text;
 
 /// What is listed of a table is read as the same table, by either rule of overlaps and under any name: of a table that is built, of which each
 /// sequence has a line that counts, as it has in a table that is read, and whose texts are such as the string of a Compose file can write. What
-/// is printed is a text, as a `String` always is.
+/// is printed is a text, as a `String` always is. Where no keys and no text are asked for, the sequences of a list are all of the table.
 pub fn law_listing()
-    ensures { (names : KeysymNames) (lines : List Visit) (paths : List (List ℕ))
+    ensures whole { (table : List Definition) → chosen table [] None ≡ leaves table }
+    ensures again { (names : KeysymNames) (lines : List Visit) (paths : List (List ℕ))
         (table : List Definition) (root : List ℕ) (rule : rules.Rule) → IsBuilt table
         → AreLines names table (map (counting_line names lines) (leaves table))
         → IsTrue (are_writable table) → IsTrue (is_utf8 (listing names lines paths table))

@@ -1,32 +1,63 @@
-//! The line of a sequence in the form of a Compose file.
+//! What is printed of a sequence.
 ghost use Rattle.std.specs.Prelude.{◌≡◌, ◌++◌, ◌∷◌, [], map, OnOk, string_bytes};
 ghost use Rattle.compose_listing.specs.Line as words;
 
+use crate::form::ListForm;
+use crate::json::{push_json_string, push_json_strings};
 use compose_lex::quote;
 use compose_shown::Shown;
 use std::alloc::{AllocError, Global};
 use std::fmt::Write;
 
-/// Appends the line of a sequence and a newline to the lines: its keys, its text, and the path and the line of its place as a comment.
-pub(crate) fn push_line(
+/// What a line of the list tells of a sequence.
+#[derive(Clone, Copy)]
+pub(crate) struct ListedSequence<'a> {
+    /// The names of its keys.
+    pub(crate) keys: &'a [&'a str],
+    pub(crate) text: &'a str,
+    /// The path of the file in which it is defined.
+    pub(crate) path: &'a str,
+    /// The line in it, from 1.
+    pub(crate) line: usize,
+}
+
+/// Appends what is printed of a sequence, and a newline, to the lines.
+pub(crate) fn push_sequence(
     alloc: Global,
     lines: &mut String,
-    keys: &[&str],
-    text: &str,
-    path: &str,
-    line: usize,
+    form: ListForm,
+    sequence: ListedSequence<'_>,
 ) -> Result<(), AllocError>
     ensures { OnOk result
         (string_bytes lines.new
         ≡ string_bytes lines.old
-        ++ (words.listed_line (map (λ key. key.now) keys.now) text.now path.now line
+        ++ (words.listed form (map (λ key. key.now) sequence.entry.keys.now)
+        sequence.entry.text.now sequence.entry.path.now sequence.entry.line
         ++ 10 ∷ [])) }
 {
-    push_keys(lines, keys)?;
-    lines.push_str(": ")?;
-    push_result(alloc, lines, text)?;
-    push_place(lines, path, line)?;
+    match form {
+        ListForm::Lines => push_line(alloc, lines, sequence)?,
+        ListForm::Json => push_object(lines, sequence)?,
+    }
     lines.push('\n')
+}
+
+/// Appends the line of a sequence to the lines: its keys, its text, and the path and the line of its place as a comment.
+fn push_line(
+    alloc: Global,
+    lines: &mut String,
+    sequence: ListedSequence<'_>,
+) -> Result<(), AllocError>
+    ensures { OnOk result
+        (string_bytes lines.new
+        ≡ string_bytes lines.old
+        ++ words.listed_line (map (λ key. key.now) sequence.entry.keys.now)
+        sequence.entry.text.now sequence.entry.path.now sequence.entry.line) }
+{
+    push_keys(lines, sequence.keys)?;
+    lines.push_str(": ")?;
+    push_result(alloc, lines, sequence.text)?;
+    push_place(lines, sequence.path, sequence.line)
 }
 
 /// Appends the keys between `<` and `>`, and a blank after each.
@@ -44,7 +75,7 @@ fn push_keys(lines: &mut String, keys: &[&str]) -> Result<(), AllocError>
 }
 
 /// Appends the text in quotes, or the name of the keysym without a text where it is empty.
-fn push_result(alloc: Global, lines: &mut String, text: &str) -> Result<(), AllocError>
+pub(crate) fn push_result(alloc: Global, lines: &mut String, text: &str) -> Result<(), AllocError>
     ensures { OnOk result
         (string_bytes lines.new ≡ string_bytes lines.old ++ words.result_text text.now) }
 {
@@ -64,5 +95,24 @@ fn push_place(lines: &mut String, path: &str, line: usize) -> Result<(), AllocEr
 {
     let path = Shown(path);
     write!(lines, "  # {path}:{line}")?;
+    Ok(())
+}
+
+/// Appends the JSON object of a sequence to the lines.
+fn push_object(lines: &mut String, sequence: ListedSequence<'_>) -> Result<(), AllocError>
+    ensures { OnOk result
+        (string_bytes lines.new
+        ≡ string_bytes lines.old
+        ++ words.listed_object (map (λ key. key.now) sequence.entry.keys.now)
+        sequence.entry.text.now sequence.entry.path.now sequence.entry.line) }
+{
+    lines.push_str("{\"keys\":")?;
+    push_json_strings(lines, sequence.keys)?;
+    lines.push_str(",\"text\":")?;
+    push_json_string(lines, sequence.text)?;
+    lines.push_str(",\"file\":")?;
+    push_json_string(lines, sequence.path)?;
+    let line = sequence.line;
+    write!(lines, ",\"line\":{line}}}")?;
     Ok(())
 }

@@ -1,61 +1,84 @@
-//! The sequences of a table as a Compose file.
-ghost use Rattle.std.specs.Prelude.{◌≡◌, ℕ, List, [], map, IfOk, string_bytes};
-ghost use Rattle.keysym_core.specs.Names.{KeysymNames};
+//! The sequences of a table, in the form of a Compose file or as JSON.
+ghost use Rattle.std.specs.Prelude.{◌≡◌, ℕ, List, map, option_copied, IfOk, string_bytes};
 ghost use Rattle.compose_model.specs.Nodes.{leaves};
 ghost use Rattle.compose_read.specs.Lines.{Visit};
-ghost use Rattle.compose_places.specs.Counting.{counting_line};
+ghost use Rattle.compose_places.specs.Counting.{counting_line, AreLines};
 ghost use Rattle.compose_migration.specs.MigrationGives.{table_given};
 ghost use Rattle.compose_answer.specs.Parts.{type_parts};
 ghost use Rattle.compose_answer.specs.Refused.{Gives};
-ghost use Rattle.compose_listing.specs.Answers.{IsListed};
-ghost use Rattle.compose_listing.specs.Listing.{listing};
+ghost use Rattle.compose_listing.specs.Answers.{IsListed, IsListing};
 
-use crate::listed::{ListedTable, push_leaf};
+use crate::chosen::chosen_leaves;
+use crate::form::{ListForm, ListOrder};
+use crate::listed::{ListedTable, push_leaves};
+use crate::order::put_in_order;
 use crate::read::{read_names, read_placed};
 use compose_answer::{Answer, Refusal};
 use compose_migration::TableInput;
 use compose_places::PlacedTable;
-use compose_tree::{ComposeTable, LeafId};
+use compose_tree::ComposeTable;
+use keysym_core::Keysym;
 use std::alloc::{AllocError, Global};
 
-/// The table as it counts, as the lines of a Compose file: a line for each sequence, in order, which read again give the same table. The names and
-/// the table are read in this order, and the first that is refused decides. O(bytes of the sources).
+/// Which sequences of a table are printed, and how.
+#[derive(Clone, Copy, Debug)]
+pub struct ListWanted<'a> {
+    /// The names of the keys with which they begin.
+    pub prefix: &'a [&'a str],
+    /// The text that they give, if one is asked for.
+    pub text: Option<&'a str>,
+    pub order: ListOrder,
+    pub form: ListForm,
+}
+
+/// The sequences of the table that are asked for, as they count, each once and in the order that is asked for. Where all are asked for in the order
+/// of their keys, as lines, they are a Compose file that gives the same table. The names, the keysyms of the prefix and the table are read in this
+/// order, and the first that is refused decides. O(bytes of the sources + n log n) for n sequences.
 pub fn list_table<T: ComposeTable>(
     alloc: Global,
     header: &[u8],
     table: &TableInput<'_>,
     paths: &[&str],
+    wanted: ListWanted<'_>,
 ) -> Result<Answer, Refusal>
     ensures { Gives
-        (IsListed table.entry.now.sources.now (map (λ path. path.now) paths.now)) result
-        (type_parts header.now [] (table_given table.entry.now)) }
+        (IsListed table.entry.now.sources.now (map (λ path. path.now) paths.now)
+        (option_copied wanted.entry.text) wanted.entry.order wanted.entry.form) result
+        (type_parts header.now (map (λ key. key.now) wanted.entry.prefix.now)
+        (table_given table.entry.now)) }
 {
-    let named = read_names(alloc, header)?;
+    let named = read_names(alloc, header, wanted.prefix)?;
     let placed: PlacedTable<'_, T> = read_placed(alloc, &named.names, table)?;
     let listed = ListedTable {
+        names: &named.names,
         table: &placed.table,
         lines: &placed.lines,
         paths,
     };
-    Ok(Answer::Yes(lines_of(alloc, &listed)?))
+    Ok(Answer::Yes(lines_of(alloc, &listed, &named.keys, wanted)?))
 }
 
-/// The lines of all sequences, in order.
+/// What is printed of the sequences that begin with these keys, and that are asked for otherwise.
 fn lines_of<T: ComposeTable>(
     alloc: Global,
     listed: &ListedTable<'_, T>,
+    prefix: &[Keysym],
+    wanted: ListWanted<'_>,
 ) -> Result<String, AllocError>
-    ensures { (names : KeysymNames) (visits : List Visit)
-        → listed.now.lines.now
-        ≡ map (counting_line names visits) (leaves (T.definitions listed.now.table.now))
+    requires { AreLines listed.now.names.now (T.definitions listed.now.table.now)
+        listed.now.lines.now }
+    ensures { (visits : List Visit) → listed.now.lines.now
+        ≡ map (counting_line listed.now.names.now visits)
+        (leaves (T.definitions listed.now.table.now))
         → IfOk result
-        (λ lines. string_bytes lines
-        ≡ listing names visits
-        (map (λ path. path.now) listed.now.paths.now) (T.definitions listed.now.table.now)) }
+        (λ lines. IsListing listed.now.names.now visits
+        (map (λ path. path.now) listed.now.paths.now) (T.definitions listed.now.table.now)
+        prefix.now (option_copied wanted.entry.text) wanted.entry.order wanted.entry.form
+        (string_bytes lines)) }
 {
+    let mut leaves = chosen_leaves(alloc, listed, prefix, wanted.text)?;
+    put_in_order(listed, &mut leaves, wanted.order)?;
     let mut lines = String::new(alloc);
-    for number in 0..listed.table.leaf_count() {
-        push_leaf(alloc, &mut lines, listed, LeafId(number))?;
-    }
+    push_leaves(alloc, &mut lines, wanted.form, listed, &leaves)?;
     Ok(lines)
 }

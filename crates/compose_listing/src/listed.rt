@@ -1,16 +1,19 @@
-//! The sequences of a table as lines of a Compose file.
-ghost use Rattle.std.specs.Prelude.{◌≡◌, ◌++◌, [], get_or, map, flat_map, OnOk, string_bytes};
+//! The sequences of a table as they are printed.
+ghost use Rattle.std.specs.Prelude.{◌≡◌, ◌++◌, [], None, get_or, map, flat_map, option_copied, OnOk, string_bytes};
 ghost use Rattle.compose_listing.specs.Leaves.{leaf_line};
 
-use crate::line::push_line;
+use crate::form::ListForm;
+use crate::line::{ListedSequence, push_sequence};
 use compose_lookup::text_of;
 use compose_places::CountingLine;
 use compose_tree::{ComposeTable, LeafId};
+use keysym_core::Names;
 use std::alloc::{AllocError, Global};
 
-/// A table, the lines of its sequences that count, and the paths of its sources.
+/// A table, the names with which it is read, the lines of its sequences that count, and the paths of its sources.
 #[derive(Drop)]
 pub(crate) struct ListedTable<'a, T> {
+    pub(crate) names: &'a Names,
     pub(crate) table: &'a T,
     /// For each leaf, by its number, the line that counts for its sequence, as `read_placed_table` gives them.
     pub(crate) lines: &'a [Option<CountingLine<'a>>],
@@ -18,26 +21,44 @@ pub(crate) struct ListedTable<'a, T> {
     pub(crate) paths: &'a [&'a str],
 }
 
-/// Appends the line of a leaf's sequence to the lines.
-pub(crate) fn push_leaf<T: ComposeTable>(
+/// Appends what is printed of a leaf's sequence to the lines.
+fn push_leaf<T: ComposeTable>(
     alloc: Global,
     lines: &mut String,
+    form: ListForm,
     listed: &ListedTable<'_, T>,
     leaf: LeafId,
 ) -> Result<(), AllocError>
     ensures { OnOk result
         (string_bytes lines.new
         ≡ string_bytes lines.old
-        ++ leaf_line (T.definitions listed.now.table.now)
+        ++ leaf_line form (T.definitions listed.now.table.now)
         listed.now.lines.now (map (λ path. path.now) listed.now.paths.now) leaf) }
 {
-    let Some(Some(line)) = listed.lines.get(leaf.0 as usize) else {
+    let Some(line) = line_at(listed.lines, leaf) else {
         return Ok(());
     };
     let (keys, place) = (line.keys(), line.place());
-    let text = text_of(listed.table, leaf);
-    let path = path_at(listed.paths, place.source);
-    push_line(alloc, lines, keys.as_slice(), text, path, place.line)
+    let sequence = ListedSequence {
+        keys: keys.as_slice(),
+        text: text_of(listed.table, leaf),
+        path: path_at(listed.paths, place.source),
+        line: place.line,
+    };
+    push_sequence(alloc, lines, form, sequence)
+}
+
+/// The line that counts for a leaf, if it is there.
+pub(crate) fn line_at<'a, 'l>(
+    lines: &'l [Option<CountingLine<'a>>],
+    leaf: LeafId,
+) -> Option<&'l CountingLine<'a>>
+    ensures { option_copied result ≡ get_or lines.now leaf.0 None }
+{
+    match lines.get(leaf.0 as usize) {
+        Some(Some(line)) => Some(line),
+        _ => None,
+    }
 }
 
 /// The path at this index; none after the last one.
@@ -50,10 +71,11 @@ fn path_at<'a>(paths: &[&'a str], index: usize) -> &'a str
     }
 }
 
-/// Appends the lines of these leaves' sequences to the lines, in their order.
+/// Appends what is printed of these leaves' sequences to the lines, in their order.
 pub(crate) fn push_leaves<T: ComposeTable>(
     alloc: Global,
     lines: &mut String,
+    form: ListForm,
     listed: &ListedTable<'_, T>,
     leaves: &[LeafId],
 ) -> Result<(), AllocError>
@@ -61,11 +83,11 @@ pub(crate) fn push_leaves<T: ComposeTable>(
         (string_bytes lines.new
         ≡ string_bytes lines.old
         ++ flat_map
-        (leaf_line (T.definitions listed.now.table.now)
+        (leaf_line form (T.definitions listed.now.table.now)
         listed.now.lines.now (map (λ path. path.now) listed.now.paths.now)) leaves.now) }
 {
     for leaf in leaves {
-        push_leaf(alloc, lines, listed, *leaf)?;
+        push_leaf(alloc, lines, form, listed, *leaf)?;
     }
     Ok(())
 }

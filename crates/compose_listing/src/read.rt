@@ -1,15 +1,18 @@
-//! Names and a table with the lines that count, read in this order.
-ghost use Rattle.std.specs.Prelude.{◌≡◌, [], map, IfOk};
+//! What `list` and `how` are given, read part by part.
+ghost use Rattle.std.specs.Prelude.{◌≡◌, map, IfOk};
 ghost use Rattle.compose_model.specs.Nodes.{leaves};
-ghost use Rattle.compose_places.specs.Counting.{counting_line, read_lines};
+ghost use Rattle.compose_places.specs.Counting.{counting_line, read_lines, AreLines};
 ghost use Rattle.compose_tree.specs.TableGives.{TableGives, first_table};
+ghost use Rattle.compose_cert.specs.Repertoire.{repertoire_of};
+ghost use Rattle.compose_check.specs.Input.{no_repertoire};
 ghost use Rattle.compose_migration.specs.Migration.{or_because};
 ghost use Rattle.compose_migration.specs.MigrationGives.{named_parts};
-ghost use Rattle.compose_answer.specs.Parts.{given_key_names, no_only_table};
+ghost use Rattle.compose_answer.specs.Parts.{given_key_names, no_only_table, unread};
 ghost use Rattle.compose_answer.specs.Refused.{Gives};
 ghost use Rattle.compose_listing.specs.Answers.{root_of};
 
 use compose_answer::Refusal;
+use compose_cert::{Repertoire, RepertoireFault};
 use compose_migration::{Named, TableInput};
 use compose_model::Rule;
 use compose_places::{PlacedTable, read_placed_table};
@@ -18,17 +21,30 @@ use compose_tree::{ComposeTable, TableFault};
 use keysym_core::Names;
 use std::alloc::Global;
 
-/// The names of a header.
-pub(crate) fn read_names(alloc: Global, header: &[u8]) -> Result<Named, Refusal>
-    ensures { Gives (λ said read. said ≡ named_parts read) result (given_key_names header.now []) }
+/// The names of a header, and the keysyms of key names.
+pub(crate) fn read_names(alloc: Global, header: &[u8], key_names: &[&str]) -> Result<Named, Refusal>
+    ensures { Gives (λ said read. said ≡ named_parts read) result
+        (given_key_names header.now (map (λ name. name.now) key_names.now)) }
 {
-    match Named::read(alloc, header, &[]) {
+    match Named::read(alloc, header, key_names) {
         Ok(named) => Ok(named),
         Err(fault) => Err(Refusal::from(fault)),
     }
 }
 
-/// The one table that is given, and the lines that count for its sequences.
+/// The characters that people need, and the keys that they have.
+pub(crate) fn read_repertoire(alloc: Global, bytes: &[u8]) -> Result<Repertoire, Refusal>
+    ensures { Gives (λ said repertoire. said ≡ repertoire) result
+        (or_because (λ why. unread (no_repertoire why)) (repertoire_of bytes.now)) }
+{
+    match Repertoire::read(alloc, bytes) {
+        Ok(repertoire) => Ok(repertoire),
+        Err(RepertoireFault::NoMemory) => Err(Refusal::NoMemory),
+        Err(fault) => Err(Refusal::Repertoire(fault)),
+    }
+}
+
+/// The one table that is given, and the lines that count for its sequences, whose keys these sequences are.
 pub(crate) fn read_placed<'a, T: ComposeTable>(
     alloc: Global,
     names: &Names,
@@ -43,6 +59,8 @@ pub(crate) fn read_placed<'a, T: ComposeTable>(
         (counting_line names.now
         (read_lines input.now.sources.now (root_of input.now.sources.now)))
         (leaves (T.definitions placed.table))) }
+    ensures named { IfOk result
+        (λ placed. AreLines names.now (T.definitions placed.table) placed.lines.items) }
 {
     match read_first(alloc, names, input.sources, input.rule) {
         Ok(placed) => Ok(placed),
@@ -64,6 +82,8 @@ fn read_first<'a, T: ComposeTable>(
         (λ placed. placed.lines.items
         ≡ map (counting_line names.now (read_lines sources.now (root_of sources.now)))
         (leaves (T.definitions placed.table))) }
+    ensures named { IfOk result
+        (λ placed. AreLines names.now (T.definitions placed.table) placed.lines.items) }
 {
     let Some(root) = sources.name(0) else {
         return Err(TableFault::Read(ReadFault::MissingRoot));

@@ -1,2 +1,3 @@
 pub mod Lookup
 pub mod TextIndex
+pub mod Longer

@@ -2,7 +2,7 @@
 use Rattle.std.specs.Prelude.{ℕ, Bool, false, nat_eq, List, length, filter, flat_map}
 use Rattle.std.specs.Option.{option_map_or}
 use Rattle.std.specs.List.{range_with_len}
-use Rattle.compose_model.specs.Table.{Definition, same, text_at}
+use Rattle.compose_model.specs.Table.{Definition, same, text_at, is_proper_prefix}
 use Rattle.compose_model.specs.Nodes.{leaves}
 
 -- the table gives this text for the sequence s
@@ -20,3 +20,7 @@ key_counts = range_with_len 1 32
 -- those of one key, then those of two, and so on up to 32; of one length as they were
 abbrev pub shortest_first : List (List ℕ) → List (List ℕ)
 shortest_first sequences = flat_map (λ n. filter (λ s. nat_eq (length s) n) sequences) key_counts
+
+-- how many sequences of a table go on from these keys
+abbrev pub count_after : List Definition → List ℕ → ℕ
+count_after table keys = length (filter (is_proper_prefix keys) (leaves table))

@@ -1,7 +1,8 @@
-//! Which sequences of a table give a text.
+//! Which sequences of a table give a text, and how many go on from a node.
 //!
 //! A [`TextIndex`] is made of a table once. It then finds the leaves of all sequences that give a text, the shortest first, and those
-//! of one length in order: the first of them is the shortest way to type the text.
+//! of one length in order: the first of them is the shortest way to type the text. [`first_longer`] is the shortest sequence that goes on
+//! from a node.
 //!
 //! ```text
 //! <Multi_key> <x> <y> : "é"     leaf 0
@@ -10,9 +11,15 @@
 //! let index = TextIndex::new(alloc, &table)?;
 //! index.leaves_with(&table, "é")    // [LeafId(1), LeafId(0)]
 //! ```
+//!
+//! [`sort_by_text`] puts any leaves in the order of their texts, and [`sequences_after`] counts the sequences that go on from a node.
 #![tactic(auto)]
 
+mod counts;
 mod lengths;
+mod longer;
 mod text_index;
 
-pub use text_index::{TextIndex, text_of};
+pub use counts::sequences_after;
+pub use longer::first_longer;
+pub use text_index::{TextIndex, sort_by_text, text_of};

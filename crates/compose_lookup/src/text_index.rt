@@ -94,8 +94,9 @@ pub fn text_of<'t, T: ComposeTable>(table: &'t T, leaf: LeafId) -> &'t str
     }
 }
 
-/// Puts leaves in the order of their texts, those of one text as they were. O(n log n) comparisons of texts.
-fn sort_by_text<T: ComposeTable>(table: &T, leaves: &mut Vec<LeafId>) -> Result<(), AllocError>
+/// Puts leaves in the order of their texts, those of one text as they were. Where memory is refused they are in any order. O(n log n) comparisons of
+/// texts.
+pub fn sort_by_text<T: ComposeTable>(table: &T, leaves: &mut Vec<LeafId>) -> Result<(), AllocError>
     ensures permutation { IsPermutation leaves.old.items leaves.new.items }
     ensures sorted { OnOk result
         (IsSortedByKey (text_of (T.definitions table.now)) (slice_cmp nat_cmp) leaves.new.items) }

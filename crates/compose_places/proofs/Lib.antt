@@ -9,3 +9,6 @@ pub mod CountingSoFar
 pub mod BegunLines
 pub mod LastLines
 pub mod CountingLaw
+pub mod Distinct
+pub mod LeftOut
+pub mod Others

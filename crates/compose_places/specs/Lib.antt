@@ -3,3 +3,4 @@ pub mod Last
 pub mod Events
 pub mod SequenceList
 pub mod Counting
+pub mod Overlaps

@@ -1,5 +1,5 @@
 //! The line of each sequence of a table that counts, and its keys as it writes them.
-ghost use Rattle.std.specs.Prelude.{◌≡◌, ◌≤◌, ℕ, List, None, Some, map, length, filter, take, replicate, slice_get, true, false, MatchOption, IfOk};
+ghost use Rattle.std.specs.Prelude.{◌≡◌, ◌≤◌, ◌++◌, ℕ, List, not, None, Some, map, length, filter, take, replicate, slice_get, true, false, MatchOption, IfOk};
 ghost use Rattle.std.specs.Option.{option_map};
 ghost use Rattle.keysym_core.specs.Names.{KeysymNames};
 ghost use Rattle.compose_model.specs.Table.{is_sequence};
@@ -119,14 +119,20 @@ fn begins_definition(line: &[u8]) -> bool
     line[blank_len(line)..].starts_with(b"<")
 }
 
-/// For each leaf of the table, by its number, the line that counts: the last one of these that define these sequences. O(keysyms × log edges of a node).
-pub(crate) fn last_lines<'a, T: ComposeTable>(
+/// For each leaf of the table, by its number, the line that counts: the last one of these that define these sequences. Those that the table doesn't
+/// have are put behind the others. O(keysyms × log edges of a node).
+pub(crate) fn last_lines<'a, 's, T: ComposeTable>(
     alloc: Global,
     lines: &[CountingLine<'a>],
-    sequences: &SequenceList,
+    sequences: &'s SequenceList,
     table: &T,
+    others: &mut Vec<&'s [Keysym]>,
 ) -> Result<Vec<Option<CountingLine<'a>>>, AllocError>
-    ensures { (names : KeysymNames) (visits : List Visit) → lines.now ≡ map written_line visits
+    ensures others { IfOk result
+        (λ _. map (λ s. s.now) others.new.items
+        ≡ map (λ s. s.now) others.old.items
+        ++ filter (λ s. not (is_sequence (T.definitions table.now) s)) sequences.now) }
+    ensures lines { (names : KeysymNames) (visits : List Visit) → lines.now ≡ map written_line visits
         → map Some sequences.now ≡ map (λ v. defined_sequence names v.bytes) visits
         → IfOk result
         (λ kept. kept.items ≡ map (counting_line names visits) (leaves (T.definitions table.now))) }
@@ -135,8 +141,10 @@ pub(crate) fn last_lines<'a, T: ComposeTable>(
     let _ = table.node_count();
     let mut kept = no_lines(alloc, table.leaf_count())?;
     for index in 0..sequences.len() {
-        if let Some(leaf) = leaf_of(table, sequences.sequence(index)) {
-            kept[leaf.0 as usize] = line_at(lines, index);
+        let sequence = sequences.sequence(index);
+        match leaf_of(table, sequence) {
+            Some(leaf) => kept[leaf.0 as usize] = line_at(lines, index),
+            None => others.push(sequence)?,
         }
     }
     Ok(kept)

@@ -27,6 +27,7 @@ ghost use Rattle.compose_places.specs.Events.{written_events};
 mod counting;
 mod events;
 mod last;
+mod overlaps;
 mod placed;
 mod places;
 mod sequence_list;

@@ -2,9 +2,11 @@
 ghost use Rattle.std.specs.Prelude.{◌≡◌, map, IfOk};
 ghost use Rattle.compose_model.specs.Nodes.{leaves};
 ghost use Rattle.compose_places.specs.Counting.{counting_line, read_lines};
+ghost use Rattle.compose_places.specs.Overlaps.{overlap_count};
 ghost use Rattle.compose_tree.specs.TableGives.{TableGives, table_of};
 
 use crate::counting::{CountingLine, begun_lines, last_lines};
+use crate::overlaps::count_distinct;
 use crate::sequence_list::sequences_of;
 use compose_model::Rule;
 use compose_read::{Sources, read_definitions, settle};
@@ -20,6 +22,8 @@ pub struct PlacedTable<'a, T: ComposeTable> {
     /// For each leaf, by its number, the line that counts for its sequence: of the lines that are read from the root the last one that
     /// defines it.
     pub lines: Vec<Option<CountingLine<'a>>>,
+    /// How many sequences are defined with which longer ones begin, each once. With `Rule::Longest` the table has none of them.
+    pub overlaps: usize,
 }
 
 /// The table that is read from the root by the rule, as by `read_table`, and the line of each of its sequences that counts. No line is lexed
@@ -37,6 +41,8 @@ pub fn read_placed_table<'a, T: ComposeTable>(
         (λ placed. placed.lines.items
         ≡ map (counting_line names.now (read_lines sources.now root.now))
         (leaves (T.definitions placed.table))) }
+    ensures overlaps { IfOk result
+        (λ placed. placed.overlaps ≡ overlap_count names.now sources.now root.now) }
 {
     let definitions = read_definitions(alloc, names, sources, root)?;
     let Ok(begun) = begun_lines(alloc, definitions.len(), sources, root) else {
@@ -47,8 +53,16 @@ pub fn read_placed_table<'a, T: ComposeTable>(
     };
     let sequences = settle(alloc, definitions, rule)?;
     let table = T::build(alloc, sequences)?;
-    let Ok(lines) = last_lines(alloc, &begun, &read, &table) else {
+    let mut others = Vec::new(alloc);
+    let Ok(lines) = last_lines(alloc, &begun, &read, &table, &mut others) else {
         return Err(TableFault::NoMemory);
     };
-    Ok(PlacedTable { table, lines })
+    let Ok(overlaps) = count_distinct(others) else {
+        return Err(TableFault::NoMemory);
+    };
+    Ok(PlacedTable {
+        table,
+        lines,
+        overlaps,
+    })
 }

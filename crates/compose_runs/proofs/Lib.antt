@@ -1,2 +1,5 @@
+pub mod Failing
+pub mod Given
 pub mod Lent
+pub mod Slashes
 pub mod Variables

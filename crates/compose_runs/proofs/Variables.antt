@@ -1,6 +1,6 @@
 -- Of two variables the first that is set to something.
 use Rattle.std.proofs.Common.{◌≡◌, ap, ◌∙◌, ℕ, Bool, true, false, List, Global}
-use Rattle.std.specs.Prelude.{◌==◌, if◌then◌else◌, Option, Some, None, Result, Ok, Err, string_bytes, string_len}
+use Rattle.std.specs.Prelude.{◌==◌, if◌then◌else◌, Option, Some, None, Ok, Err, string_bytes, string_len}
 use Rattle.std.specs.declared.string.String.{String}
 use Rattle.compose_runs.specs.Variables.{Said, first_set, text_of}
 use Rattle.compose_runs.specs.declared.environment.Variable.{Variable}

@@ -1,11 +1,11 @@
 -- What the environment says (POSIX: `LC_ALL` before `LC_CTYPE` before `LANG`; Xlib: `XLOCALEDIR`; no-color.org: `NO_COLOR`).
-use Rattle.std.specs.Prelude.{◌≡◌, ℕ, Bool, false, if◌then◌else◌, List, [], ◌∷◌, Option, Some, None, is_none, option_copied, Result, Ok, Err, unwrap_or, codes}
-use Rattle.std.specs.Option.{option_or}
+use Rattle.std.specs.Prelude.{◌≡◌, ℕ, Bool, false, if◌then◌else◌, List, Option, is_none, option_copied, Result, Ok, Err, unwrap_or, codes}
+use Rattle.std.specs.Option.{option_or, option_map}
 use Rattle.compose_text.specs.Results.{◌>>=◌}
 use Rattle.compose_input.specs.declared.fault.Fault.{Fault}
 use Rattle.compose_input.specs.declared.fault.Fault.TheVariants.{Word}
 use Rattle.compose_input.specs.declared.places.Places.{Places}
-use Rattle.compose_runs.specs.Variables.{Said, text_of, first_set, IsBeginning}
+use Rattle.compose_runs.specs.Variables.{Said, text_of, first_set, without_slashes}
 use Rattle.compose_runs.specs.declared.environment.Environment.{Environment}
 use Rattle.compose_runs.specs.declared.environment.PlaceArguments.{PlaceArguments}
 
@@ -26,23 +26,21 @@ places_of e = do
   home ← text_of e.home
   Ok (record { system = system; locale = locale; home = home })
 
--- a root that is given, without slashes at its end
-abbrev pub IsRoot : Option (List ℕ) → Option (List ℕ) → Type 0
-IsRoot None root = root ≡ None
-IsRoot (Some given) None = ⊥
-IsRoot (Some given) (Some root) = IsBeginning given root
-
 -- where tables lie: as the arguments say, or else the environment, or else below /usr/share/X11/locale
 pub record ArePlaces (arguments : PlaceArguments) (said : SaidPlaces) (places : Places) : Type 0 where
   pub system : places.system.now ≡ unwrap_or (option_or (option_copied arguments.system) said.system) (codes "/usr/share/X11/locale")
   pub tree : option_copied places.tree ≡ option_copied arguments.system
   pub locale : option_copied places.locale ≡ option_or (option_copied arguments.locale) said.locale
   pub home : option_copied places.home ≡ said.home
-  pub root : IsRoot (option_copied arguments.root) (option_copied places.root)
+  pub root : option_copied places.root ≡ option_map without_slashes (option_copied arguments.root)
 
 abbrev pub GivesPlaces : PlaceArguments → Result Places Fault → Said SaidPlaces → Type 0
 GivesPlaces arguments (Ok places) said = (parts : SaidPlaces) × (said ≡ Ok parts) × ArePlaces arguments parts places
 GivesPlaces arguments (Err fault) said = (said ≡ Err tt) × (fault ≡ Word)
+
+-- where tables lie, by the arguments and this environment
+abbrev pub IsPlaced : Environment → PlaceArguments → Places → Type 0
+IsPlaced environment arguments places = GivesPlaces arguments (Ok places) (places_of environment)
 
 -- on a terminal, unless `NO_COLOR` is set to something; elsewhere it is not looked at
 abbrev pub wants_color : Environment → Said Bool

@@ -1,2 +1,14 @@
 pub mod Variables
 pub mod Environment
+pub mod Own
+pub mod Files
+pub mod Typing
+pub mod Explaining
+pub mod CheckFiles
+pub mod Checking
+pub mod Making
+pub mod Manifest
+pub mod DiffFiles
+pub mod Differing
+pub mod Faults
+pub mod OneTable

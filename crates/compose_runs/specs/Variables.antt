@@ -1,6 +1,7 @@
 -- The variables of the environment (POSIX, "Environment Variables"). One that is set to nothing is as one that is not set.
-use Rattle.std.specs.Prelude.{◌≡◌, ℕ, ◌==◌, if◌then◌else◌, List, length, take, Option, Some, None, option_copied, Result, Ok, Err, string_bytes, string_len}
+use Rattle.std.specs.Prelude.{◌≡◌, ℕ, ◌==◌, ◌-◌, nat_eq, if◌then◌else◌, List, length, take, Option, Some, None, option_copied, Result, Ok, Err, string_bytes, string_len}
 use Rattle.std.proofs.Common.{Bor}
+use Rattle.std.specs.List.{suffix_len}
 use Rattle.compose_input.specs.declared.fault.Fault.{Fault}
 use Rattle.compose_input.specs.declared.fault.Fault.TheVariants.{Word}
 use Rattle.compose_runs.specs.declared.environment.Variable.{Variable}
@@ -27,6 +28,6 @@ first_set (Ok None) next = next
 first_set (Ok (Some text)) next = Ok (Some text)
 first_set (Err fault) next = Err fault
 
--- the path begins with this one
-abbrev pub IsBeginning : List ℕ → List ℕ → Type 0
-IsBeginning path start = start ≡ take (length start) path
+-- a path without the slashes (code 47) at its end
+abbrev pub without_slashes : List ℕ → List ℕ
+without_slashes path = take (length path - suffix_len (nat_eq 47) path) path

@@ -1,5 +1,7 @@
 //! `check`: whether a certificate is valid.
-ghost use Rattle.std.specs.Prelude.{◌≡◌};
+ghost use Rattle.std.specs.Prelude.{◌≡◌, map, IfOk, IfErr};
+ghost use Rattle.compose_runs.specs.Faults.{FailsCheck};
+ghost use Rattle.compose_runs.specs.Checking.{IsCheckRun, IsCheckOutcome, AnswersCheck, allowed_names};
 
 use crate::files::MigrationFiles;
 use crate::options::Options;
@@ -31,6 +33,9 @@ struct CheckFiles<'n> {
 }
 
 impl<'n> CheckFiles<'n> {
+    ghost use Rattle.compose_check.specs.CheckGives.{input_of};
+    ghost use Rattle.compose_runs.specs.CheckFiles.{AreCheckFiles, check_given};
+
     /// Reads the files of names, those of both tables, the repertoire and the certificate.
     fn read<F: Folder>(
         files: &mut ReadOnce<F>,
@@ -39,6 +44,12 @@ impl<'n> CheckFiles<'n> {
         paths: &CheckPaths<'_>,
     ) -> Result<CheckFiles<'n>, Fault>
         ensures kept { files.new.holds ≡ files.old.holds }
+        ensures read { IfOk result
+            (λ read. AreCheckFiles files.old.holds (map (λ name. name.now) names.now) paths.now
+            read) }
+        ensures fault { IfErr result
+            (λ fault. FailsCheck files.old.holds (map (λ name. name.now) names.now) paths.now
+            fault) }
     {
         let both = MigrationFiles::read(files, alloc, names, &paths.tables)?;
         let repertoire = read_text(files, alloc, paths.repertoire)?;
@@ -51,7 +62,9 @@ impl<'n> CheckFiles<'n> {
     }
 
     /// The check that they are for.
-    fn input(&self) -> CheckInput<'_> {
+    fn input(&self) -> CheckInput<'_>
+        ensures { input_of result ≡ check_given self.now }
+    {
         CheckInput {
             header: &self.both.names.lines,
             old: &self.both.old.sources,
@@ -75,6 +88,12 @@ pub fn run_check<T: ComposeTable, F: Folder>(
     allowed: Option<&[&str]>,
 ) -> Result<Outcome, Fault>
     ensures kept { files.new.holds ≡ files.old.holds }
+    ensures outcome { IfOk result
+        (λ outcome. IsCheckRun files.old.holds options.entry paths.now
+        (allowed_names allowed.entry) outcome) }
+    ensures fault { IfErr result
+        (λ fault. FailsCheck files.old.holds (map (λ name. name.now) options.entry.names.now)
+        paths.now fault) }
 {
     let check = CheckFiles::read(files, alloc, options.names, paths)?;
     Ok(check_outcome::<T>(alloc, options.verbose, &check, paths, allowed)?)
@@ -87,7 +106,11 @@ fn check_outcome<T: ComposeTable>(
     check: &CheckFiles<'_>,
     paths: &CheckPaths<'_>,
     allowed: Option<&[&str]>,
-) -> Result<Outcome, AllocError> {
+) -> Result<Outcome, AllocError>
+    ensures { IfOk result
+        (λ outcome. IsCheckOutcome verbose check.now paths.now (allowed_names allowed.entry)
+        outcome) }
+{
     let answered = check_answer::<T>(alloc, check, allowed);
     let tables = [
         GivenTable::of(&check.both.old),
@@ -108,7 +131,9 @@ fn check_answer<T: ComposeTable>(
     alloc: Global,
     check: &CheckFiles<'_>,
     allowed: Option<&[&str]>,
-) -> Result<Answer, Refusal> {
+) -> Result<Answer, Refusal>
+    ensures { AnswersCheck (allowed_names allowed.entry) result check.now }
+{
     let input = check.input();
     match allowed {
         Some(allowed) => check_allowed::<T>(alloc, &input, allowed),

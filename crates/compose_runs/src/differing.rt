@@ -1,5 +1,13 @@
 //! `diff`: what a new Compose file changes for those who type with the old one.
-ghost use Rattle.std.specs.Prelude.{◌≡◌};
+ghost use Rattle.std.specs.Prelude.{◌≡◌, ◌++◌, ◌∷◌, [], map, IfOk, IfErr, option_copied, string_bytes, codes};
+ghost use Rattle.compose_diff_rows.specs.Answers.{AnswersDiff};
+ghost use Rattle.compose_input.specs.Faults.{FailNames};
+ghost use Rattle.compose_input.specs.Names.{AreNames};
+ghost use Rattle.compose_runs.specs.DiffFiles.{IsAccepted, IsDiffTable, names_or_builtin, place_arguments, rule_by};
+ghost use Rattle.compose_runs.specs.Differing as words;
+ghost use Rattle.compose_runs.specs.Differing.{IsAcceptRefusal, IsDiffOutcome, IsDiffPrinted, IsDiffRun, IsFaultPrinted, IsRefusalOutcome, ShowsAnswer, diff_asked};
+ghost use Rattle.compose_runs.specs.Environment.{GivesColor};
+ghost use Rattle.compose_runs.specs.Faults.{FailsAccepted, FailsDiff, FailsDiffRun, FailsTable};
 
 use crate::environment::{Environment, PlaceArguments};
 use compose_answer::{Answer, Ended, Refusal};
@@ -28,6 +36,12 @@ pub fn run_diff<T: ComposeTable, F: Folder>(
     fresh: &[&str],
 ) -> Result<Outcome, Fault>
     ensures kept { files.new.holds ≡ files.old.holds }
+    ensures outcome { IfOk result
+        (λ outcome. IsDiffRun files.old.holds environment.now (map (λ name. name.now) names.now)
+        arguments.now (map (λ name. name.now) fresh.now) outcome) }
+    ensures fault { IfErr result
+        (λ fault. FailsDiffRun files.old.holds environment.now
+        (map (λ name. name.now) names.now) arguments.now fault) }
 {
     let colored = is_colored(environment, arguments)?;
     let read = DiffFiles::read(files, alloc, environment, names, arguments)?;
@@ -44,6 +58,9 @@ struct DiffFiles<'n> {
 }
 
 impl<'n> DiffFiles<'n> {
+    ghost use Rattle.compose_runs.specs.DiffFiles.{AreDiffFiles, diff_migration_given};
+    ghost use Rattle.compose_migration.specs.MigrationGives.{given_of};
+
     /// Reads the files of names, both tables as they lie on the system, and the list of the changes that are meant.
     fn read<F: Folder>(
         files: &mut ReadOnce<F>,
@@ -53,6 +70,12 @@ impl<'n> DiffFiles<'n> {
         arguments: &DiffArguments<'_>,
     ) -> Result<DiffFiles<'n>, Fault>
         ensures kept { files.new.holds ≡ files.old.holds }
+        ensures read { IfOk result
+            (λ read. AreDiffFiles files.old.holds environment.now
+            (map (λ name. name.now) names.now) arguments.now read) }
+        ensures fault { IfErr result
+            (λ fault. FailsDiff files.old.holds environment.now
+            (map (λ name. name.now) names.now) arguments.now fault) }
     {
         let (old_root, new_root) = (arguments.old_root, arguments.new_root);
         let names = read_names(files, alloc, names)?;
@@ -82,7 +105,10 @@ impl<'n> DiffFiles<'n> {
     }
 
     /// The migration that they are to give, with these names of fresh keysyms.
-    fn input<'a, 'w>(&'a self, fresh: &'a [&'w str]) -> MigrationInput<'a, 'w> {
+    fn input<'a, 'w>(&'a self, fresh: &'a [&'w str]) -> MigrationInput<'a, 'w>
+        ensures { given_of result
+            ≡ diff_migration_given self.now (map (λ name. name.now) fresh.now) }
+    {
         MigrationInput {
             header: &self.names.lines,
             key_names: fresh,
@@ -99,6 +125,12 @@ pub(crate) fn read_names<'n, F: Folder>(
     names: &[&'n str],
 ) -> Result<NameFiles<'n>, Fault>
     ensures kept { files.new.holds ≡ files.old.holds }
+    ensures read { IfOk result
+        (λ read. AreNames files.old.holds
+        (names_or_builtin (map (λ name. name.now) names.now)) read) }
+    ensures fault { IfErr result
+        (λ fault. FailNames files.old.holds
+        (names_or_builtin (map (λ name. name.now) names.now)) fault) }
 {
     if names.is_empty() {
         let builtin: &'n str = "builtin";
@@ -117,6 +149,12 @@ fn read_table<F: Folder>(
     path: &str,
 ) -> Result<TableFiles, Fault>
     ensures kept { files.new.holds ≡ files.old.holds }
+    ensures read { IfOk result
+        (λ table. IsDiffTable files.old.holds environment.now arguments.now root.entry path.now
+        table) }
+    ensures fault { IfErr result
+        (λ fault. FailsTable files.old.holds environment.now
+        (place_arguments arguments.now root.entry) path.now fault) }
 {
     let places = environment.places(PlaceArguments {
         system: arguments.system,
@@ -133,6 +171,10 @@ fn read_accepted<F: Folder>(
     path: Option<&str>,
 ) -> Result<Vec<u8>, Fault>
     ensures kept { files.new.holds ≡ files.old.holds }
+    ensures read { IfOk result
+        (λ accepted. IsAccepted files.old.holds (option_copied path.entry) accepted.items) }
+    ensures fault { IfErr result
+        (λ fault. FailsAccepted files.old.holds (option_copied path.entry) fault) }
 {
     match path {
         Some(path) => read_text(files, alloc, path),
@@ -141,12 +183,16 @@ fn read_accepted<F: Folder>(
 }
 
 /// What is done with overlaps.
-fn rule_of(longest: bool) -> Rule {
+fn rule_of(longest: bool) -> Rule
+    ensures { result ≡ rule_by longest }
+{
     if longest { Rule::Longest } else { Rule::Refuse }
 }
 
 /// How the changes are printed.
-fn form_of(form: DiffForm) -> Form {
+fn form_of(form: DiffForm) -> Form
+    ensures { result ≡ words.form_of form }
+{
     match form {
         DiffForm::Folded => Form::Folded,
         DiffForm::Lines => Form::Lines,
@@ -156,7 +202,9 @@ fn form_of(form: DiffForm) -> Form {
 }
 
 /// Whether the lines are in colours: those for programs never are.
-fn is_colored(environment: &Environment, arguments: &DiffArguments<'_>) -> Result<bool, Fault> {
+fn is_colored(environment: &Environment, arguments: &DiffArguments<'_>) -> Result<bool, Fault>
+    ensures { GivesColor result (words.is_colored environment.now arguments.now) }
+{
     match (arguments.form, arguments.color) {
         (DiffForm::Json | DiffForm::AcceptList, _) => Ok(false),
         (_, DiffColor::Always) => Ok(true),
@@ -172,7 +220,11 @@ fn diff_outcome<T: ComposeTable>(
     arguments: &DiffArguments<'_>,
     fresh: &[&str],
     colored: bool,
-) -> Result<Outcome, AllocError> {
+) -> Result<Outcome, AllocError>
+    ensures { IfOk result
+        (λ outcome. IsDiffOutcome files.now arguments.now (map (λ name. name.now) fresh.now)
+        colored outcome) }
+{
     let answered = diff_answer::<T>(alloc, files, arguments, fresh);
     let printed = printed_outcome::<T>(alloc, files, arguments, fresh, colored, answered)?;
     Ok(printed.with_notes(notes_of(alloc, files)?))
@@ -186,16 +238,41 @@ fn printed_outcome<T: ComposeTable>(
     fresh: &[&str],
     colored: bool,
     answered: Result<Answer, DiffFault>,
-) -> Result<Outcome, AllocError> {
+) -> Result<Outcome, AllocError>
+    ensures { IfOk result
+        (λ outcome. IsDiffPrinted files.now arguments.now (map (λ name. name.now) fresh.now)
+        colored answered outcome) }
+{
     match answered {
         Ok(answer) => answer_outcome(alloc, fresh, answer, colored),
-        Err(DiffFault::Input(refusal)) => refusal_outcome::<T>(alloc, files, fresh, refusal),
-        Err(DiffFault::Accept(fault)) => accept_outcome(alloc, arguments.accept, &fault),
+        Err(fault) => fault_outcome::<T>(alloc, files, arguments, fresh, fault),
+    }
+}
+
+/// The outcome of what is refused on these files.
+fn fault_outcome<T: ComposeTable>(
+    alloc: Global,
+    files: &DiffFiles<'_>,
+    arguments: &DiffArguments<'_>,
+    fresh: &[&str],
+    fault: DiffFault,
+) -> Result<Outcome, AllocError>
+    ensures { IfOk result
+        (λ outcome. IsFaultPrinted files.now arguments.now (map (λ name. name.now) fresh.now)
+        fault outcome) }
+{
+    match fault {
+        DiffFault::Input(refusal) => refusal_outcome::<T>(alloc, files, fresh, refusal),
+        DiffFault::Accept(fault) => accept_outcome(alloc, arguments.accept, &fault),
     }
 }
 
 /// Notes on the files of both tables.
-fn notes_of(alloc: Global, files: &DiffFiles<'_>) -> Result<String, AllocError> {
+fn notes_of(alloc: Global, files: &DiffFiles<'_>) -> Result<String, AllocError>
+    ensures { IfOk result
+        (λ notes. string_bytes notes
+        ≡ string_bytes files.now.old.note ++ string_bytes files.now.new.note) }
+{
     let mut notes = String::from_str(alloc, &files.old.note)?;
     notes.push_str(&files.new.note)?;
     Ok(notes)
@@ -207,7 +284,10 @@ fn diff_answer<T: ComposeTable>(
     files: &DiffFiles<'_>,
     arguments: &DiffArguments<'_>,
     fresh: &[&str],
-) -> Result<Answer, DiffFault> {
+) -> Result<Answer, DiffFault>
+    ensures { AnswersDiff
+        (diff_asked files.now arguments.now (map (λ name. name.now) fresh.now)) result }
+{
     let (old_paths, new_paths) = (files.old.path_texts(alloc)?, files.new.path_texts(alloc)?);
     let input = DiffInput {
         tables: files.input(fresh),
@@ -226,13 +306,18 @@ fn answer_outcome(
     fresh: &[&str],
     answer: Answer,
     colored: bool,
-) -> Result<Outcome, AllocError> {
+) -> Result<Outcome, AllocError>
+    ensures { IfOk result
+        (λ outcome. ShowsAnswer colored answer (map (λ name. name.now) fresh.now) outcome) }
+{
     let shown = shown_answer(alloc, answer, colored)?;
     outcome_with(alloc, fresh, Ok(shown), String::new(alloc))
 }
 
 /// The answer, with its lines in colours or not.
-fn shown_answer(alloc: Global, answer: Answer, colored: bool) -> Result<Answer, AllocError> {
+fn shown_answer(alloc: Global, answer: Answer, colored: bool) -> Result<Answer, AllocError>
+    ensures { IfOk result (λ shown. words.IsShown colored answer shown) }
+{
     if colored {
         in_colors(alloc, answer)
     } else {
@@ -241,7 +326,9 @@ fn shown_answer(alloc: Global, answer: Answer, colored: bool) -> Result<Answer, 
 }
 
 /// The answer with its lines in colours.
-fn in_colors(alloc: Global, answer: Answer) -> Result<Answer, AllocError> {
+fn in_colors(alloc: Global, answer: Answer) -> Result<Answer, AllocError>
+    ensures { IfOk result (λ shown. words.IsColored answer shown) }
+{
     match answer {
         Answer::Yes(text) => Ok(Answer::Yes(colored_text(alloc, &text)?)),
         Answer::No(text) => Ok(Answer::No(colored_text(alloc, &text)?)),
@@ -255,7 +342,10 @@ fn refusal_outcome<T: ComposeTable>(
     files: &DiffFiles<'_>,
     fresh: &[&str],
     refusal: Refusal,
-) -> Result<Outcome, AllocError> {
+) -> Result<Outcome, AllocError>
+    ensures { IfOk result
+        (λ outcome. IsRefusalOutcome files.now (map (λ name. name.now) fresh.now) refusal outcome) }
+{
     let tables = [GivenTable::of(&files.old), GivenTable::of(&files.new)];
     let given = Given::of(&files.names, fresh, &tables);
     outcome_of::<T>(alloc, true, &given, Err(refusal))
@@ -266,7 +356,10 @@ fn accept_outcome(
     alloc: Global,
     path: Option<&str>,
     fault: &AcceptFault,
-) -> Result<Outcome, AllocError> {
+) -> Result<Outcome, AllocError>
+    ensures { IfOk result
+        (λ outcome. IsAcceptRefusal (option_copied path.entry) fault.now outcome) }
+{
     let own = format!(in alloc; "{fault}")?;
     let lines = accept_lines(alloc, &own, path.unwrap_or(""), fault)?;
     Ok(Outcome::of_errors(alloc, lines, Ended::Refused))
@@ -278,14 +371,22 @@ fn accept_lines(
     own: &str,
     path: &str,
     fault: &AcceptFault,
-) -> Result<String, AllocError> {
+) -> Result<String, AllocError>
+    ensures { IfOk result
+        (λ lines. string_bytes lines
+        ≡ (codes "refused: accept: " ++ (own.now ++ 10 ∷ []))
+        ++ words.accept_details path.now fault.now) }
+{
     let mut lines = format!(in alloc; "refused: accept: {own}\n")?;
     lines.push_str(&accept_details(alloc, path, fault)?)?;
     Ok(lines)
 }
 
 /// What is wrong with which line of the list of the changes that are meant.
-fn accept_details(alloc: Global, path: &str, fault: &AcceptFault) -> Result<String, AllocError> {
+fn accept_details(alloc: Global, path: &str, fault: &AcceptFault) -> Result<String, AllocError>
+    ensures { IfOk result
+        (λ lines. string_bytes lines ≡ words.accept_details path.now fault.now) }
+{
     let (line, words) = match fault {
         AcceptFault::Stale { line } => (*line, "no change of these tables is told by the line"),
         AcceptFault::BadLine { line } => {

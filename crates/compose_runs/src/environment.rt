@@ -105,7 +105,7 @@ impl Environment {
 
 /// The path without slashes at its end.
 fn without_slash(path: &str) -> &str
-    ensures { words.IsBeginning path.now result.now }
+    ensures { result.now ≡ words.without_slashes path.now }
 {
     path.trim_end_matches('/')
 }

@@ -1,5 +1,8 @@
 //! `explain`: how two tables differ.
-ghost use Rattle.std.specs.Prelude.{◌≡◌};
+ghost use Rattle.std.specs.Prelude.{◌≡◌, map, IfOk, IfErr};
+ghost use Rattle.compose_runs.specs.Faults.{FailsMigration};
+ghost use Rattle.compose_runs.specs.Explaining.{IsExplainRun, IsExplainOutcome, AnswersExplain};
+ghost use Rattle.compose_runs.specs.Files.{migration_given};
 
 use crate::files::MigrationFiles;
 use crate::options::Options;
@@ -24,6 +27,12 @@ pub fn run_explain<T: ComposeTable, F: Folder>(
     all: bool,
 ) -> Result<Outcome, Fault>
     ensures kept { files.new.holds ≡ files.old.holds }
+    ensures outcome { IfOk result
+        (λ outcome. IsExplainRun files.old.holds options.entry paths.now
+        (map (λ name. name.now) fresh.now) all outcome) }
+    ensures fault { IfErr result
+        (λ fault. FailsMigration files.old.holds (map (λ name. name.now) options.entry.names.now)
+        paths.now.old.now paths.now.new.now fault) }
 {
     let both = MigrationFiles::read(files, alloc, options.names, paths)?;
     Ok(explain_outcome::<T>(alloc, options.verbose, &both, fresh, all)?)
@@ -36,7 +45,11 @@ fn explain_outcome<T: ComposeTable>(
     both: &MigrationFiles<'_>,
     fresh: &[&str],
     all: bool,
-) -> Result<Outcome, AllocError> {
+) -> Result<Outcome, AllocError>
+    ensures { IfOk result
+        (λ outcome. IsExplainOutcome verbose both.now (map (λ name. name.now) fresh.now) all
+        outcome) }
+{
     let answered = explain_answer::<T>(alloc, both, fresh, all);
     let tables = [GivenTable::of(&both.old), GivenTable::of(&both.new)];
     let listed = Given::of(&both.names, fresh, &tables);
@@ -50,7 +63,10 @@ fn explain_answer<T: ComposeTable>(
     both: &MigrationFiles<'_>,
     fresh: &[&str],
     all: bool,
-) -> Result<Answer, Refusal> {
+) -> Result<Answer, Refusal>
+    ensures { AnswersExplain all result
+        (migration_given both.now (map (λ name. name.now) fresh.now)) }
+{
     let input = both.input(fresh);
     if all {
         explain_all_migration::<T>(alloc, &input)

@@ -1,5 +1,6 @@
 //! The files of an old and a new table.
-ghost use Rattle.std.specs.Prelude.{◌≡◌};
+ghost use Rattle.std.specs.Prelude.{◌≡◌, map, IfOk, IfErr};
+ghost use Rattle.compose_migration.specs.MigrationGives.{given_of};
 
 use compose_arguments::TablePaths;
 use compose_details::{Given, GivenTable};
@@ -17,6 +18,9 @@ pub(crate) struct MigrationFiles<'n> {
 }
 
 impl<'n> MigrationFiles<'n> {
+    ghost use Rattle.compose_runs.specs.Faults.{FailsMigration};
+    ghost use Rattle.compose_runs.specs.Files.{AreMigrationFiles, migration_given};
+
     /// Reads the files of names, those of the old table, and those of the new one.
     pub(crate) fn read<F: Folder>(
         files: &mut ReadOnce<F>,
@@ -25,6 +29,12 @@ impl<'n> MigrationFiles<'n> {
         paths: &TablePaths<'_>,
     ) -> Result<MigrationFiles<'n>, Fault>
         ensures kept { files.new.holds ≡ files.old.holds }
+        ensures read { IfOk result
+            (λ read. AreMigrationFiles files.old.holds (map (λ name. name.now) names.now)
+            paths.now.old.now paths.now.new.now read) }
+        ensures fault { IfErr result
+            (λ fault. FailsMigration files.old.holds (map (λ name. name.now) names.now)
+            paths.now.old.now paths.now.new.now fault) }
     {
         let names = NameFiles::read(files, alloc, names)?;
         let old = TableFiles::listed(files, alloc, "old", paths.old)?;
@@ -33,7 +43,10 @@ impl<'n> MigrationFiles<'n> {
     }
 
     /// The migration that they are to give, with these names of fresh keysyms.
-    pub(crate) fn input<'a, 'w>(&'a self, fresh: &'a [&'w str]) -> MigrationInput<'a, 'w> {
+    pub(crate) fn input<'a, 'w>(&'a self, fresh: &'a [&'w str]) -> MigrationInput<'a, 'w>
+        ensures { given_of result
+            ≡ migration_given self.now (map (λ name. name.now) fresh.now) }
+    {
         MigrationInput {
             header: &self.names.lines,
             key_names: fresh,

@@ -31,7 +31,7 @@ pub fn run_lint<F: Folder>(
     let mut outcome = Outcome::of_output(alloc, String::new(alloc), Ended::Yes);
     for file in &arguments.files {
         let table = TableFiles::found(files, alloc, places, file, Rule::Longest)?;
-        let answered = lint_answer(alloc, &names, &table, readers);
+        let answered = lint_answer(alloc, &names, &table, readers, arguments.all);
         add_outcome(
             &mut outcome,
             outcome_with(alloc, &[], answered, String::new(alloc))?,
@@ -46,6 +46,7 @@ fn lint_answer(
     names: &NameFiles<'_>,
     table: &TableFiles,
     readers: Readers,
+    is_all: bool,
 ) -> Result<Answer, Refusal> {
     let paths = table.path_texts(alloc)?;
     let input = LintInput {
@@ -53,6 +54,7 @@ fn lint_answer(
         sources: &table.sources,
         paths: &paths,
         readers,
+        is_all,
     };
     lint_table(alloc, &input)
 }

@@ -1,5 +1,8 @@
 //! `make`: a certificate.
-ghost use Rattle.std.specs.Prelude.{◌≡◌};
+ghost use Rattle.std.specs.Prelude.{◌≡◌, map, None, IfOk, IfErr, option_copied};
+ghost use Rattle.compose_runs.specs.Faults.{FailsMake};
+ghost use Rattle.compose_runs.specs.Making.{IsMakeRun, IsMakeOutcome, AnswersMake, IsWrittenTo};
+ghost use Rattle.compose_runs.specs.Files.{migration_given};
 
 use crate::files::MigrationFiles;
 use crate::options::Options;
@@ -36,6 +39,11 @@ pub fn run_make<T: ComposeTable, F: Folder>(
     making: MakeOptions<'_>,
 ) -> Result<Outcome, Fault>
     ensures kept { files.new.holds ≡ files.old.holds }
+    ensures outcome { IfOk result
+        (λ outcome. IsMakeRun files.old.holds options.entry paths.now making.entry outcome) }
+    ensures fault { IfErr result
+        (λ fault. FailsMake files.old.holds (map (λ name. name.now) options.entry.names.now)
+        paths.now.old.now paths.now.new.now making.entry.repertoire.now fault) }
 {
     let both = MigrationFiles::read(files, alloc, options.names, paths)?;
     let repertoire = read_text(files, alloc, making.repertoire)?;
@@ -50,7 +58,10 @@ fn make_outcome<T: ComposeTable>(
     both: &MigrationFiles<'_>,
     repertoire: &[u8],
     making: MakeOptions<'_>,
-) -> Result<Outcome, AllocError> {
+) -> Result<Outcome, AllocError>
+    ensures { IfOk result
+        (λ outcome. IsMakeOutcome verbose both.now repertoire.now making.entry outcome) }
+{
     let answered = make_answer::<T>(alloc, both, repertoire, making);
     let tables = [GivenTable::of(&both.old), GivenTable::of(&both.new)];
     let listed = Given::of(&both.names, making.fresh, &tables);
@@ -67,7 +78,11 @@ fn make_answer<T: ComposeTable>(
     both: &MigrationFiles<'_>,
     repertoire: &[u8],
     making: MakeOptions<'_>,
-) -> Result<Answer, Refusal> {
+) -> Result<Answer, Refusal>
+    ensures { AnswersMake making.entry.all result
+        (migration_given both.now (map (λ name. name.now) making.entry.fresh.now))
+        repertoire.now }
+{
     let input = both.input(making.fresh);
     if making.all {
         make_all_migration::<T>(alloc, &input, repertoire)
@@ -77,7 +92,10 @@ fn make_answer<T: ComposeTable>(
 }
 
 /// The same outcome, whose output is written to the file at this path, if there is one, where it is a certificate.
-fn written_to(alloc: Global, path: Option<&str>, outcome: Outcome) -> Result<Outcome, AllocError> {
+fn written_to(alloc: Global, path: Option<&str>, outcome: Outcome) -> Result<Outcome, AllocError>
+    requires { outcome.file ≡ None }
+    ensures { IfOk result (λ written. IsWrittenTo (option_copied path.entry) outcome written) }
+{
     let Some(path) = path else {
         return Ok(outcome);
     };

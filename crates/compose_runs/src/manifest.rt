@@ -1,5 +1,6 @@
 //! `manifest`: the sources of a Compose file on the system.
-ghost use Rattle.std.specs.Prelude.{◌≡◌};
+ghost use Rattle.std.specs.Prelude.{◌≡◌, ◌++◌, ◌∷◌, [], IfOk, string_bytes, codes};
+ghost use Rattle.compose_runs.specs.Manifest.{IsManifestRun, IsManifestOutcome, IsWrittenManifest, PrintsRefusal};
 
 use crate::environment::{Environment, PlaceArguments};
 use crate::one_table::{file_or_own, joined};
@@ -21,6 +22,8 @@ pub fn run_manifest<F: Folder>(
     arguments: &ManifestArguments<'_>,
 ) -> Result<Outcome, Fault>
     ensures kept { files.new.holds ≡ files.old.holds }
+    ensures outcome { IfOk result
+        (λ outcome. IsManifestRun files.old.holds environment.now arguments.now outcome) }
 {
     let places = environment.places(PlaceArguments {
         system: arguments.system,
@@ -40,19 +43,38 @@ fn manifest_outcome(
     places: Places<'_>,
     file: &str,
     found: &[FoundSource],
-) -> Result<Outcome, AllocError> {
+) -> Result<Outcome, AllocError>
+    ensures { IfOk result
+        (λ outcome. IsManifestOutcome places.entry file.now found.now outcome) }
+{
     let notes = files_note(alloc, places, file, found)?;
     Ok(written_manifest(alloc, found)?.with_notes(notes))
 }
 
 /// The manifest of these sources on standard output; a refusal where a name or a path can't stand in one.
-fn written_manifest(alloc: Global, found: &[FoundSource]) -> Result<Outcome, AllocError> {
+fn written_manifest(alloc: Global, found: &[FoundSource]) -> Result<Outcome, AllocError>
+    ensures { IfOk result (λ outcome. IsWrittenManifest found.now outcome) }
+{
     match manifest_text(alloc, found) {
         Ok(text) => Ok(Outcome::of_output(alloc, text, Ended::Yes)),
         Err(WriteFault::NoMemory) => Err(AllocError),
-        Err(fault) => {
-            let line = format!(in alloc; "refused: manifest: {fault}\n")?;
-            Ok(Outcome::of_errors(alloc, line, Ended::Refused))
-        }
+        Err(WriteFault::Unwritable) => refused_manifest(alloc, &WriteFault::Unwritable),
     }
+}
+
+/// The refusal of a manifest that can't be written.
+fn refused_manifest(alloc: Global, fault: &WriteFault) -> Result<Outcome, AllocError>
+    ensures { IfOk result (λ outcome. PrintsRefusal outcome) }
+{
+    let own = format!(in alloc; "{fault}")?;
+    let line = refusal_line(alloc, &own)?;
+    Ok(Outcome::of_errors(alloc, line, Ended::Refused))
+}
+
+/// The line of the refusal, by what the fault is printed as.
+fn refusal_line(alloc: Global, own: &str) -> Result<String, AllocError>
+    ensures { IfOk result
+        (λ line. string_bytes line ≡ codes "refused: manifest: " ++ (own.now ++ 10 ∷ [])) }
+{
+    format!(in alloc; "refused: manifest: {own}\n")
 }

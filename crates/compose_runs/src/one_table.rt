@@ -1,5 +1,11 @@
 //! What a command on one Compose file reads.
-ghost use Rattle.std.specs.Prelude.{◌≡◌, ◌++◌, IfOk, string_bytes};
+ghost use Rattle.std.specs.Prelude.{◌≡◌, ◌++◌, Ok, map, option_copied, IfOk, string_bytes};
+ghost use Rattle.compose_runs.specs.Environment as said;
+ghost use Rattle.compose_runs.specs.Environment.{GivesPlaces};
+ghost use Rattle.compose_runs.specs.OneTable as words;
+ghost use Rattle.compose_runs.specs.OneTable.{table_places, rule_unless};
+ghost use Rattle.compose_runs.specs.Own as own;
+ghost use Rattle.compose_runs.specs.Own.{IsChosen, IsOwnFile, own_note};
 
 use crate::differing::read_names;
 use crate::environment::{Environment, PlaceArguments};
@@ -12,7 +18,7 @@ use compose_model::Rule;
 use compose_report::{Outcome, outcome_of};
 use compose_shown::Shown;
 use compose_tree::ComposeTable;
-use compose_user::{UserFolders, first_file, locale_table, user_paths};
+use compose_user::{UserFolders, first_file, user_paths};
 use std::alloc::{AllocError, Global};
 
 /// The files of names, those of a Compose file, and notes on where they lie.
@@ -24,6 +30,8 @@ pub(crate) struct TableRead<'n> {
 }
 
 impl<'n> TableRead<'n> {
+    ghost use Rattle.compose_runs.specs.OneTable.{IsTableRead, IsTableOutcome};
+
     /// Reads the files of names, and then the Compose file as it lies on the system; if none is given, that of the user, which is noted.
     pub(crate) fn read<F: Folder>(
         alloc: Global,
@@ -33,6 +41,9 @@ impl<'n> TableRead<'n> {
         arguments: &TableArguments<'_>,
     ) -> Result<TableRead<'n>, Fault>
         ensures kept { files.new.holds ≡ files.old.holds }
+        ensures read { IfOk result
+            (λ read. IsTableRead files.old.holds environment.now (map (λ name. name.now) names.now)
+            arguments.now read) }
     {
         let places = places_of(environment, arguments)?;
         let names = read_names(files, alloc, names)?;
@@ -47,22 +58,35 @@ impl<'n> TableRead<'n> {
         })
     }
 
-    /// The outcome of an answer on the table, or of why there is none, with each faulty line of what was given.
+    /// The outcome of an answer on the table, the keys of these names and the repertoire at this path, or of why there is none, with each faulty line
+    /// of what was given. An empty path is that of no repertoire.
     pub(crate) fn outcome<T: ComposeTable>(
         self,
         alloc: Global,
+        key_names: &[&str],
+        repertoire: &str,
         answered: Result<Answer, Refusal>,
-    ) -> Result<Outcome, AllocError> {
+    ) -> Result<Outcome, AllocError>
+        ensures { IfOk result
+            (λ outcome. IsTableOutcome self.entry (map (λ name. name.now) key_names.now)
+            repertoire.now answered outcome) }
+    {
         let verbose = is_refused(&answered);
         let tables = [GivenTable::of(&self.table)];
-        let given = Given::of(&self.names, &[], &tables);
+        let listed = Given::of(&self.names, key_names, &tables);
+        let given = Given {
+            repertoire,
+            ..listed
+        };
         let outcome = outcome_of::<T>(alloc, verbose, &given, answered)?;
         Ok(outcome.with_notes(self.notes))
     }
 }
 
 /// Whether there is no answer.
-fn is_refused(answered: &Result<Answer, Refusal>) -> bool {
+fn is_refused(answered: &Result<Answer, Refusal>) -> bool
+    ensures { result ≡ words.is_refused answered.now }
+{
     match answered {
         Ok(_) => false,
         Err(_) => true,
@@ -82,7 +106,9 @@ pub(crate) fn joined(alloc: Global, first: &str, second: &str) -> Result<String,
 fn places_of<'a>(
     environment: &'a Environment,
     arguments: &TableArguments<'a>,
-) -> Result<Places<'a>, Fault> {
+) -> Result<Places<'a>, Fault>
+    ensures { GivesPlaces (table_places arguments.now) result (said.places_of environment.now) }
+{
     environment.places(PlaceArguments {
         system: arguments.system,
         locale: arguments.locale,
@@ -91,7 +117,9 @@ fn places_of<'a>(
 }
 
 /// What is done with overlaps.
-fn rule_of(arguments: &TableArguments<'_>) -> Rule {
+fn rule_of(arguments: &TableArguments<'_>) -> Rule
+    ensures { result ≡ rule_unless arguments.now.refuse_overlaps }
+{
     if arguments.refuse_overlaps {
         Rule::Refuse
     } else {
@@ -115,6 +143,9 @@ pub(crate) fn file_or_own<F: Folder>(
     given: Option<&str>,
 ) -> Result<ChosenFile, Fault>
     ensures kept { files.new.holds ≡ files.old.holds }
+    ensures chosen { IfOk result
+        (λ file. IsChosen files.old.holds environment.now places.entry (option_copied given.entry)
+        file) }
 {
     match given {
         Some(path) => Ok(ChosenFile {
@@ -129,7 +160,10 @@ pub(crate) fn file_or_own<F: Folder>(
 }
 
 /// A file that was not given, and the line that notes it.
-fn noted_file(alloc: Global, path: String) -> Result<ChosenFile, AllocError> {
+fn noted_file(alloc: Global, path: String) -> Result<ChosenFile, AllocError>
+    ensures { IfOk result
+        (λ file. (file.path ≡ path) × (string_bytes file.note ≡ own_note (string_bytes path))) }
+{
     let shown = Shown(&path);
     let note = format!(in alloc; "note: the Compose file is {shown}\n")?;
     Ok(ChosenFile { path, note })
@@ -144,35 +178,47 @@ fn user_file<F: Folder>(
     places: Places<'_>,
 ) -> Result<String, Fault>
     ensures kept { files.new.holds ≡ files.old.holds }
+    ensures own { IfOk result
+        (λ path. IsOwnFile files.old.holds environment.now places.entry (string_bytes path)) }
 {
-    let folders = UserFolders {
-        compose_file: environment.xcomposefile.text()?,
-        config: environment.xdg_config_home.text()?,
-        home: places.home,
-    };
-    let mut paths = user_paths(alloc, folders)?;
+    let paths = own_paths(alloc, environment, places)?;
     if let Some(path) = first_file(files, alloc, &paths)? {
         return Ok(path);
     }
-    if let Some(path) = locale_file(alloc, files, places)? {
+    if let Some(path) = places.locale_table(files, alloc)? {
         return Ok(path);
     }
-    match paths.pop() {
-        Some(path) => Ok(path),
-        None => Ok(String::from_str(alloc, ".XCompose")?),
-    }
+    Ok(last_path(alloc, paths)?)
 }
 
-/// The path of the locale's table, if there is one.
-fn locale_file<F: Folder>(
+/// The paths at which the user's own file may lie.
+fn own_paths(
     alloc: Global,
-    files: &mut ReadOnce<F>,
+    environment: &Environment,
     places: Places<'_>,
-) -> Result<Option<String>, AllocError>
-    ensures kept { files.new.holds ≡ files.old.holds }
+) -> Result<Vec<String>, Fault>
+    ensures { IfOk result
+        (λ paths. own.own_paths environment.now places.entry
+        ≡ Ok (map string_bytes paths.items)) }
 {
-    match places.locale {
-        Some(locale) => locale_table(files, alloc, places.system, locale),
-        None => Ok(None),
+    let compose_file = environment.xcomposefile.text()?;
+    let config = environment.xdg_config_home.text()?;
+    let folders = UserFolders {
+        compose_file,
+        config,
+        home: places.home,
+    };
+    Ok(user_paths(alloc, folders)?)
+}
+
+/// The last of these paths.
+fn last_path(alloc: Global, paths: Vec<String>) -> Result<String, AllocError>
+    ensures { IfOk result
+        (λ path. own.IsLast (map string_bytes paths.items) (string_bytes path)) }
+{
+    let mut paths = paths;
+    match paths.pop() {
+        Some(path) => Ok(path),
+        None => String::from_str(alloc, ".XCompose"),
     }
 }

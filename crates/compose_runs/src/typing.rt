@@ -1,5 +1,7 @@
 //! `type`: what happens at keys.
-ghost use Rattle.std.specs.Prelude.{◌≡◌};
+ghost use Rattle.std.specs.Prelude.{◌≡◌, map, IfOk, IfErr};
+ghost use Rattle.compose_runs.specs.Faults.{FailsType};
+ghost use Rattle.compose_runs.specs.Typing.{IsTypeRun, IsTypeOutcome};
 
 use crate::options::Options;
 use compose_details::{Given, GivenTable};
@@ -20,6 +22,12 @@ pub fn run_type<T: ComposeTable, F: Folder>(
     keys: &[&str],
 ) -> Result<Outcome, Fault>
     ensures kept { files.new.holds ≡ files.old.holds }
+    ensures outcome { IfOk result
+        (λ outcome. IsTypeRun files.old.holds options.entry table.now
+        (map (λ key. key.now) keys.now) outcome) }
+    ensures fault { IfErr result
+        (λ fault. FailsType files.old.holds (map (λ name. name.now) options.entry.names.now)
+        table.now fault) }
 {
     let names = NameFiles::read(files, alloc, options.names)?;
     let table = TableFiles::listed(files, alloc, "table", table)?;
@@ -33,7 +41,11 @@ fn type_outcome<T: ComposeTable>(
     names: &NameFiles<'_>,
     table: &TableFiles,
     keys: &[&str],
-) -> Result<Outcome, AllocError> {
+) -> Result<Outcome, AllocError>
+    ensures { IfOk result
+        (λ outcome. IsTypeOutcome verbose names.now table.now (map (λ key. key.now) keys.now)
+        outcome) }
+{
     let answered = type_keys::<T>(alloc, &names.lines, keys, &table.input());
     let tables = [GivenTable::of(table)];
     let given = Given::of(names, keys, &tables);

@@ -1,20 +1,34 @@
--- The line that is printed for a connection (this project's profile).
-use Rattle.std.specs.Prelude.{ℕ, false, List, [], ◌∷◌, ◌++◌, Result, Ok, Err, codes}
+-- The lines that are printed for connections (this project's profile).
+use Rattle.std.specs.Prelude.{ℕ, ◌+◌, ◌-◌, ◌^◌, ◌==◌, min, Bool, false, if◌then◌else◌, List, [], ◌∷◌, ◌++◌, Result, Ok, Err, codes}
 use Rattle.std.specs.Fmt.{digits}
-use Rattle.compose_serve.specs.declared.ends.Ended.{Ended}
 use Rattle.compose_serve.specs.declared.ends.Ended.TheVariants.{InputEnd, Malformed}
-use Rattle.compose_serve.specs.declared.ends.ServeFault.{ServeFault}
 use Rattle.compose_serve.specs.declared.ends.ServeFault.TheVariants.{Read, Write, Cut, TooManyFrames, NoMemory}
+use Rattle.compose_hub.specs.declared.ends.ConnectionEnd.{ConnectionEnd}
+use Rattle.compose_hub.specs.declared.ends.ConnectionEnd.TheVariants.{Served, Stalled, Idle}
 
--- how a stream ended; a fault with its number
-abbrev pub end_words : Result Ended ServeFault → List ℕ
-end_words (Ok InputEnd) = codes "ended"
-end_words (Ok Malformed) = codes "malformed"
-end_words (Err Read) = codes "fault 1 Read"
-end_words (Err Write) = codes "fault 2 Write"
-end_words (Err Cut) = codes "fault 3 Cut"
-end_words (Err TooManyFrames) = codes "fault 4 TooManyFrames"
-end_words (Err NoMemory) = codes "fault 5 NoMemory"
+-- how a connection ended; a fault with its number
+abbrev pub end_words : ConnectionEnd → List ℕ
+end_words (Served (Ok InputEnd)) = codes "ended"
+end_words (Served (Ok Malformed)) = codes "malformed"
+end_words (Served (Err Read)) = codes "fault 1 Read"
+end_words (Served (Err Write)) = codes "fault 2 Write"
+end_words (Served (Err Cut)) = codes "fault 3 Cut"
+end_words (Served (Err TooManyFrames)) = codes "fault 4 TooManyFrames"
+end_words (Served (Err NoMemory)) = codes "fault 5 NoMemory"
+end_words Stalled = codes "fault 3 Cut"
+end_words Idle = codes "idle"
 
-abbrev pub connection_line : ℕ → Result Ended ServeFault → List ℕ
-connection_line number ended = codes "connection " ++ (digits 10 false number ++ (codes ": " ++ (end_words ended ++ (10 ∷ []))))
+abbrev pub connection_line : ℕ → ConnectionEnd → List ℕ
+connection_line number how = codes "connection " ++ (digits 10 false number ++ (codes ": " ++ (end_words how ++ (10 ∷ []))))
+
+-- how many ends could not be printed
+abbrev pub unprinted_line : ℕ → List ℕ
+unprinted_line unprinted = codes "ends not printed: " ++ (digits 10 false unprinted ++ (10 ∷ []))
+
+-- the same, where there are any
+abbrev pub unprinted_text : ℕ → List ℕ
+unprinted_text unprinted = if unprinted == 0 then [] else unprinted_line unprinted
+
+-- an end that is printed leaves none that is not, since how many these are is printed before it; one that is not is counted, up to 64 bits
+abbrev pub unprinted_after : ℕ → Bool → ℕ
+unprinted_after unprinted is_printed = if is_printed then 0 else min (unprinted + 1) (2 ^ 64 - 1)

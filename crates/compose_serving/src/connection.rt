@@ -1,33 +1,63 @@
-//! The line for each connection.
-ghost use Rattle.std.specs.Prelude.{◌≡◌, IfOk, string_bytes};
+//! The lines for connections, and which of them are printed.
+ghost use Rattle.std.specs.Prelude.{◌≡◌, ◌++◌, IfOk, string_bytes};
 ghost use Rattle.compose_serving.specs.Connection as lines;
 
+use compose_hub::ConnectionEnd;
 use compose_serve::{Ended, ServeFault};
 use std::alloc::{AllocError, Global};
 
-/// The line for the connection with this number, from 1: how its stream ended. O(1).
-pub fn connection_line(
+/// What is printed at the end of the connection with this number, from 1: how many ends could not be printed before, if there are any, and
+/// then how it ended. O(1).
+pub fn end_text(
     alloc: Global,
+    unprinted: u64,
     number: u32,
-    ended: Result<Ended, ServeFault>,
+    how: ConnectionEnd,
 ) -> Result<String, AllocError>
-    ensures { IfOk result (λ line. string_bytes line ≡ lines.connection_line number ended) }
+    ensures { IfOk result
+        (λ text. string_bytes text ≡ lines.unprinted_text unprinted ++ lines.connection_line number how) }
 {
-    let words = end_words(ended);
-    format!(in alloc; "connection {number}: {words}\n")
+    let mut text = unprinted_text(alloc, unprinted)?;
+    let words = end_words(how);
+    let line = format!(in alloc; "connection {number}: {words}\n")?;
+    text.push_str(&line)?;
+    Ok(text)
 }
 
-/// How a stream ended, in words; a fault with its number.
-fn end_words(ended: Result<Ended, ServeFault>) -> &'static str
-    ensures { result.now ≡ lines.end_words ended }
+/// How many ends of connections could not be printed, as a line; nothing where there are none. O(1).
+pub fn unprinted_text(alloc: Global, unprinted: u64) -> Result<String, AllocError>
+    ensures { IfOk result (λ text. string_bytes text ≡ lines.unprinted_text unprinted) }
 {
-    match ended {
-        Ok(Ended::InputEnd) => "ended",
-        Ok(Ended::Malformed) => "malformed",
-        Err(ServeFault::Read) => "fault 1 Read",
-        Err(ServeFault::Write) => "fault 2 Write",
-        Err(ServeFault::Cut) => "fault 3 Cut",
-        Err(ServeFault::TooManyFrames) => "fault 4 TooManyFrames",
-        Err(ServeFault::NoMemory) => "fault 5 NoMemory",
+    if unprinted == 0 {
+        return Ok(String::new(alloc));
+    }
+    format!(in alloc; "ends not printed: {unprinted}\n")
+}
+
+/// How many ends are not printed after one more, whose text was printed or was not. O(1).
+pub fn unprinted_after(unprinted: u64, is_printed: bool) -> u64
+    ensures { result ≡ lines.unprinted_after unprinted is_printed }
+{
+    if is_printed {
+        0
+    } else {
+        unprinted.saturating_add(1)
+    }
+}
+
+/// How a connection ended, in words; a fault with its number. One that held room for a load of which nothing came was cut.
+fn end_words(how: ConnectionEnd) -> &'static str
+    ensures { result.now ≡ lines.end_words how }
+{
+    match how {
+        ConnectionEnd::Served(Ok(Ended::InputEnd)) => "ended",
+        ConnectionEnd::Served(Ok(Ended::Malformed)) => "malformed",
+        ConnectionEnd::Served(Err(ServeFault::Read)) => "fault 1 Read",
+        ConnectionEnd::Served(Err(ServeFault::Write)) => "fault 2 Write",
+        ConnectionEnd::Served(Err(ServeFault::Cut)) => "fault 3 Cut",
+        ConnectionEnd::Served(Err(ServeFault::TooManyFrames)) => "fault 4 TooManyFrames",
+        ConnectionEnd::Served(Err(ServeFault::NoMemory)) => "fault 5 NoMemory",
+        ConnectionEnd::Stalled => "fault 3 Cut",
+        ConnectionEnd::Idle => "idle",
     }
 }

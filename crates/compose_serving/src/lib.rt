@@ -1,4 +1,4 @@
-//! What the command `serve` says over values: how a service begins from the bytes of its files, and the line for each connection.
+//! What the command `serve` says over values: how a service begins from the bytes of its files, and the lines for connections.
 //!
 //! ```text
 //! match begin::<PackedTable>(alloc, &BeginInput { header, repertoire, rule, certificate }, sources) {
@@ -13,6 +13,6 @@ mod connection;
 mod fresh;
 mod start;
 
-pub use connection::connection_line;
+pub use connection::{end_text, unprinted_after, unprinted_text};
 pub use fresh::allow_fresh;
 pub use start::{BeginFault, BeginInput, begin};

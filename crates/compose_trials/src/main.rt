@@ -9,12 +9,14 @@
 mod answering;
 mod bench;
 mod certificates;
+mod chance;
 mod checking;
 mod devices;
 mod endless;
 mod failure;
 mod input;
 mod marks;
+mod network;
 mod output;
 mod planted;
 mod reading;
@@ -39,6 +41,7 @@ fn run(rt: &HostRuntime, arguments: &[&str]) -> Result<(), Failure> {
         ["devices"] => serving::try_all(rt),
         ["sockets"] => sockets::try_all(rt),
         ["endless"] => endless::serve_endless(rt),
+        ["network", seed, schedules] => network::schedule::run_all(rt, seed, schedules),
         _ => Err(Failure::Arguments),
     }
 }

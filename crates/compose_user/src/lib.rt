@@ -1,7 +1,7 @@
-//! The Compose file that a user types with: that of the environment, one among the user's settings, or that of the locale.
+//! The Compose file of a user's own: that of the environment, or one among the user's settings.
 //!
 //! ```text
-//! $XCOMPOSEFILE, $XDG_CONFIG_HOME/XCompose (or ~/.config/XCompose), ~/.XCompose, the table of the locale
+//! $XCOMPOSEFILE, $XDG_CONFIG_HOME/XCompose (or ~/.config/XCompose), ~/.XCompose
 //! ```
 #![tactic(auto)]
 
@@ -9,4 +9,4 @@ mod paths;
 mod table;
 
 pub use paths::{UserFolders, user_paths};
-pub use table::{first_file, locale_table};
+pub use table::first_file;

@@ -2,7 +2,6 @@
 ghost use Rattle.std.specs.Prelude.{◌≡◌, map, option_map, IfOk, string_bytes};
 ghost use Rattle.compose_user.specs.Paths.{IsFirstFile, IsKnown};
 
-use compose_find::locale_file;
 use compose_folder::{Folder, ReadOnce, Unread};
 use std::alloc::{AllocError, Global};
 
@@ -39,38 +38,6 @@ fn is_file<F: Folder>(
     match files.read(alloc, path) {
         Ok(_) => Ok(true),
         Err(Unread::Refused(_)) => Ok(false),
-        Err(Unread::NoMemory) => Err(AllocError),
-    }
-}
-
-/// The path of the table of the locale, if there is one, by the files `compose.dir` and `locale.alias` of the system's folder. O(bytes).
-pub fn locale_table<F: Folder>(
-    files: &mut ReadOnce<F>,
-    alloc: Global,
-    system: &str,
-    locale: &str,
-) -> Result<Option<String>, AllocError>
-    ensures { files.new.holds ≡ files.old.holds }
-{
-    let compose_dir = listing(files, alloc, system, "/compose.dir")?;
-    let aliases = listing(files, alloc, system, "/locale.alias")?;
-    locale_file(alloc, system, &compose_dir, &aliases, locale)
-}
-
-/// The bytes of the file with this name, which begins with a slash, in the folder; none where it can't be read.
-fn listing<F: Folder>(
-    files: &mut ReadOnce<F>,
-    alloc: Global,
-    folder: &str,
-    name: &str,
-) -> Result<Vec<u8>, AllocError>
-    ensures { files.new.holds ≡ files.old.holds }
-{
-    let mut path = String::from_str(alloc, folder)?;
-    path.push_str(name)?;
-    match files.read(alloc, &path) {
-        Ok(bytes) => Ok(bytes),
-        Err(Unread::Refused(_)) => Ok(Vec::new(alloc)),
         Err(Unread::NoMemory) => Err(AllocError),
     }
 }

@@ -1,5 +1,18 @@
+use Rattle.std.proofs.Common.{◌≡◌, ℕ, List, [], ◌∷◌, ◌&&◌, refl, ap}
+use Rattle.std.specs.Prelude.{filter, None}
+use Rattle.compose_model.specs.Table.{Definition}
+use Rattle.compose_model.specs.Nodes.{leaves}
+use Rattle.compose_listing.specs.Chosen.{begins_with, gives_asked}
 use Rattle.compose_listing.proofs.Table.{table_again}
 use Rattle.compose_listing.proofs.law_listing.Goals as goal
 
-pub returns : goal.returns
-returns c = λ names lines paths table root rule built are writable utf8. table_again names lines paths table root built are writable utf8 rule
+pub returns-clause-whole : goal.returns-clause-whole
+returns-clause-whole c = λ table. all_pass table (leaves table)
+  where
+    all_pass : (table : List Definition) (xs : List (List ℕ)) → filter (λ s. begins_with [] s && gives_asked table None s) xs ≡ xs
+    all_pass table [] = refl
+    all_pass table ([] ∷ xs) = ap (λ ys. [] ∷ ys) (all_pass table xs)
+    all_pass table ((k ∷ s) ∷ xs) = ap (λ ys. (k ∷ s) ∷ ys) (all_pass table xs)
+
+pub returns-clause-again : goal.returns-clause-again
+returns-clause-again c = λ names lines paths table root rule built are writable utf8. table_again names lines paths table root built are writable utf8 rule

@@ -3,6 +3,7 @@ use Rattle.std.specs.Prelude.{Result, IfOk}
 use Rattle.compose_model.specs.Table.{Definition}
 use Rattle.compose_model.specs.Nodes.{leaves}
 use Rattle.compose_places.specs.Counting.{counting_line, read_lines}
+use Rattle.compose_places.specs.Overlaps.{overlap_count}
 use Rattle.compose_tree.specs.TableGives.{NoTable, TableGives}
 use Rattle.compose_tree.proofs.FirstSource.{root_named}
 use Rattle.compose_diff_rows.proofs.FirstRead.{first_root}
@@ -18,4 +19,6 @@ returns g c =
       lines = subst (λ (r : List ℕ). IfOk c.read_placed_table.result
           (λ placed. placed.lines.items ≡ map (counting_line names (read_lines sources r)) (leaves (g.T.ComposeTable.definitions placed.table))))
           (first_root sources root c.in-Some.ensures) c.read_placed_table.ensures.lines;
+      overlaps = subst (λ (r : List ℕ). IfOk c.read_placed_table.result (λ placed. placed.overlaps ≡ overlap_count names sources r))
+          (first_root sources root c.in-Some.ensures) c.read_placed_table.ensures.overlaps;
     }

@@ -7,4 +7,5 @@ pub returns-in-Err : goal.returns-in-Err
 returns-in-Err g c = record {
   table = side_refused c.args.side c.in-Err.fault (first_table c.args.names.now c.args.input.now.sources.now c.args.input.now.rule) (search rules);
   lines = tt;
+  overlaps = tt;
 }

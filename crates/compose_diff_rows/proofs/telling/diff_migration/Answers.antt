@@ -14,6 +14,8 @@ diff_tables-requires g c =
       is = read.2;
       old_lines = c.in-Ok.ensures.old_lines;
       new_lines = c.in-Ok.ensures.new_lines;
+      old_overlaps = c.in-Ok.ensures.old_overlaps;
+      new_overlaps = c.in-Ok.ensures.new_overlaps;
     }
 
 pub returns-in-Err : goal.returns-in-Err

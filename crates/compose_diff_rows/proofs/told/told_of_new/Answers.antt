@@ -1,10 +1,11 @@
 use Rattle.std.proofs.Common.{◌∙◌, ◌<◌, [], length, map, get_or, not, ap, arith}
-use Rattle.std.specs.Option.{option_map}
+use Rattle.std.specs.Option.{option_map, option_and_then}
 use Rattle.compose_compare.specs.Change.{change}
 use Rattle.compose_model.specs.Table.{is_sequence}
 use Rattle.compose_model.specs.Nodes.{leaves}
-use Rattle.compose_diff_rows.specs.Rows.{written, told_sequence, named_sequence, told_of, now_of}
-use Rattle.compose_diff_rows.proofs.RowsSoFar.{told_added, not_told, told_change, no_change, no_entry}
+use Rattle.compose_places.specs.Counting.{sequence_named}
+use Rattle.compose_diff_rows.specs.Rows.{written, told_sequence, named_sequence, told_of, keys_of, longer_in, now_of}
+use Rattle.compose_diff_rows.proofs.RowsSoFar.{told_added, not_told, told_change, no_change, no_entry, never_waiting, not_waiting}
 use Rattle.compose_diff_rows.proofs.told.told_of_new.Goals as goal
 use Rattle.compose_diff_rows.proofs.told.told_of_new.Goals.{in-Some+in_ok-push, in_default}
 
@@ -26,6 +27,9 @@ loop-leaf-preserved g c = λ names fresh old h.
             change = (w.told_at.ensures.change ∙ what.1) j;
             keys = w.told_at.ensures.keys j;
             entry = w.told_at.ensures.entry j;
+            longer = (ap (option_map named_sequence) w.told_at.ensures.longer
+                ∙ not_waiting (change names fresh old.table table (get_or (leaves table) i []))
+                (option_and_then (longer_in new) (sequence_named names (keys_of new (get_or (leaves table) i [])))) (never_waiting names fresh old.table table (get_or (leaves table) i []) what.0)) j;
             typing = (ap (option_map named_sequence) w.told_at.ensures.typing
                 ∙ ap (now_of new (change names fresh old.table table (get_or (leaves table) i []))) (no_entry old (get_or (leaves table) i []) what.0)) j;
           }))

@@ -1,18 +1,26 @@
 use Rattle.std.proofs.Common.{◌≡◌, ◌∙◌, true, refl, sym, ap, inr, subst, rules}
-use Rattle.std.specs.Prelude.{ℕ, Option, Some, Result}
+use Rattle.std.specs.Prelude.{ℕ, Option, Some, None, Result}
 use Rattle.compose_serve.specs.declared.ends.Ended.{Ended}
 use Rattle.compose_serve.specs.declared.ends.ServeFault.{ServeFault}
-use Rattle.compose_many.specs.declared.turn.Turn.TheVariants.{GoesOn, Loaded, NeedsRoom, Ends}
+use Rattle.compose_many.specs.declared.turn.Turn.TheVariants.{GoesOn, Loaded, Waits, NeedsRoom, Ends}
 use Rattle.compose_hub.specs.Sockets.{KeepsBytes}
 use Rattle.compose_hub.specs.Slots.{slot_has_turn}
+use Rattle.compose_hub.specs.Serving.{StandsAs, WaitsSince}
 use Rattle.compose_hub.specs.declared.client.Client.{Client}
-use Rattle.compose_hub.specs.declared.client.WaitsFor.TheVariants.{Turn as ForTurn}
+use Rattle.compose_hub.specs.declared.client.WaitsFor.TheVariants.{Turn as ForTurn, Stream as ForStream, Room as ForRoom}
+use Rattle.compose_hub.specs.declared.client.WaitsFor.{WaitsFor}
 use Rattle.compose_hub.specs.declared.ends.ConnectionEnd.{ConnectionEnd}
 use Rattle.compose_hub.specs.declared.ends.ConnectionEnd.TheVariants.{Served}
 use Rattle.compose_hub.proofs.server.serve_slot.Goals as goal
 
-waits_as : (c d : Client) → Some c ≡ Some d → d.waits_for ≡ c.waits_for
-waits_as c d e = let same : c ≡ d = cc in ap (λ (t : Client). t.waits_for) (sym same)
+-- a client that waits after its turns
+follows : (c taken now : Client) (waits_for : WaitsFor) (time : ℕ) → taken.number ≡ c.number → now ≡ record taken { waits_for = waits_for; since = time } → (ended : Option (ℕ × ConnectionEnd)) → ended ≡ None
+    → (ended ≡ None) × StandsAs c.number taken.connection (Some now) × WaitsSince waits_for time (Some now)
+follows c taken now waits_for time number is ended none = (
+  none,
+  (now, refl, ap (λ (t : Client). t.number) is ∙ number, ap (λ (t : Client). t.connection) is),
+  λ d e. let same : now ≡ d = cc in subst (λ (t : Client). (t.waits_for ≡ waits_for) × (t.since ≡ time)) same (ap (λ (t : Client). t.waits_for) is, ap (λ (t : Client). t.since) is),
+)
 
 abbrev ends_as : ℕ → Result Ended ServeFault → Option (ℕ × ConnectionEnd)
 ends_as n how = Some (n, Served how)
@@ -33,8 +41,8 @@ returns-in-GoesOn-clause-turns g c =
       c.take_turns.new.self.connection,
       g.N.Streams.stream c.take_turns.new.streams,
       c.in-GoesOn.ensures.turns.0,
-      λ n. refl,
-      (refl, (c.take_turns.new.self, refl, c.in-GoesOn.ensures.turns.1, refl), λ d e. waits_as c.take_turns.new.self d e ∙ c.in-GoesOn.ensures.waits ∙ turn),
+      c.pause.ensures.stay,
+      follows c.in-Some.client c.take_turns.new.self c.pause.new.client ForTurn c.pause.new.time c.in-GoesOn.ensures.turns.1 c.pause.ensures.waits c.pause.result c.pause.ensures.none,
     )
 
 pub returns-in-Loaded-clause-turns : goal.returns-in-Loaded-clause-turns
@@ -50,8 +58,25 @@ returns-in-Loaded-clause-turns g c =
       c.take_turns.new.self.connection,
       g.N.Streams.stream c.take_turns.new.streams,
       c.in-Loaded.ensures.turns.0,
-      λ n. refl,
-      (refl, (c.take_turns.new.self, refl, c.in-Loaded.ensures.turns.1, refl), λ d e. waits_as c.take_turns.new.self d e ∙ c.in-Loaded.ensures.waits ∙ turn),
+      c.pause-in-Loaded.ensures.stay,
+      follows c.in-Some.client c.take_turns.new.self c.pause-in-Loaded.new.client ForTurn c.pause-in-Loaded.new.time c.in-Loaded.ensures.turns.1 c.pause-in-Loaded.ensures.waits c.pause-in-Loaded.result c.pause-in-Loaded.ensures.none,
+    )
+
+pub returns-in-Waits-clause-turns : goal.returns-in-Waits-clause-turns
+returns-in-Waits-clause-turns g c =
+    let was : c.args.slot.now ≡ Some c.in-Some.client = search rules in
+    let turn : c.in-Some.client.waits_for ≡ ForTurn = search rules in
+    let has : slot_has_turn c.args.slot.now ≡ true = search rules in
+    inr (
+      c.in-Some.client,
+      was,
+      has,
+      Waits,
+      c.take_turns.new.self.connection,
+      g.N.Streams.stream c.take_turns.new.streams,
+      c.in-Waits.ensures.turns.0,
+      c.pause-in-Waits.ensures.stay,
+      follows c.in-Some.client c.take_turns.new.self c.pause-in-Waits.new.client ForStream c.pause-in-Waits.new.time c.in-Waits.ensures.turns.1 c.pause-in-Waits.ensures.waits c.pause-in-Waits.result c.pause-in-Waits.ensures.none,
     )
 
 pub returns-in-NeedsRoom-clause-turns : goal.returns-in-NeedsRoom-clause-turns
@@ -67,8 +92,8 @@ returns-in-NeedsRoom-clause-turns g c =
       c.take_turns.new.self.connection,
       g.N.Streams.stream c.take_turns.new.streams,
       c.in-NeedsRoom.ensures.turns.0,
-      λ n. refl,
-      (refl, (c.wait_for_room.new.self, refl, ap (λ (t : Client). t.number) c.wait_for_room.ensures ∙ c.in-NeedsRoom.ensures.turns.1, ap (λ (t : Client). t.connection) c.wait_for_room.ensures), λ d e. waits_as c.wait_for_room.new.self d e ∙ ap (λ (t : Client). t.waits_for) c.wait_for_room.ensures),
+      c.pause-in-NeedsRoom.ensures.stay,
+      follows c.in-Some.client c.take_turns.new.self c.pause-in-NeedsRoom.new.client ForRoom c.pause-in-NeedsRoom.new.time c.in-NeedsRoom.ensures.turns.1 c.pause-in-NeedsRoom.ensures.waits c.pause-in-NeedsRoom.result c.pause-in-NeedsRoom.ensures.none,
     )
 
 pub returns-in-Ends-clause-turns : goal.returns-in-Ends-clause-turns

@@ -1,5 +1,5 @@
 use Rattle.std.proofs.Common.{◌≡◌, ◌∙◌, sym, ap, subst}
-use Rattle.std.specs.Prelude.{Option, Some, IfOk}
+use Rattle.std.specs.Prelude.{Option, IfOk}
 use Rattle.std.specs.Option.{option_and_then}
 use Rattle.compose_model.specs.Table.{Definition}
 use Rattle.compose_read.specs.Read.{line_gives}

@@ -1,22 +1,33 @@
 use Rattle.std.proofs.Common.{◌≡◌, ◌∙◌, ◌++◌, length, map, ap, sym, string_bytes}
-use Rattle.std.specs.Prelude.{flat_map, nat_lt}
+use Rattle.std.specs.Prelude.{flat_map, nat_lt, option_copied}
 use Rattle.std.proofs.lemmas.List.{length-map}
 use Rattle.compose_lookup.specs.TextIndex.{sequence_at}
-use Rattle.compose_listing.specs.Leaves.{leaf_line}
-use Rattle.compose_listing.proofs.Lines.{ways_are}
+use Rattle.compose_listing.specs.Leaves.{leaf_line, typable_leaves}
+use Rattle.compose_listing.specs.Answers.{shown_of}
+use Rattle.compose_listing.proofs.Lines.{ways_are, typed_are}
 use Rattle.compose_listing.proofs.how.push_ways.Goals as goal
+
+pub typable_leaves-requires-clause-in_table : goal.typable_leaves-requires-clause-in_table
+typable_leaves-requires-clause-in_table g c = c.leaves_with-giving.ensures.in_table
 
 pub returns-clause-lines : goal.returns-clause-lines
 returns-clause-lines g c =
     let table = g.T.ComposeTable.definitions c.args.listed.now.table.now in
     let counting = c.args.listed.now.lines.now in
     let paths = map (λ path. path.now) c.args.listed.now.paths.now in
-    λ names visits are. c.in_ok-push_leaves.ensures
+    let asked = c.args.asked in
+    let kept = c.deref.ensures.value ∙ c.in_ok-leaves.ensures in
+    λ visits are. c.in_ok-push_leaves.ensures
     ∙ ap (λ t. string_bytes c.args.lines.now ++ t)
-    (ap (flat_map (leaf_line table counting paths)) c.shown_of.ensures
-    ∙ ways_are names visits paths table counting are c.args.first c.args.text.now c.leaves_with-leaves.result.now c.leaves_with-leaves.ensures.in_table c.leaves_with-leaves.ensures.sequences)
+    (ap (flat_map (leaf_line asked.form table counting paths)) c.shown_of.ensures
+    ∙ ways_are asked.form c.args.listed.now.names.now visits paths table counting are (option_copied asked.repertoire) asked.first c.args.text.now
+    c.leaves_with-giving.result.now _ c.leaves_with-giving.ensures.in_table c.leaves_with-giving.ensures.sequences kept)
 
 pub returns-clause-found : goal.returns-clause-found
 returns-clause-found g c =
     let table = g.T.ComposeTable.definitions c.args.listed.now.table.now in
-    c.has_some.ensures ∙ ap (nat_lt 0) (sym (length-map c.leaves_with-leaves.result.now (sequence_at table)) ∙ ap length c.leaves_with-leaves.ensures.sequences)
+    let r = option_copied c.args.asked.repertoire in
+    c.has_some.ensures
+    ∙ ap (nat_lt 0)
+    (ap length (c.deref-2.ensures.value ∙ c.in_ok-leaves.ensures) ∙ sym (length-map (typable_leaves table r c.leaves_with-giving.result.now) (sequence_at table))
+    ∙ ap length (typed_are table r c.args.text.now c.leaves_with-giving.result.now c.leaves_with-giving.ensures.sequences))

@@ -1,35 +1,49 @@
-use Rattle.std.proofs.Common.{rules, [], map, ◌∙◌}
+use Rattle.std.proofs.Common.{rules, ℕ, List, map, ◌∙◌, subst, string_bytes}
+use Rattle.std.specs.Prelude.{option_copied}
 use Rattle.compose_migration.specs.MigrationGives.{named_parts, table_given}
 use Rattle.compose_answer.specs.Parts.{type_parts}
 use Rattle.compose_answer.specs.declared.refusal.Refusal.TheVariants.{NoMemory}
 use Rattle.compose_tool.proofs.Steps.{refusal_gives, named_refused, table_refused, typed_read}
-use Rattle.compose_listing.specs.Answers.{IsListed, lines_of_sources}
+use Rattle.compose_listing.specs.Answers.{IsListed, IsListing, lines_of_sources}
 use Rattle.compose_listing.proofs.list.list_table.Goals as goal
 
 pub returns-in_err-named : goal.returns-in_err-named
 returns-in_err-named g c =
     let header = c.args.header.now in
     let given = table_given c.args.table.now in
-    refusal_gives (IsListed given.sources (map (λ path. path.now) c.args.paths.now)) c.from_residual.result c.in_err-named.field-0.0
-    (type_parts header [] given) (search rules) (named_refused header [] given c.in_err-named.field-0.0 c.in_err-named.ensures)
+    let wanted = c.args.wanted in
+    let keys = map (λ key. key.now) wanted.prefix.now in
+    refusal_gives (IsListed given.sources (map (λ path. path.now) c.args.paths.now) (option_copied wanted.text) wanted.order wanted.form) c.from_residual.result c.in_err-named.field-0.0
+    (type_parts header keys given) (search rules) (named_refused header keys given c.in_err-named.field-0.0 c.in_err-named.ensures)
 
 pub returns-in_err-placed : goal.returns-in_err-placed
 returns-in_err-placed g c =
     let header = c.args.header.now in
     let given = table_given c.args.table.now in
+    let wanted = c.args.wanted in
+    let keys = map (λ key. key.now) wanted.prefix.now in
     let n = named_parts c.in_ok-named.named in
-    refusal_gives (IsListed given.sources (map (λ path. path.now) c.args.paths.now)) c.from_residual-in_err-placed.result c.in_err-placed.field-0.0
-    (type_parts header [] given) (search rules) (table_refused header [] given n c.in_ok-named.ensures c.in_err-placed.field-0.0 c.in_err-placed.ensures.table)
+    refusal_gives (IsListed given.sources (map (λ path. path.now) c.args.paths.now) (option_copied wanted.text) wanted.order wanted.form) c.from_residual-in_err-placed.result c.in_err-placed.field-0.0
+    (type_parts header keys given) (search rules) (table_refused header keys given n c.in_ok-named.ensures c.in_err-placed.field-0.0 c.in_err-placed.ensures.table)
 
 pub returns-in_err-lines_of : goal.returns-in_err-lines_of
 returns-in_err-lines_of g c =
     let given = table_given c.args.table.now in
-    refusal_gives (IsListed given.sources (map (λ path. path.now) c.args.paths.now)) c.from_residual-in_err-lines_of.result NoMemory (type_parts c.args.header.now [] given) (search rules) tt
+    let wanted = c.args.wanted in
+    refusal_gives (IsListed given.sources (map (λ path. path.now) c.args.paths.now) (option_copied wanted.text) wanted.order wanted.form) c.from_residual-in_err-lines_of.result NoMemory
+    (type_parts c.args.header.now (map (λ key. key.now) wanted.prefix.now) given) (search rules) tt
 
 pub returns : goal.returns
 returns g c =
     let header = c.args.header.now in
     let given = table_given c.args.table.now in
+    let wanted = c.args.wanted in
+    let keys = map (λ key. key.now) wanted.prefix.now in
     let n = named_parts c.in_ok-named.named in
     let table = g.T.ComposeTable.definitions c.in_ok-placed.placed.table in
-    (_, typed_read header [] given n c.in_ok-named.ensures table c.in_ok-placed.ensures.table, c.in_ok-lines_of.ensures n.names (lines_of_sources given.sources) (c.deref.ensures.value ∙ c.in_ok-placed.ensures.lines))
+    let visits = lines_of_sources given.sources in (
+      _,
+      typed_read header keys given n c.in_ok-named.ensures table c.in_ok-placed.ensures.table,
+      subst (λ (ks : List ℕ). IsListing n.names visits (map (λ path. path.now) c.args.paths.now) table ks (option_copied wanted.text) wanted.order wanted.form (string_bytes c.in_ok-lines_of.field-0))
+          c.deref-2.ensures.value (c.in_ok-lines_of.ensures visits (c.deref.ensures.value ∙ c.in_ok-placed.ensures.lines)),
+    )

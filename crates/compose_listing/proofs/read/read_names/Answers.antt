@@ -1,4 +1,4 @@
-use Rattle.std.proofs.Common.{sym, subst, [], List, ℕ}
+use Rattle.std.proofs.Common.{sym, subst, map}
 use Rattle.compose_migration.specs.Migration.{named}
 use Rattle.compose_answer.specs.Refused.{IsRefused}
 use Rattle.compose_answer.specs.declared.refusal.Refusal.{Refusal}
@@ -7,5 +7,5 @@ use Rattle.compose_listing.proofs.read.read_names.Goals as goal
 
 pub returns-in-Err : goal.returns-in-Err
 returns-in-Err c =
-    let said = named c.args.header.now [] in
+    let said = named c.args.header.now (map (λ name. name.now) c.args.key_names.now) in
     subst (λ (r : Refusal). IsRefused r (unmoved said)) (sym c.from.ensures) (migration_refused c.in-Err.fault said c.in-Err.ensures)

@@ -8,4 +8,4 @@ use Rattle.compose_listing.proofs.read.read_placed.Goals as goal
 pub returns-in-Err : goal.returns-in-Err
 returns-in-Err g c =
     let none = why_none c.in-Err.fault (first_table c.args.names.now c.args.input.now.sources.now c.args.input.now.rule) (search rules) in
-    record { table = (none.0, ap (or_because no_only_table) none.1, none.2); lines = tt }
+    record { table = (none.0, ap (or_because no_only_table) none.1, none.2); lines = tt; named = tt }

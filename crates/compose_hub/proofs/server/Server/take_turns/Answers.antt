@@ -15,7 +15,7 @@ returns-in_err-tell-clause-happened g c first s =
     slot_fails c.args.limits g.A.Answer.reading first (g.A.Answer.state c.slots.service) (g.A.Answer.state c.serve_slot-ended.new.service) (g.N.Streams.stream c.slots.sockets)
     (g.N.Streams.stream c.serve_slot-ended.new.sockets) (g.E.Report.told c.slots.report) (g.E.Report.told c.tell.new.report) c.args.self.now.accepted c.slots.slot-items (c.slots.invariant.goes_on first s)
     c.slots.slot-index c.serve_slot-ended.new.slot lt c.slot-item.result c.serve_slot-ended.result
-    (slot_turns _ _ _ _ _ _ _ _ _ c.serve_slot-ended.ensures.turns) (not_told_end _ _ _ _ _ _ c.in_err-tell.ensures)
+    (slot_turns c.args.limits _ _ _ _ _ _ _ _ _ c.serve_slot-ended.ensures.turns) (not_told_end _ _ _ _ _ _ c.in_err-tell.ensures)
 
 pub slots-preserved : goal.slots-preserved
 slots-preserved g c =
@@ -28,10 +28,10 @@ slots-preserved g c =
       goes_on = λ first s. slot_goes_on c.args.limits g.A.Answer.reading first (g.A.Answer.state c.slots.service) (g.A.Answer.state c.serve_slot-ended.new.service) (g.N.Streams.stream c.slots.sockets)
           (g.N.Streams.stream c.serve_slot-ended.new.sockets) (g.E.Report.told c.slots.report) (g.E.Report.told c.tell.new.report) c.args.self.now.accepted c.slots.slot-items (c.slots.invariant.goes_on first s)
           c.slots.slot-index c.serve_slot-ended.new.slot lt c.slot-item.result c.serve_slot-ended.result
-          (slot_turns _ _ _ _ _ _ _ _ _ c.serve_slot-ended.ensures.turns) (tells _ _ _ _ _ _ c.in_ok-tell.ensures);
+          (slot_turns c.args.limits _ _ _ _ _ _ _ _ _ c.serve_slot-ended.ensures.turns) (tells _ _ _ _ _ _ c.in_ok-tell.ensures);
       round =
           round_step c.args.limits.unsent g.A.Answer.reading slots i (g.A.Answer.state c.args.service.now) (g.A.Answer.state c.slots.service) (g.A.Answer.state c.serve_slot-ended.new.service)
-          (g.N.Streams.stream c.args.sockets.now) (g.N.Streams.stream c.slots.sockets) (g.N.Streams.stream c.serve_slot-ended.new.sockets) (get_or c.slots.slot-items i c.slot-item.result)
+          (g.N.Streams.stream c.args.sockets.now) (g.N.Streams.stream c.slots.sockets) (g.N.Streams.stream c.serve_slot-ended.new.sockets) c.serve_slot-ended.new.time (get_or c.slots.slot-items i c.slot-item.result)
           c.serve_slot-ended.new.slot c.serve_slot-ended.result (omega arith) before c.slots.invariant.round c.serve_slot-ended.ensures.turns;
       ahead = λ key le. get_or-set_other c.slots.slot-items i key c.serve_slot-ended.new.slot None (λ same. absurd (omega (arith, same, le))) ∙ c.slots.invariant.ahead key (omega (arith, le));
       rooms = λ all. rooms_set c.slots.slot-items i c.serve_slot-ended.new.slot lt c.slot-item.result (c.slots.invariant.rooms all) c.serve_slot-ended.ensures.room;

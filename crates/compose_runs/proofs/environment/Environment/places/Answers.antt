@@ -1,9 +1,9 @@
 use Rattle.std.proofs.Common.{◌≡◌, ◌∙◌, refl, ap, ℕ, List, Bor}
-use Rattle.std.specs.Prelude.{Option, Some, None, option_copied, unwrap_or, Result, Ok, MatchOption, IsSomeAnd}
-use Rattle.std.specs.Option.{option_or}
+use Rattle.std.specs.Prelude.{Option, Some, None, option_copied, Ok, MatchOption, IsSomeAnd}
+use Rattle.std.specs.Option.{option_map}
 use Rattle.compose_text.specs.Results.{◌>>=◌}
-use Rattle.compose_runs.specs.Environment.{SaidPlaces, IsRoot, locale_of, places_of}
-use Rattle.compose_runs.specs.Variables.{Said, text_of, IsBeginning}
+use Rattle.compose_runs.specs.Environment.{SaidPlaces, locale_of, places_of}
+use Rattle.compose_runs.specs.Variables.{Said, text_of, without_slashes}
 use Rattle.compose_runs.specs.declared.environment.Environment.{Environment}
 use Rattle.compose_runs.proofs.Lent.{copied_or, now_or}
 use Rattle.compose_runs.proofs.environment.Environment.places.Goals as goal
@@ -27,11 +27,11 @@ says e system locale home s l h =
     first ∙ (second ∙ third)
 
 -- a root without slashes at its end, if there is one
-is_root : (given root : Option (Bor (List ℕ))) → MatchOption given (root ≡ None) (λ x. IsSomeAnd root (λ y. IsBeginning x.now y.now))
-    → IsRoot (option_copied given) (option_copied root)
+is_root : (given root : Option (Bor (List ℕ))) → MatchOption given (root ≡ None) (λ x. IsSomeAnd root (λ y. y.now ≡ without_slashes x.now))
+    → option_copied root ≡ option_map without_slashes (option_copied given)
 is_root None root e = ap option_copied e
-is_root (Some x) None h = h
-is_root (Some x) (Some y) h = h
+is_root (Some x) None h = absurd h
+is_root (Some x) (Some y) h = ap Some h
 
 pub returns : goal.returns
 returns c =

@@ -1,0 +1,49 @@
+use Rattle.std.proofs.Common.{◌≡◌, ◌∙◌, ◌<◌, List, Option, length, set, sym, subst, arith}
+use Rattle.std.proofs.lemmas.List.{length-set, take_at}
+use Rattle.compose_hub.specs.Serving.{world, ServedSoFar}
+use Rattle.compose_hub.specs.Rounds.{AreWithinRooms, KeepsRooms}
+use Rattle.compose_hub.proofs.Rooms.{rooms_set}
+use Rattle.compose_hub.specs.declared.client.Client.{Client}
+use Rattle.compose_hub.proofs.Serving.{slot_gives_up, slot_goes_on, slot_fails, tells, not_told_end}
+use Rattle.compose_hub.proofs.server.Server.give_up.Goals as goal
+
+pub returns-in_err-tell-clause-happened : goal.returns-in_err-tell-clause-happened
+returns-in_err-tell-clause-happened g c reading state first s =
+    let lt : c.slots.slot-index < length c.slots.slot-items = omega arith in
+    slot_fails c.args.limits reading first state state (g.N.Streams.stream c.slots.sockets)
+    (g.N.Streams.stream c.give_up-ended.new.sockets) (g.E.Report.told c.slots.report) (g.E.Report.told c.tell.new.report) c.args.self.now.accepted c.slots.slot-items (c.slots.invariant.goes_on reading state first s)
+    c.slots.slot-index c.give_up-ended.new.slot lt c.slot-item.result c.give_up-ended.result
+    (slot_gives_up c.args.limits _ _ reading state _ _ _ _ _ c.give_up-ended.ensures.gives_up) (not_told_end _ _ _ _ _ _ c.in_err-tell.ensures)
+
+pub slots-preserved : goal.slots-preserved
+slots-preserved g c =
+    let lt : c.slots.slot-index < length c.slots.slot-items = omega arith in
+    record {
+      goes_on = λ reading state first s. slot_goes_on c.args.limits reading first state state (g.N.Streams.stream c.slots.sockets)
+          (g.N.Streams.stream c.give_up-ended.new.sockets) (g.E.Report.told c.slots.report) (g.E.Report.told c.tell.new.report) c.args.self.now.accepted c.slots.slot-items (c.slots.invariant.goes_on reading state first s)
+          c.slots.slot-index c.give_up-ended.new.slot lt c.slot-item.result c.give_up-ended.result
+          (slot_gives_up c.args.limits _ _ reading state _ _ _ _ _ c.give_up-ended.ensures.gives_up) (tells _ _ _ _ _ _ c.in_ok-tell.ensures);
+      rooms = λ all. rooms_set c.slots.slot-items c.slots.slot-index c.give_up-ended.new.slot lt c.slot-item.result (c.slots.invariant.rooms all) c.give_up-ended.ensures.room;
+    }
+
+pub returns-in_err-tell-clause-rooms : goal.returns-in_err-tell-clause-rooms
+returns-in_err-tell-clause-rooms g c all =
+    let lt : c.slots.slot-index < length c.slots.slot-items = omega arith in
+    let len : length c.slots.slot-items ≡ c.args.self.now.slots.len = omega arith in
+    let now = set c.slots.slot-items c.slots.slot-index c.give_up-ended.new.slot in
+    subst (λ (slots : List (Option Client)). AreWithinRooms slots) (sym (take_at now _ _ (length-set c.slots.slot-items c.slots.slot-index c.give_up-ended.new.slot ∙ len)))
+    (rooms_set c.slots.slot-items c.slots.slot-index c.give_up-ended.new.slot lt c.slot-item.result (c.slots.invariant.rooms all) c.give_up-ended.ensures.room)
+
+pub returns-clause-happened : goal.returns-clause-happened
+returns-clause-happened g c reading state first s = (c.slots.invariant.goes_on reading state first s).so_far
+
+pub returns-clause-goes_on : goal.returns-clause-goes_on
+returns-clause-goes_on g c reading state first s =
+    let len : length c.slots.slot-items ≡ c.args.self.now.slots.len = omega arith in
+    subst (λ (now : List (Option Client)). ServedSoFar c.args.limits reading first (world state (g.N.Streams.stream c.slots.sockets) (g.E.Report.told c.slots.report)) c.args.self.now.accepted now)
+    (sym (take_at _ _ _ len)) (c.slots.invariant.goes_on reading state first s)
+
+pub returns-clause-rooms : goal.returns-clause-rooms
+returns-clause-rooms g c =
+    let len : length c.slots.slot-items ≡ c.args.self.now.slots.len = omega arith in
+    subst (λ (now : List (Option Client)). KeepsRooms c.args.self.now.slots.items now) (sym (take_at _ _ _ len)) c.slots.invariant.rooms

@@ -1,0 +1,18 @@
+-- Sequences that begin with another one: where both are defined, the longer one is typed (libxkbcommon).
+use Rattle.std.specs.Prelude.{ℕ, Bool, false, List, reverse, Option}
+use Rattle.std.specs.List.{find}
+use Rattle.std.specs.Option.{option_map, option_map_or}
+use Rattle.compose_model.specs.Table.{is_proper_prefix}
+use Rattle.compose_lint.specs.Lines.{LintLine}
+use Rattle.compose_lint.specs.declared.finding.LinePlace.{LinePlace}
+
+-- the line defines a longer sequence that begins with this one
+abbrev pub extends : List ℕ → LintLine → Bool
+extends s l = option_map_or (λ d. is_proper_prefix s d.sequence) l.definition false
+
+abbrev pub place_of : LintLine → LinePlace
+place_of l = record { source = l.source; line = l.line }
+
+-- where the last of these lines stands that defines a longer sequence that begins with this one
+abbrev pub longer_place : List LintLine → List ℕ → Option LinePlace
+longer_place lines s = option_map place_of (find (extends s) (reverse lines))

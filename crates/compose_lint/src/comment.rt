@@ -1,0 +1,59 @@
+//! The comment of a line.
+ghost use Rattle.std.specs.Prelude.{◌≡◌, ◌==◌, drop, position, option_copied};
+ghost use Rattle.compose_lint.specs.Productions as words;
+
+use crate::file_lines::head_len;
+use crate::production::production_of;
+
+/// The comment of a line with a string, if it has one: what follows the first `#` that
+/// follows the string, without white space at its ends. O(bytes).
+pub(crate) fn comment_of(line: &[u8]) -> Option<&[u8]>
+    ensures { option_copied result ≡ words.comment_of line.now }
+{
+    let production = production_of(line)?;
+    comment_in(behind_string(line, production.raw_text()?))
+}
+
+/// What follows the string with this raw text. O(bytes).
+fn behind_string<'a>(line: &'a [u8], raw: &str) -> &'a [u8]
+    ensures { result.now ≡ words.behind_string line.now raw.now }
+{
+    behind(behind(behind(line, head_len(line)), 2), raw.len())
+}
+
+/// The bytes behind so many.
+fn behind(bytes: &[u8], count: usize) -> &[u8]
+    ensures { result.now ≡ drop count bytes.now }
+{
+    match bytes.get(count..) {
+        Some(rest) => rest,
+        None => &[],
+    }
+}
+
+/// What follows the first `#` of these bytes, if there is one.
+fn comment_in(bytes: &[u8]) -> Option<&[u8]>
+    ensures { option_copied result ≡ words.comment_in bytes.now }
+{
+    match comment_at(bytes) {
+        Some(at) => trimmed(behind(behind(bytes, at), 1)),
+        None => None,
+    }
+}
+
+/// Where the first `#` of these bytes stands, if there is one.
+fn comment_at(bytes: &[u8]) -> Option<usize>
+    ensures { result ≡ position (λ b. b == 35) bytes.now }
+{
+    bytes.iter().position(|byte| *byte == b'#')
+}
+
+/// The bytes as a text without white space at its ends, if they are one.
+fn trimmed(bytes: &[u8]) -> Option<&[u8]>
+    ensures { option_copied result ≡ words.trimmed bytes.now }
+{
+    match str::from_utf8(bytes) {
+        Ok(text) => Some(text.trim().as_bytes()),
+        Err(_) => None,
+    }
+}

@@ -1,0 +1,139 @@
+//! Which value stands most often beside a key.
+ghost use Rattle.std.specs.Prelude.{◌≡◌, ℕ, List, IfOk, unwrap_or, bytes_eq, ◌&&◌, option_copied};
+ghost use Rattle.std.specs.Borrow.{Bor};
+ghost use Rattle.indexmap.specs.IndexMap.{get_by};
+ghost use Rattle.compose_lint.specs.Commonest as words;
+
+use indexmap::IndexMap;
+use std::alloc::{AllocError, Global};
+use std::marker::Model;
+
+/// A key, and the value that stands beside it.
+#[derive(Drop)]
+pub(crate) struct Note<'a> {
+    pub(crate) key: &'a [u8],
+    pub(crate) value: &'a [u8],
+}
+
+impl<'a> Model for Note<'a> {
+    ghost use Rattle.compose_lint.specs.Commonest as words;
+
+    ghost Value = { words.Note };
+
+    ghost view = { λ n. record { key = n.key.now; value = n.value.now } };
+}
+
+impl<'a> Note<'a> {
+    ghost use Rattle.std.specs.Prelude.{◌≡◌};
+
+    pub(crate) fn key(&self) -> &'a [u8]
+        ensures { result.now ≡ self.now.key }
+    {
+        self.key
+    }
+
+    pub(crate) fn value(&self) -> &'a [u8]
+        ensures { result.now ≡ self.now.value }
+    {
+        self.value
+    }
+}
+
+/// How often each value stands beside each key.
+type Counts<'a> = IndexMap<(&'a [u8], &'a [u8]), usize>;
+
+/// For each key the value that stands most often beside it.
+pub(crate) type Leaders<'a> = IndexMap<&'a [u8], Leader<'a>>;
+
+/// The first value that stands as often as any beside a key, how often it does, and whether another
+/// does as well.
+#[derive(Drop)]
+pub(crate) struct Leader<'a> {
+    value: &'a [u8],
+    count: usize,
+    is_tied: bool,
+}
+
+impl<'a> Model for Leader<'a> {
+    ghost use Rattle.compose_lint.specs.Commonest as words;
+
+    ghost Value = { words.Leading };
+
+    ghost view = { λ l. record { value = l.value.now; count = l.count; is_tied = l.is_tied } };
+}
+
+/// How often each value stands beside each key. O(bytes).
+fn counts<'a>(alloc: Global, notes: &[Note<'a>]) -> Result<Counts<'a>, AllocError>
+    ensures { IfOk result (λ counts. (k : Bor (List ℕ)) (v : Bor (List ℕ)) → unwrap_or (get_by (λ p. bytes_eq k.now p.0.now && bytes_eq v.now p.1.now) counts) 0 ≡ words.times notes.now k.now v.now) }
+{
+    let mut counts = IndexMap::new(alloc);
+    for note in notes {
+        let pair = (note.key(), note.value());
+        let count = counts.get(&pair).copied().unwrap_or(0);
+        counts.insert(pair, count + 1)?;
+    }
+    Ok(counts)
+}
+
+/// The leader, as a value is looked at that stands so often beside the key.
+fn next_leader<'a>(leader: Option<&Leader<'a>>, value: &'a [u8], count: usize) -> Leader<'a>
+    ensures { result ≡ words.next_leading (option_copied leader.entry) value.now count }
+{
+    let Some(leader) = leader else {
+        return Leader {
+            value,
+            count,
+            is_tied: false,
+        };
+    };
+    if leader.count < count {
+        return Leader {
+            value,
+            count,
+            is_tied: false,
+        };
+    }
+    let is_tied = leader.is_tied || (value != leader.value && count == leader.count);
+    Leader {
+        value: leader.value,
+        count: leader.count,
+        is_tied,
+    }
+}
+
+/// For each key the value that stands most often beside it. O(bytes).
+pub(crate) fn leaders<'a>(alloc: Global, notes: &[Note<'a>]) -> Result<Leaders<'a>, AllocError>
+    ensures { IfOk result (λ leaders. (k : Bor (List ℕ)) → words.IsLed (words.times notes.now k.now) k.now notes.now (get_by (λ p. bytes_eq k.now p.now) leaders)) }
+{
+    let counts = counts(alloc, notes)?;
+    let mut leaders = IndexMap::new(alloc);
+    for note in notes {
+        let (key, value) = (note.key(), note.value());
+        let count = counts.get(&(key, value)).copied().unwrap_or(0);
+        let leader = next_leader(leaders.get(key), value, count);
+        leaders.insert(key, leader)?;
+    }
+    Ok(leaders)
+}
+
+/// Whether another value than this one stands more often beside the key than any other, where these
+/// are the leaders of some notes. O(bytes of the key and the value).
+pub(crate) fn has_other(leaders: &Leaders<'_>, key: &[u8], value: &[u8]) -> bool
+    ensures { (notes : List words.Note)
+        → ((k : Bor (List ℕ))
+        → words.IsLed (words.times notes k.now) k.now notes
+        (get_by (λ p. bytes_eq k.now p.now) leaders.now))
+        → result ≡ words.has_other notes key.now value.now }
+{
+    leads_other(leaders.get(key), value)
+}
+
+/// Whether the leader is another value than this one, and no other stands as often.
+fn leads_other(leader: Option<&Leader<'_>>, value: &[u8]) -> bool
+    ensures { result ≡ words.leads_other value.now (option_copied leader.entry) }
+{
+    match leader {
+        Some(leader) => !leader.is_tied && leader.value != value,
+        None => false,
+    }
+}

@@ -1,0 +1,80 @@
+//! The lines that a source includes.
+ghost use Rattle.std.specs.Prelude.{◌≡◌, ◌==◌, not, map, filter, take, IfOk};
+ghost use Rattle.compose_read.specs.Lines.{Visit};
+ghost use Rattle.compose_read.specs.Read.{max_lines};
+ghost use Rattle.compose_read.specs.Visits.{visit_of};
+ghost use Rattle.compose_lint.specs.Lines.{included_lines, lint_line};
+
+use crate::comment::comment_of;
+use crate::definition::line_definition;
+use crate::lines::LintLine;
+use compose_read::{Sources, VisitedLine, Visits};
+use keysym_core::Names;
+use std::alloc::{AllocError, Global};
+
+/// How many lines are read of a source and all that it includes.
+const MAX_LINES: usize = 1000000;
+
+/// The lines of other sources that are read from the source with this index, in order: of 1,000,000
+/// lines at most. O(bytes of the lines that are read).
+pub(crate) fn included_lines<'a>(
+    alloc: Global,
+    names: &Names,
+    sources: &'a Sources,
+    source: usize,
+) -> Result<Vec<LintLine<'a>>, AllocError>
+    ensures { IfOk result (λ lines. lines.items ≡ included_lines names.now sources.now source) }
+{
+    let Some(name) = sources.name(source) else {
+        return Ok(Vec::new(alloc));
+    };
+    match sources.visits(name) {
+        Some(visits) => others_in(alloc, names, sources, visits, source),
+        None => Ok(Vec::new(alloc)),
+    }
+}
+
+/// Those of these lines that are not of the source with this index.
+fn others_in<'a>(
+    alloc: Global,
+    names: &Names,
+    sources: &'a Sources,
+    mut visits: Visits<'a>,
+    source: usize,
+) -> Result<Vec<LintLine<'a>>, AllocError>
+    ensures { IfOk result
+        (λ others. others.items
+        ≡ map (lint_line names.now sources.now)
+        (filter (λ v. not (v.source == source)) (take max_lines visits.entry))) }
+{
+    let mut others = Vec::new(alloc);
+    let mut lines = 0;
+    while lines < MAX_LINES {
+        let Some(line) = visits.next() else {
+            return Ok(others);
+        };
+        lines += 1;
+        if line.source != source {
+            others.push(visited_line(alloc, names, sources, line)?)?;
+        }
+    }
+    Ok(others)
+}
+
+/// The line with the definition that it gives, and the comment beside its string. O(bytes).
+fn visited_line<'a>(
+    alloc: Global,
+    names: &Names,
+    _sources: &'a Sources,
+    line: VisitedLine<'a>,
+) -> Result<LintLine<'a>, AllocError>
+    ensures { IfOk result (λ l. l ≡ lint_line names.now _sources.now (visit_of line.entry)) }
+{
+    Ok(LintLine {
+        source: line.source,
+        line: line.line,
+        bytes: line.bytes,
+        definition: line_definition(alloc, names, line.bytes)?,
+        comment: comment_of(line.bytes),
+    })
+}

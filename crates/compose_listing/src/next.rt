@@ -1,0 +1,197 @@
+//! The keys that can follow some keys.
+ghost use Rattle.std.specs.Prelude.{◌≡◌, ◌<◌, ◌++◌, ◌∷◌, ℕ, [], Some, None, length, map, IfOk, OnOk, MatchOption, string_bytes};
+ghost use Rattle.keysym_core.specs.Printed.{printed};
+ghost use Rattle.compose_model.specs.Nodes as nodes_words;
+ghost use Rattle.compose_model.specs.Nodes.{nodes, edges};
+ghost use Rattle.compose_migration.specs.MigrationGives.{table_given};
+ghost use Rattle.compose_answer.specs.Parts.{type_parts};
+ghost use Rattle.compose_answer.specs.Refused.{Gives};
+ghost use Rattle.compose_listing.specs.Answers.{IsNext};
+ghost use Rattle.compose_listing.specs.Next as words;
+
+use crate::form::ListForm;
+use crate::json::push_json_string;
+use crate::line::push_result;
+use crate::read::{read_names, read_placed};
+use compose_answer::{Answer, Refusal};
+use compose_lookup::{sequences_after, text_of};
+use compose_migration::TableInput;
+use compose_places::PlacedTable;
+use compose_tree::{ComposeTable, NodeId, Target};
+use keysym_core::{Keysym, Names};
+use std::alloc::{AllocError, Global};
+use std::fmt::Write;
+
+/// The keys with which sequences of the table go on after these keys, by their keysyms, and what each leads to: a text, or how many sequences. The
+/// names, the keysyms of the keys and the table are read in this order, and the first that is refused decides. O(bytes of the sources + n log n)
+/// for n sequences.
+pub fn list_next<T: ComposeTable>(
+    alloc: Global,
+    header: &[u8],
+    table: &TableInput<'_>,
+    prefix: &[&str],
+    form: ListForm,
+) -> Result<Answer, Refusal>
+    ensures { Gives (IsNext form) result
+        (type_parts header.now (map (λ key. key.now) prefix.now) (table_given table.entry.now)) }
+{
+    let named = read_names(alloc, header, prefix)?;
+    let placed: PlacedTable<'_, T> = read_placed(alloc, &named.names, table)?;
+    let lines = next_lines(alloc, &named.names, &placed.table, &named.keys, form)?;
+    Ok(Answer::Yes(lines))
+}
+
+/// A line for each key with which some sequence goes on after these keys.
+fn next_lines<T: ComposeTable>(
+    alloc: Global,
+    names: &Names,
+    table: &T,
+    keys: &[Keysym],
+    form: ListForm,
+) -> Result<String, AllocError>
+    ensures { IfOk result
+        (λ lines. string_bytes lines
+        ≡ words.next_lines form names.now (T.definitions table.now) keys.now) }
+{
+    match node_with(table, keys) {
+        Some(node) => lines_from(alloc, names, table, node, form),
+        None => Ok(String::new(alloc)),
+    }
+}
+
+/// The node to which these keys lead from the root, if they lead to one. O(keys × log edges of a node).
+fn node_with<T: ComposeTable>(table: &T, keys: &[Keysym]) -> Option<NodeId>
+    ensures { MatchOption result (edges (T.definitions table.now) keys.now ≡ [])
+        (λ node. (node.0 < length (nodes (T.definitions table.now)))
+        × (nodes_words.node (T.definitions table.now) node.0 ≡ keys.now)) }
+{
+    // The contract of this call says that the table is settled.
+    let _ = table.node_count();
+    let mut node = NodeId::ROOT;
+    for keysym in keys {
+        match table.step(node, *keysym)? {
+            Target::Node(next) => node = next,
+            Target::Leaf(_) => return None,
+        }
+    }
+    Some(node)
+}
+
+/// A line for each key with which some sequence goes on from the node.
+fn lines_from<T: ComposeTable>(
+    alloc: Global,
+    names: &Names,
+    table: &T,
+    node: NodeId,
+    form: ListForm,
+) -> Result<String, AllocError>
+    requires { node.0 < length (nodes (T.definitions table.now)) }
+    ensures { IfOk result
+        (λ lines. string_bytes lines
+        ≡ words.next_lines form names.now (T.definitions table.now)
+        (nodes_words.node (T.definitions table.now) node.0)) }
+{
+    // The contract of this call says that the table is settled.
+    let _ = table.node_count();
+    let mut lines = String::new(alloc);
+    for index in 0..table.edge_count(node) {
+        let (keysym, target) = table.edge(node, index);
+        let key = printed_key(alloc, names, keysym)?;
+        match target {
+            Target::Leaf(leaf) => {
+                push_text(alloc, &mut lines, form, &key, text_of(table, leaf))?;
+            }
+            Target::Node(child) => {
+                push_count(&mut lines, form, &key, sequences_after(table, child))?;
+            }
+        }
+    }
+    Ok(lines)
+}
+
+/// The key as it is printed.
+fn printed_key(alloc: Global, names: &Names, keysym: Keysym) -> Result<String, AllocError>
+    ensures { IfOk result (λ key. string_bytes key ≡ printed names.now keysym) }
+{
+    match names.print(alloc, keysym) {
+        Ok(key) => Ok(key),
+        Err(_) => Err(AllocError),
+    }
+}
+
+/// Appends a key that ends a sequence, and its text.
+fn push_text(
+    alloc: Global,
+    lines: &mut String,
+    form: ListForm,
+    key: &str,
+    text: &str,
+) -> Result<(), AllocError>
+    ensures { (n : ℕ) → OnOk result
+        (string_bytes lines.new
+        ≡ string_bytes lines.old ++ (words.leads form key.now (Some text.now) n ++ 10 ∷ [])) }
+{
+    match form {
+        ListForm::Lines => {
+            push_key(lines, key, "> : ")?;
+            push_result(alloc, lines, text)?;
+        }
+        ListForm::Json => {
+            push_key_member(lines, key)?;
+            lines.push_str(",\"text\":")?;
+            push_json_string(lines, text)?;
+            lines.push_str(",\"sequences\":null}")?;
+        }
+    }
+    lines.push('\n')
+}
+
+/// Appends a key with which so many sequences go on.
+fn push_count(lines: &mut String, form: ListForm, key: &str, count: u32) -> Result<(), AllocError>
+    ensures { OnOk result
+        (string_bytes lines.new
+        ≡ string_bytes lines.old ++ (words.leads form key.now None count ++ 10 ∷ [])) }
+{
+    match form {
+        ListForm::Lines => {
+            push_key(lines, key, "> .. ")?;
+            let word = sequences_word(count);
+            write!(lines, "{count}{word}")?;
+        }
+        ListForm::Json => {
+            push_key_member(lines, key)?;
+            write!(lines, ",\"text\":null,\"sequences\":{count}}}")?;
+        }
+    }
+    lines.push('\n')
+}
+
+/// Appends a key after `<`, and what follows it.
+fn push_key(lines: &mut String, key: &str, behind: &str) -> Result<(), AllocError>
+    ensures { OnOk result
+        (string_bytes lines.new ≡ string_bytes lines.old ++ words.key_text key.now behind.now) }
+{
+    lines.push_str("<")?;
+    lines.push_str(key)?;
+    lines.push_str(behind)
+}
+
+/// Appends the member for a key of a JSON object that begins with it.
+fn push_key_member(lines: &mut String, key: &str) -> Result<(), AllocError>
+    ensures { OnOk result
+        (string_bytes lines.new ≡ string_bytes lines.old ++ words.key_member key.now) }
+{
+    lines.push_str("{\"key\":")?;
+    push_json_string(lines, key)
+}
+
+/// A blank and the word for so many sequences.
+fn sequences_word(count: u32) -> &'static str
+    ensures { result.now ≡ words.sequences_word count }
+{
+    if count == 1 {
+        " sequence"
+    } else {
+        " sequences"
+    }
+}

@@ -1,0 +1,19 @@
+-- A fault that is answered.
+use Rattle.std.proofs.Common.{◌≡◌, sym, subst}
+use Rattle.std.specs.Prelude.{Result, Ok, Err, IfErr, IsErrAnd}
+use Rattle.compose_input.specs.declared.fault.Fault.{Fault}
+use Rattle.compose_input.specs.declared.fault.Fault.TheVariants.{NoMemory}
+
+-- what is known of the fault, said of the result
+pub fails : {X : Type 0} (P : Fault → Type 0) (r : Result X Fault) (fault : Fault) → r ≡ Err fault → P fault → IfErr r P
+fails P r fault is p = subst (λ r. IfErr r P) (sym is) p
+
+-- another fact of the fault, where there is one
+pub err_map : {X E : Type 0} (P Q : E → Type 0) (r : Result X E) → ((e : E) → P e → Q e) → IfErr r P → IfErr r Q
+err_map P Q (Ok x) f h = tt
+err_map P Q (Err e) f h = f e h
+
+-- memory ran out
+pub memory : {X : Type 0} (P : Fault → Type 0) (r : Result X Fault) → IsErrAnd r (λ fault. fault ≡ NoMemory) → P NoMemory → IfErr r P
+memory P (Ok x) h p = tt
+memory P (Err fault) h p = subst P (sym h) p

@@ -1,0 +1,49 @@
+-- What `check` prints (this project's profile).
+use Rattle.std.specs.Prelude.{ℕ, Bool, List, [], ◌∷◌, map, Option, Some, None, Result}
+use Rattle.std.proofs.Common.{Bor}
+use Rattle.std.specs.Option.{option_map, unwrap_or}
+use Rattle.compose_folder.specs.Content.{Entry}
+use Rattle.compose_migration.specs.Migration.{or_because}
+use Rattle.compose_check.specs.Input.{parts_of}
+use Rattle.compose_answer.specs.Parts.{unread, allowed_parts}
+use Rattle.compose_answer.specs.Refused.{Gives}
+use Rattle.compose_answer.specs.declared.answer.Answer.{Answer}
+use Rattle.compose_answer.specs.declared.refusal.Refusal.{Refusal}
+use Rattle.compose_tool.specs.Answers.{IsChecked, IsCheckedFor}
+use Rattle.compose_details.specs.Given.{GivenParts, IsGiven}
+use Rattle.compose_details.specs.Given.{parts_of as listed_parts}
+use Rattle.compose_details.specs.declared.given.Given.{Given}
+use Rattle.compose_report.specs.Outcomes.{IsReported}
+use Rattle.compose_report.specs.declared.outcome.Outcome.{Outcome}
+use Rattle.compose_runs.specs.CheckFiles.{AreCheckFiles, check_given}
+use Rattle.compose_runs.specs.declared.checking.CheckFiles.{CheckFiles}
+use Rattle.compose_runs.specs.declared.checking.CheckPaths.{CheckPaths}
+use Rattle.compose_runs.specs.declared.options.Options.{Options}
+
+-- the names of the allowed keysyms, where they are given
+abbrev pub allowed_names : Option (Bor (List (Bor (List ℕ)))) → Option (List (List ℕ))
+allowed_names allowed = option_map (λ names. map (λ name. name.now) names.now) allowed
+
+-- the answer to the certificate, whose fresh keysyms have to be among the allowed ones where these are given
+abbrev pub AnswersCheck : Option (List (List ℕ)) → Result Answer Refusal → CheckFiles → Type 0
+AnswersCheck None answered check = Gives IsChecked answered (or_because unread (parts_of (check_given check)))
+AnswersCheck (Some allowed) answered check = Gives IsCheckedFor answered (allowed_parts allowed (check_given check))
+
+-- what was given to `check`
+abbrev pub given_parts : CheckFiles → CheckPaths → Option (List (List ℕ)) → GivenParts
+given_parts check paths allowed =
+    record (listed_parts check.both.names (unwrap_or allowed []) (check.both.old ∷ check.both.new ∷ [])) { repertoire = paths.repertoire.now; certificate = paths.certificate.now; certificate_text = check.certificate.items }
+
+-- the answer on these files, reported
+pub record IsCheckOutcome (verbose : Bool) (check : CheckFiles) (paths : CheckPaths) (allowed : Option (List (List ℕ))) (outcome : Outcome) : Type 0 where
+  pub answered : Result Answer Refusal
+  pub is : AnswersCheck allowed answered check
+  pub given : Given
+  pub parts : IsGiven (given_parts check paths allowed) given
+  pub reported : IsReported verbose given answered outcome
+
+-- the same on the files that the folder has
+pub record IsCheckRun (folder : Option (List Entry)) (options : Options) (paths : CheckPaths) (allowed : Option (List (List ℕ))) (outcome : Outcome) : Type 0 where
+  pub check : CheckFiles
+  pub read : AreCheckFiles folder (map (λ name. name.now) options.names.now) paths check
+  pub is : IsCheckOutcome options.verbose check paths allowed outcome

@@ -1,0 +1,126 @@
+-- What `diff` prints (this project's profile).
+use Rattle.std.specs.Prelude.{◌≡◌, ℕ, Bool, true, false, List, [], ◌∷◌, ◌++◌, map, Option, unwrap_or, option_copied, Result, Ok, Err, string_bytes, codes}
+use Rattle.std.specs.Str.Lines.{lines}
+use Rattle.compose_folder.specs.Content.{Entry}
+use Rattle.compose_answer.specs.declared.answer.Answer.{Answer}
+use Rattle.compose_answer.specs.declared.answer.Answer.TheVariants.{Yes, No}
+use Rattle.compose_answer.specs.declared.answer.Ended.TheVariants.{Refused}
+use Rattle.compose_answer.specs.declared.refusal.Refusal.{Refusal}
+use Rattle.compose_arguments.specs.declared.diff_arguments.DiffArguments.{DiffArguments}
+use Rattle.compose_arguments.specs.declared.diff_arguments.DiffForm.{DiffForm}
+use Rattle.compose_arguments.specs.declared.diff_arguments.DiffForm.TheVariants as forms
+use Rattle.compose_arguments.specs.declared.diff_arguments.DiffColor.{DiffColor}
+use Rattle.compose_arguments.specs.declared.diff_arguments.DiffColor.TheVariants.{Auto, Always, Never}
+use Rattle.compose_diff.specs.Colors.{colored_lines}
+use Rattle.compose_diff.specs.declared.accepted.AcceptFault.{AcceptFault}
+use Rattle.compose_diff.specs.declared.accepted.AcceptFault.TheVariants.{Stale, BadLine, NoMemory}
+use Rattle.compose_diff_rows.specs.Answers.{Asked, AnswersDiff}
+use Rattle.compose_diff_rows.specs.declared.asking.DiffFault.{DiffFault}
+use Rattle.compose_diff_rows.specs.declared.asking.DiffFault.TheVariants.{Input, Accept}
+use Rattle.compose_diff_rows.specs.declared.asking.Form.{Form}
+use Rattle.compose_diff_rows.specs.declared.asking.Form.TheVariants.{Folded, Lines, Json, AcceptList}
+use Rattle.compose_details.specs.Files.{said_at}
+use Rattle.compose_details.specs.Given.{IsGiven, parts_of}
+use Rattle.compose_details.specs.declared.given.Given.{Given}
+use Rattle.compose_report.specs.Outcomes.{IsNoted, IsOutcome, IsReported, PrintsErrors}
+use Rattle.compose_report.specs.declared.outcome.Outcome.{Outcome}
+use Rattle.compose_runs.specs.Environment.{wants_color}
+use Rattle.compose_runs.specs.Variables.{Said}
+use Rattle.compose_runs.specs.DiffFiles.{AreDiffFiles, diff_migration_given}
+use Rattle.compose_runs.specs.declared.differing.DiffFiles.{DiffFiles}
+use Rattle.compose_runs.specs.declared.environment.Environment.{Environment}
+
+-- ---- what is asked
+
+abbrev pub form_of : DiffForm → Form
+form_of forms.Folded = Folded
+form_of forms.Lines = Lines
+form_of forms.Json = Json
+form_of forms.AcceptList = AcceptList
+
+abbrev pub diff_asked : DiffFiles → DiffArguments → List (List ℕ) → Asked
+diff_asked files arguments fresh = record {
+  migration = diff_migration_given files fresh;
+  old_paths = map string_bytes files.old.paths.items;
+  new_paths = map string_bytes files.new.paths.items;
+  accepted = files.accepted.items;
+  lost_alone = arguments.lost;
+  form = form_of arguments.form;
+}
+
+-- ---- colours: the forms for programs never have them
+
+abbrev pub colored_by : Environment → DiffColor → Said Bool
+colored_by environment Always = Ok true
+colored_by environment Never = Ok false
+colored_by environment Auto = wants_color environment
+
+abbrev pub is_colored_in : Environment → DiffForm → DiffColor → Said Bool
+is_colored_in environment forms.Json color = Ok false
+is_colored_in environment forms.AcceptList color = Ok false
+is_colored_in environment form color = colored_by environment color
+
+abbrev pub is_colored : Environment → DiffArguments → Said Bool
+is_colored environment arguments = is_colored_in environment arguments.form arguments.color
+
+-- the same answer with its lines in colours
+abbrev pub IsColored : Answer → Answer → Type 0
+IsColored (Yes text) (Yes shown) = string_bytes shown ≡ colored_lines (lines (string_bytes text))
+IsColored (Yes text) shown = ⊥
+IsColored (No text) (No shown) = string_bytes shown ≡ colored_lines (lines (string_bytes text))
+IsColored (No text) shown = ⊥
+IsColored answer shown = shown ≡ answer
+
+abbrev pub IsShown : Bool → Answer → Answer → Type 0
+IsShown true answer shown = IsColored answer shown
+IsShown false answer shown = shown ≡ answer
+
+-- ---- what is printed
+
+-- of an answer, its text alone
+pub record ShowsAnswer (colored : Bool) (answer : Answer) (fresh : List (List ℕ)) (outcome : Outcome) : Type 0 where
+  pub shown : Answer
+  pub is_shown : IsShown colored answer shown
+  pub own : List ℕ
+  pub is : IsOutcome own fresh [] (Ok shown) outcome
+
+-- of a refusal of the tables, its line and each faulty line of what was given
+pub record IsRefusalOutcome (files : DiffFiles) (fresh : List (List ℕ)) (refusal : Refusal) (outcome : Outcome) : Type 0 where
+  pub given : Given
+  pub parts : IsGiven (parts_of files.names fresh (files.old ∷ files.new ∷ [])) given
+  pub is : IsReported true given (Err refusal) outcome
+
+-- which line of the list of meant changes is refused, and why (code 10 ends it)
+abbrev pub accept_details : List ℕ → AcceptFault → List ℕ
+accept_details path (Stale n) = said_at path n (codes "no change of these tables is told by the line") ++ 10 ∷ []
+accept_details path (BadLine n) = said_at path n (codes "expected \"changed: \", \"waiting: \", \"removed: \" or \"new start: \" and keys") ++ 10 ∷ []
+accept_details path NoMemory = []
+
+-- of a refusal of the list, its line by what the fault is printed as, and the line of the list
+abbrev pub IsAcceptRefusal : Option (List ℕ) → AcceptFault → Outcome → Type 0
+IsAcceptRefusal path fault outcome =
+    (own : List ℕ) × PrintsErrors ((codes "refused: accept: " ++ (own ++ 10 ∷ [])) ++ accept_details (unwrap_or path []) fault) Refused outcome
+
+abbrev pub IsFaultPrinted : DiffFiles → DiffArguments → List (List ℕ) → DiffFault → Outcome → Type 0
+IsFaultPrinted files arguments fresh (Input refusal) outcome = IsRefusalOutcome files fresh refusal outcome
+IsFaultPrinted files arguments fresh (Accept fault) outcome = IsAcceptRefusal (option_copied arguments.accept) fault outcome
+
+abbrev pub IsDiffPrinted : DiffFiles → DiffArguments → List (List ℕ) → Bool → Result Answer DiffFault → Outcome → Type 0
+IsDiffPrinted files arguments fresh colored (Ok answer) outcome = ShowsAnswer colored answer fresh outcome
+IsDiffPrinted files arguments fresh colored (Err fault) outcome = IsFaultPrinted files arguments fresh fault outcome
+
+-- the answer on these files, printed below the notes on where they lie
+pub record IsDiffOutcome (files : DiffFiles) (arguments : DiffArguments) (fresh : List (List ℕ)) (colored : Bool) (outcome : Outcome) : Type 0 where
+  pub answered : Result Answer DiffFault
+  pub is : AnswersDiff (diff_asked files arguments fresh) answered
+  pub printed : Outcome
+  pub is_printed : IsDiffPrinted files arguments fresh colored answered printed
+  pub noted : IsNoted (string_bytes files.old.note ++ string_bytes files.new.note) printed outcome
+
+-- the same on the files that the folder has, in this environment
+pub record IsDiffRun (folder : Option (List Entry)) (environment : Environment) (names : List (List ℕ)) (arguments : DiffArguments) (fresh : List (List ℕ)) (outcome : Outcome) : Type 0 where
+  pub files : DiffFiles
+  pub read : AreDiffFiles folder environment names arguments files
+  pub colored : Bool
+  pub colors : is_colored environment arguments ≡ Ok colored
+  pub is : IsDiffOutcome files arguments fresh colored outcome

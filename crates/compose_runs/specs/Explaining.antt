@@ -1,0 +1,40 @@
+-- What `explain` prints (this project's profile).
+use Rattle.std.specs.Prelude.{ℕ, Bool, true, false, List, [], ◌∷◌, map, Option, Result}
+use Rattle.compose_folder.specs.Content.{Entry}
+use Rattle.compose_migration.specs.Migration.{GivenMigration}
+use Rattle.compose_answer.specs.Parts.{explain_parts}
+use Rattle.compose_answer.specs.Refused.{Gives}
+use Rattle.compose_answer.specs.declared.answer.Answer.{Answer}
+use Rattle.compose_answer.specs.declared.refusal.Refusal.{Refusal}
+use Rattle.compose_arguments.specs.declared.request.TablePaths.{TablePaths}
+use Rattle.compose_tool.specs.Answers.{IsExplained, IsAllExplained}
+use Rattle.compose_details.specs.Given.{GivenParts, IsGiven, parts_of}
+use Rattle.compose_details.specs.declared.given.Given.{Given}
+use Rattle.compose_report.specs.Outcomes.{IsReported}
+use Rattle.compose_report.specs.declared.outcome.Outcome.{Outcome}
+use Rattle.compose_runs.specs.Files.{AreMigrationFiles, migration_given}
+use Rattle.compose_runs.specs.declared.files.MigrationFiles.{MigrationFiles}
+use Rattle.compose_runs.specs.declared.options.Options.{Options}
+
+-- the first difference is explained, or all of them
+abbrev pub AnswersExplain : Bool → Result Answer Refusal → GivenMigration → Type 0
+AnswersExplain true answered given = Gives IsAllExplained answered (explain_parts given)
+AnswersExplain false answered given = Gives IsExplained answered (explain_parts given)
+
+-- what was given to `explain`
+abbrev pub explain_given : MigrationFiles → List (List ℕ) → Bool → GivenParts
+explain_given files fresh all = record (parts_of files.names fresh (files.old ∷ files.new ∷ [])) { all = all }
+
+-- the answer on these files, reported
+pub record IsExplainOutcome (verbose : Bool) (files : MigrationFiles) (fresh : List (List ℕ)) (all : Bool) (outcome : Outcome) : Type 0 where
+  pub answered : Result Answer Refusal
+  pub is : AnswersExplain all answered (migration_given files fresh)
+  pub given : Given
+  pub parts : IsGiven (explain_given files fresh all) given
+  pub reported : IsReported verbose given answered outcome
+
+-- the same on the files that the folder has
+pub record IsExplainRun (folder : Option (List Entry)) (options : Options) (paths : TablePaths) (fresh : List (List ℕ)) (all : Bool) (outcome : Outcome) : Type 0 where
+  pub files : MigrationFiles
+  pub read : AreMigrationFiles folder (map (λ name. name.now) options.names.now) paths.old.now paths.new.now files
+  pub is : IsExplainOutcome options.verbose files fresh all outcome

@@ -1,0 +1,33 @@
+-- What `type` prints (this project's profile).
+use Rattle.std.specs.Prelude.{ℕ, Bool, List, [], ◌∷◌, map, Option, Result}
+use Rattle.compose_folder.specs.Content.{Entry}
+use Rattle.compose_input.specs.Names.{AreNames}
+use Rattle.compose_input.specs.Tables.{IsListed, sources_of}
+use Rattle.compose_input.specs.declared.names.NameFiles.{NameFiles}
+use Rattle.compose_input.specs.declared.tables.TableFiles.{TableFiles}
+use Rattle.compose_answer.specs.Parts.{type_parts}
+use Rattle.compose_answer.specs.Refused.{Gives}
+use Rattle.compose_answer.specs.declared.answer.Answer.{Answer}
+use Rattle.compose_answer.specs.declared.refusal.Refusal.{Refusal}
+use Rattle.compose_tool.specs.Answers.{IsTyped}
+use Rattle.compose_details.specs.Given.{IsGiven, parts_of}
+use Rattle.compose_details.specs.declared.given.Given.{Given}
+use Rattle.compose_report.specs.Outcomes.{IsReported}
+use Rattle.compose_report.specs.declared.outcome.Outcome.{Outcome}
+use Rattle.compose_runs.specs.declared.options.Options.{Options}
+
+-- the answer on these names and this table, reported
+pub record IsTypeOutcome (verbose : Bool) (names : NameFiles) (table : TableFiles) (keys : List (List ℕ)) (outcome : Outcome) : Type 0 where
+  pub answered : Result Answer Refusal
+  pub is : Gives IsTyped answered (type_parts names.lines.items keys (sources_of table))
+  pub given : Given
+  pub parts : IsGiven (parts_of names keys (table ∷ [])) given
+  pub reported : IsReported verbose given answered outcome
+
+-- the same on the files that the folder has
+pub record IsTypeRun (folder : Option (List Entry)) (options : Options) (path : List ℕ) (keys : List (List ℕ)) (outcome : Outcome) : Type 0 where
+  pub names : NameFiles
+  pub are_names : AreNames folder (map (λ name. name.now) options.names.now) names
+  pub table : TableFiles
+  pub is_table : IsListed folder path table
+  pub is : IsTypeOutcome options.verbose names table keys outcome

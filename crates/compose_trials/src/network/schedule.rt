@@ -1,0 +1,300 @@
+//! Random schedules of many clients, each of which has to get exactly the replies to its own requests.
+ghost use Rattle.std.specs.Prelude.{None};
+
+use crate::chance::Chance;
+use crate::devices::{Behaviour, TrialReader, TrialWriter};
+use crate::failure::Failure;
+use crate::input::{read_file, start_service};
+use crate::network::Network;
+use crate::network::client::Client;
+use crate::output::say;
+use crate::serving::serve;
+use compose_hub::{ConnectionEnd, Limits, Report, serve_at_once};
+use compose_serve::{Device, Ended, ServeFault};
+use compose_service::Service;
+use compose_tree::PackedTable;
+use std::alloc::Global;
+use std::io;
+
+/// So many clients are in a schedule.
+const CLIENTS: usize = 64;
+
+/// The keysyms that are typed: of the sequences of the table, and one that is in none.
+const KEYSYMS: [u32; 4] = [0xfe50, 0xfe51, 0x65, 0x78];
+
+/// How the connections ended, by their numbers from 1.
+#[derive(Drop)]
+struct Ends {
+    ends: Vec<Option<ConnectionEnd>>,
+}
+
+impl Report for Ends {
+    ghost told = { λ ends. None };
+
+    /// Keeps the end. It is an error that it is there already.
+    fn ended(&mut self, number: u32, how: ConnectionEnd) -> io::Result<()> {
+        let index = (number as usize).wrapping_sub(1);
+        match self.ends.get_mut(index) {
+            Some(end) if end.is_none() => {
+                *end = Some(how);
+                Ok(())
+            }
+            _ => Err(io::Error::from(io::ErrorKind::AlreadyExists)),
+        }
+    }
+
+    fn catch_up(&mut self) -> bool {
+        true
+    }
+}
+
+/// How many clients there were, how many of them were cut while they took replies, and how many were idle.
+#[derive(Clone, Copy, Drop)]
+struct Counts {
+    clients: u64,
+    cut: u64,
+    idle: u64,
+}
+
+/// Runs so many schedules from this seed, and prints how many clients there were, how many of these were cut, and how many were idle; or
+/// the first schedule that is wrong.
+pub fn run_all(rt: &HostRuntime, seed: &str, schedules: &str) -> Result<(), Failure> {
+    let seed = read_number(seed)?;
+    let schedules = read_number(schedules)?;
+    let load = read_file(rt, "load")?;
+    let mut counts = Counts {
+        clients: 0,
+        cut: 0,
+        idle: 0,
+    };
+    for number in 0..schedules {
+        let schedule = seed.wrapping_add(number);
+        if !run_one(rt, &load, Chance::new(schedule), &mut counts)? {
+            return say(rt, format_args!("schedule {schedule} is wrong"));
+        }
+    }
+    let Counts { clients, cut, idle } = counts;
+    say(
+        rt,
+        format_args!("schedules {schedules}, clients {clients}, cut {cut}, idle {idle}"),
+    )
+}
+
+/// A number of the arguments.
+fn read_number(argument: &str) -> Result<u64, Failure> {
+    match argument.parse::<u64>() {
+        Ok(number) => Ok(number),
+        Err(_) => Err(Failure::Arguments),
+    }
+}
+
+/// Runs a schedule; says whether each client got what it should.
+fn run_one(
+    rt: &HostRuntime,
+    load: &[u8],
+    chance: Chance,
+    counts: &mut Counts,
+) -> Result<bool, Failure> {
+    let mut chance = chance;
+    let clients = memory(clients_of(rt.alloc(), load, &mut chance))?;
+    let limits = limits_of(&mut chance);
+    let mut ends = memory(no_ends(rt.alloc()))?;
+    let mut network = Network::new(rt.alloc(), clients, chance, longest_of(limits));
+    let mut service = start_service(rt)?;
+    if serve_at_once(&mut network, rt.alloc(), &mut *service, limits, &mut ends).is_err() {
+        return Ok(false);
+    }
+    compare_all(rt, network.clients(), &ends, limits, counts)
+}
+
+/// What memory was there for.
+fn memory<T, E: Drop>(made: Result<T, E>) -> Result<T, Failure> {
+    match made {
+        Ok(made) => Ok(made),
+        Err(_) => Err(Failure::NoMemory),
+    }
+}
+
+/// No end of any client.
+fn no_ends(alloc: Global) -> io::Result<Ends> {
+    let mut ends = Vec::new(alloc);
+    for _ in 0..CLIENTS {
+        ends.push(None)?;
+    }
+    Ok(Ends { ends })
+}
+
+/// Random limits.
+fn limits_of(chance: &mut Chance) -> Limits {
+    let unsent = match chance.below(4) {
+        0 => 1,
+        1 => 20,
+        2 => 300,
+        _ => 65_536,
+    };
+    Limits {
+        at_once: chance.below(CLIENTS).saturating_add(1),
+        connections: 64,
+        unsent,
+        idle: if chance.once_in(8) { Some(2) } else { None },
+    }
+}
+
+/// How many milliseconds pass at most at once: some, where connections may not be idle.
+fn longest_of(limits: Limits) -> usize {
+    match limits.idle {
+        Some(_) => 100,
+        None => 0,
+    }
+}
+
+/// Random clients; the first one loads.
+fn clients_of(alloc: Global, load: &[u8], chance: &mut Chance) -> io::Result<Vec<Client>> {
+    let mut clients = Vec::new(alloc);
+    for index in 0..CLIENTS {
+        let load: &[u8] = if index == 0 { load } else { &[] };
+        clients.push(client_of(alloc, index as u32, load, chance)?)?;
+    }
+    Ok(clients)
+}
+
+/// A random client with this index, which may be cut anywhere.
+fn client_of(alloc: Global, index: u32, load: &[u8], chance: &mut Chance) -> io::Result<Client> {
+    let mut sends = requests_of(alloc, index, load, chance)?;
+    let mut breaks = false;
+    if chance.once_in(4) {
+        sends.truncate(chance.below(sends.len()));
+        breaks = chance.once_in(2);
+    }
+    let takes = if chance.once_in(6) {
+        chance.below(200)
+    } else {
+        usize::MAX
+    };
+    Ok(Client::new(alloc, sends, breaks, takes))
+}
+
+/// Random requests over the two sessions of a client, and bytes that are no request behind some of them.
+fn requests_of(alloc: Global, index: u32, load: &[u8], chance: &mut Chance) -> io::Result<Vec<u8>> {
+    let mut sends = Vec::new(alloc);
+    for _ in 0..count_of(chance) {
+        let session = index
+            .wrapping_mul(2)
+            .wrapping_add(u32::from(chance.once_in(2)));
+        if !load.is_empty() && chance.once_in(4) {
+            sends.extend_from_slice(load)?;
+        } else {
+            put_request(&mut sends, session, chance)?;
+        }
+    }
+    if chance.once_in(16) {
+        sends.extend_from_slice(&[9, 1, 2, 3])?;
+    }
+    Ok(sends)
+}
+
+/// How many requests a client sends: few, or once in a while many.
+fn count_of(chance: &mut Chance) -> usize {
+    let most = if chance.once_in(32) { 400 } else { 14 };
+    chance.below(most)
+}
+
+/// Puts a random request of a session behind the others: its kind, the session, the length of what follows, and the keysym of a key.
+fn put_request(sends: &mut Vec<u8>, session: u32, chance: &mut Chance) -> io::Result<()> {
+    let kind = match chance.below(10) {
+        0 | 1 => 1,
+        2 => 3,
+        3 => 4,
+        4 => 6,
+        _ => 2,
+    };
+    sends.push(kind)?;
+    sends.extend_from_slice(&session.to_be_bytes())?;
+    if kind != 2 {
+        sends.extend_from_slice(&[0, 0, 0, 0])?;
+        return Ok(());
+    }
+    let keysym = KEYSYMS
+        .get(chance.below(KEYSYMS.len()))
+        .copied()
+        .unwrap_or(0x78);
+    sends.extend_from_slice(&[0, 0, 0, 4])?;
+    sends.extend_from_slice(&keysym.to_be_bytes())?;
+    Ok(())
+}
+
+/// Whether each client got what a service of its own answers, one client after another.
+fn compare_all(
+    rt: &HostRuntime,
+    clients: &[Client],
+    ends: &Ends,
+    limits: Limits,
+    counts: &mut Counts,
+) -> Result<bool, Failure> {
+    let mut service = start_service(rt)?;
+    for (client, end) in clients.iter().zip(ends.ends.iter()) {
+        let Some(end) = *end else {
+            return Ok(false);
+        };
+        let (ended, replies) = serve_alone(rt, &mut service, &client.sends)?;
+        count(counts, end);
+        if !is_right(client, end, limits, ended, &replies) {
+            return Ok(false);
+        }
+    }
+    Ok(true)
+}
+
+/// Counts a client by its end.
+fn count(counts: &mut Counts, end: ConnectionEnd) {
+    counts.clients = counts.clients.saturating_add(1);
+    match end {
+        ConnectionEnd::Served(Err(ServeFault::Write)) => counts.cut = counts.cut.saturating_add(1),
+        ConnectionEnd::Idle => counts.idle = counts.idle.saturating_add(1),
+        _ => {}
+    }
+}
+
+/// How a stream of these bytes ends, and what a service answers to it.
+fn serve_alone(
+    rt: &HostRuntime,
+    service: &mut Service<PackedTable>,
+    bytes: &[u8],
+) -> Result<(Result<Ended, ServeFault>, Vec<u8>), Failure> {
+    let behaviour = Behaviour {
+        most: usize::MAX,
+        failing: 0,
+        idle: 0,
+        interrupted: 0,
+    };
+    let bytes = memory(Vec::from_slice(rt.alloc(), bytes))?;
+    let mut reader = Device::new(TrialReader::new(bytes, behaviour));
+    let mut writer = TrialWriter::new(rt.alloc(), behaviour);
+    let ended = serve(rt, service, &mut reader, &mut Device::new(&mut writer));
+    let replies = memory(Vec::from_slice(rt.alloc(), writer.taken()))?;
+    Ok((ended, replies))
+}
+
+/// Whether a client got all replies to what came of it, and its connection ended as that does; or the first of them, where it took no more or
+/// was idle.
+fn is_right(
+    client: &Client,
+    end: ConnectionEnd,
+    limits: Limits,
+    alone: Result<Ended, ServeFault>,
+    replies: &[u8],
+) -> bool {
+    let taken = client.taken.as_slice();
+    match end {
+        ConnectionEnd::Served(Err(ServeFault::Write)) => {
+            client.takes < replies.len() && replies.starts_with(taken)
+        }
+        ConnectionEnd::Idle => limits.idle.is_some() && replies.starts_with(taken),
+        ConnectionEnd::Served(Err(ServeFault::Read)) => client.breaks && taken == replies,
+        ConnectionEnd::Served(ended) => {
+            let broken = client.breaks && ended != Ok(Ended::Malformed);
+            !broken && ended == alone && taken == replies
+        }
+        ConnectionEnd::Stalled => false,
+    }
+}

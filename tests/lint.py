@@ -1,0 +1,141 @@
+#!/usr/bin/env python3
+"""lint.py PROGRAM [COUNT]: what `lint --all` finds in random tables, against a second reading of their lines.
+
+A table is a file of some lines with few keysyms, texts and comments, and includes of two other such files; sequences come again, some go on
+after others, some lines are faulty, and some include a file again. What is to be found is worked out here from the lines as lists. COUNT
+tables are tried, 300 if none is given. The last line is `N passed, M failed`."""
+import os
+import random
+import subprocess
+import sys
+import tempfile
+import unicodedata
+from collections import Counter
+
+from harness import Results
+
+SEED = 51
+# The keysyms of these tables, and how they are written.
+WRITTEN = {0x61: ["a", "U0061"], 0x62: ["b"], 0xfe51: ["dead_acute"], 0xff20: ["Multi_key"]}
+TEXTS = ["x", "y", "\u00e9", "e\u0301", "\u0445\u0301\u0301"]
+NAMES = [None, None, None, None, "x", "y", "eacute"]
+CHARACTERS = {"x": "x", "y": "y", "eacute": "\u00e9"}
+COMMENTS = [None, "EX", "WHY", "E WITH ACUTE"]
+INCLUDES = {"own": ["other", "third"], "other": ["third"], "third": []}
+LONGER = "defines a longer sequence that begins with this one, and the longer one is typed"
+MISPLACED = "comment: the comment stands most often beside another text, and the text beside another comment"
+SAME = "is included, and gives the sequence the same text"
+
+
+class Line:
+    """A line: the file that it includes, or what it defines, or neither where it is faulty."""
+
+    def __init__(self, chance, included=None):
+        self.included, self.keysyms, self.is_faulty = included, None, False
+        if included:
+            self.written = f'include "{included}"'
+        elif chance.random() < 0.05:
+            self.is_faulty, self.written = True, '<nosuch> : "x" # EX'
+        else:
+            self.define(chance)
+
+    def define(self, chance):
+        self.keysyms = tuple(chance.choice(list(WRITTEN)) for _ in range(chance.choice([1, 2, 2, 2, 3])))
+        self.text, self.name, self.comment = chance.choice(TEXTS), chance.choice(NAMES), chance.choice(COMMENTS)
+        keys = " ".join(f"<{chance.choice(WRITTEN[it])}>" for it in self.keysyms)
+        comment = "" if self.comment is None else chance.choice([" #", " # ", "\t#  "]) + self.comment + chance.choice(["", " "])
+        self.written = f'{keys} : "{self.text}"{" " + self.name if self.name else ""}{comment}'
+
+
+def random_files(chance):
+    """The lines of each file by its name, the first of which is the table, in the order in which they are read."""
+    files = {}
+    for name, includes in INCLUDES.items():
+        lines = [Line(chance) for _ in range(chance.randint(0, 9))]
+        for included in includes:
+            for _ in range(chance.choice([1, 1, 1, 2]) if included == "other" or name == "other" else chance.choice([0, 1])):
+                lines.insert(chance.randint(0, len(lines)), Line(chance, included))
+        files[name] = lines
+    first = [line.included for line in files["own"] if line.included]
+    return {name: files[name] for name in ["own", *dict.fromkeys([*first, "third"])]}
+
+
+def placed(files):
+    """Each line of each file with its place."""
+    return [(name, number, line) for name, lines in files.items() for number, line in enumerate(lines, 1)]
+
+
+def read(files, name):
+    """The lines that are read from a file, in reading order, each with its place."""
+    for number, line in enumerate(files[name], 1):
+        yield name, number, line
+        if line.included:
+            yield from read(files, line.included)
+
+
+def commonest(values):
+    """The value that is there more often than any other, if there is one."""
+    counted = Counter(values).most_common(2)
+    return None if not counted or len(counted) > 1 and counted[0][1] == counted[1][1] else counted[0][0]
+
+
+def found_in_file(lines, number, line):
+    """What is found in a line by its file alone."""
+    last = max(at for at, it in enumerate(lines, 1) if it.keysyms == line.keysyms)
+    if last > number and lines[last - 1].text == line.text:
+        yield f"repeated: line {last} gives the sequence the same text again"
+    elif last > number:
+        yield f"overridden: line {last} gives the sequence another text, which counts"
+    if line.name and CHARACTERS[line.name] != line.text:
+        yield "keysym: the keysym after the string has another character"
+    if any(one == two and unicodedata.combining(one) for one, two in zip(line.text, line.text[1:])):
+        yield "mark: the text has one combining mark twice in a row"
+    if unicodedata.normalize("NFC", line.text) != line.text:
+        yield "form: the text is not in normal form C"
+
+
+def found_in_all(files, name, line):
+    """What is found in a line by the lines of all files."""
+    longer = [(at, number) for at, number, it in placed(files) if it.keysyms and len(it.keysyms) > len(line.keysyms) and it.keysyms[: len(line.keysyms)] == line.keysyms]
+    if longer:
+        yield "prefix: %s:%d %s" % (*longer[-1], LONGER)
+    if line.comment is not None:
+        noted = [it for _, _, it in placed(files) if it.keysyms and it.comment is not None]
+        text = commonest(it.text for it in noted if it.comment == line.comment)
+        comment = commonest(it.comment for it in noted if it.text == line.text)
+        if text not in (None, line.text) and comment not in (None, line.comment):
+            yield MISPLACED
+    same = [(at, number, it.text) for at, number, it in read(files, name) if at != name and it.keysyms == line.keysyms]
+    if same and same[-1][2] == line.text:
+        yield "redundant: %s:%d %s" % (*same[-1][:2], SAME)
+
+
+def found(files):
+    """What is to be printed."""
+    for name, number, line in placed(files):
+        if line.is_faulty:
+            yield f'{name}:{number}:1: fault: no keysym has the name "nosuch"'
+        if line.keysyms:
+            for what in [*found_in_file(files[name], number, line), *found_in_all(files, name, line)]:
+                yield f"{name}:{number}:1: {what}"
+
+
+def main():
+    program = os.path.abspath(sys.argv[1])
+    chance = random.Random(SEED)
+    results = Results()
+    for number in range(int(sys.argv[2]) if len(sys.argv) > 2 else 300):
+        files = random_files(chance)
+        wanted = list(found(files))
+        with tempfile.TemporaryDirectory() as folder:
+            for name, lines in files.items():
+                with open(os.path.join(folder, name), "w", encoding="utf-8") as file:
+                    file.write("".join(line.written + "\n" for line in lines))
+            ran = subprocess.run([program, "lint", "--all", "--reader", "gtk4", "own"], cwd=folder, capture_output=True, encoding="utf-8", check=False)
+        is_right = (ran.returncode, ran.stdout.splitlines(), ran.stderr) == (1 if wanted else 0, wanted, "")
+        results.expect(f"table {number}: {[(name, [line.written for line in lines]) for name, lines in files.items()]}", is_right or ran.stdout, True)
+    return results.end()
+
+
+if __name__ == "__main__":
+    sys.exit(main())
