@@ -139,14 +139,18 @@ def ended(*statuses):
         return trial.end()[0]
 
 
-def controlled(status):
-    """Returns what the runner says of an edit that is refused in a batch, where the check of the unedited function ends with this status, and what that check asks for."""
+OWN_GOAL = "note: src/lib.rt:23:5: it is not proved that what the function ensures holds when it returns (`returns`)"
+TAKEN_AWAY = "proofs/next/Answers.antt:3:7: error: `goal-2`: `more` is not in scope"
+
+
+def controlled(status, why=OWN_GOAL):
+    """Returns what the runner says of an edit that is refused in a batch for this reason, where the check of the unedited function ends with this status, and what
+    that check asks for."""
     asked, rt = [], edits.load_rt()
 
     def checked(crate, texts, flags, kept):
         asked.append((texts, flags))
-        note = "note: src/lib.rt:23:5: it is not proved that what the function ensures holds when it returns (`returns`)"
-        said = f"{note}\nfn neighbours::next: not proved\nonly=1 proved=0\n" if texts else ""
+        said = f"{why}\nfn neighbours::next: not proved\nonly=1 proved=0\n" if texts else ""
         return types.SimpleNamespace(returncode=1 if texts else status, stdout=said)
 
     with tempfile.TemporaryDirectory(prefix="edits-test-") as folder:
@@ -166,6 +170,8 @@ def tests_of_the_control():
     unedited = {}, ["--jobs", "1", "--only", "neighbours::next"]
     yield "refused in a batch, and its function is then proved unedited", controlled(0) == (True, "must-fail neighbours/wrong.edit: refused by returns", unedited)
     yield "refused in a batch, and its function is not proved unedited", not controlled(1)[0] and "NOT JUDGED" in controlled(1)[1]
+    passes, line, _ = controlled(0, TAKEN_AWAY)
+    yield "refused only by a proof file that names what the edit took away", not passes and "NOT JUDGED: refused by goal-2, but only" in line
     yield "refused, and the unedited crate is proved before and after", ended(0, 0) == (True, "must-fail neighbours/wrong.edit: refused alone: a goal")
     yield "refused, and the unedited crate is proved once its kept work is made anew", ended(1, 0, 0)[0]
     yield "the unedited crate is not proved before", not ended(1, 1)[0] and "NOT TRIED" in ended(1, 1)[1]

@@ -12,11 +12,11 @@ where an edit was tried alone, over the same kept work, so that bad kept work ca
 Run it at the top of the repository, with the kit's `rt` on PATH. What is not proved yet is proved first. Each edit has one line:
 
   must-fail CRATE/NAME.edit: refused by GOAL            the edited function is not proved: GOAL is a goal of its own
-  must-fail CRATE/NAME.edit: refused by GOAL, but only  the same, but a proof file names what the edit took away: a weak edit
   must-fail CRATE/NAME.edit: refused alone: WHY         in a check of its own the crate is not proved
   must-fail CRATE/NAME.edit: NOT REFUSED ..             the crate is still proved: the edit failed
   must-fail CRATE/NAME.edit: BAD EDIT ..                it cannot be applied or read: the edit failed
-  must-fail CRATE/NAME.edit: NOT TRIED, NOT JUDGED ..   the crate is not proved, or not over the work that its edits were tried over: they failed
+  must-fail CRATE/NAME.edit: NOT TRIED, NOT JUDGED ..   the crate is not proved, or not over the work that its edits were tried over; or all that
+                                                        refuses it is a proof file that names what the edit took away: they failed
 
 The last line is 'N passed, M failed'. The status is 1 if an edit failed, and 130 after an interrupt.
 """
@@ -53,7 +53,7 @@ ITEM = re.compile(r"\w+ \S+::\S+: ")
 # Answers that rattle refuses. Of a function with unproved goals and none refused it prints what to write into its file of answers, for which
 # it goes through these goals once more: that took from a twelfth to half of a check.
 REFUSED_ANSWERS = "use Rattle.std.proofs.Common.{nothing-has-this-name}\n"
-# What a proof file says of a name that the edit took away. As rt has it, that says little of the contract.
+# What a proof file says of a name that the edit took away. That says nothing of the contract, so such an edit fails.
 TAKEN = re.compile(r"has no field|is not in scope|has no `")
 WEAK = "but only because a proof file names what the edit took away: change a value and keep the names"
 
@@ -289,7 +289,12 @@ class Trial:
             return
         for it in batch:
             goal = own_refusal(ran.stdout, it.function) if is_read and ran.returncode == 1 else None
-            self.tell(it.file, True, f"refused by {goal}") if goal else self.left.append(it.file)
+            if not goal:
+                self.left.append(it.file)
+            elif goal.endswith(WEAK):
+                self.tell(it.file, False, f"NOT JUDGED: refused by {goal}")
+            else:
+                self.tell(it.file, True, f"refused by {goal}")
 
     def judge(self, file, is_kept_well):
         """Fails an edit that was not tried, or that was tried over kept work which does not prove the unedited crate."""
