@@ -78,6 +78,7 @@ def load_rt():
     loader = importlib.machinery.SourceFileLoader("rt", os.path.realpath(path))
     module = importlib.util.module_from_spec(importlib.util.spec_from_loader("rt", loader))
     loader.exec_module(module)
+    kit.sum_stamps_once(module.rtlib)
     return module
 
 
