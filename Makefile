@@ -12,7 +12,7 @@
 # make deb            the same, as a Debian package, and one each for the engine of IBus and the addon of fcitx5, and two for the C library
 # make test-packages  looks at what the packages hold
 # make desk           types into windows through IBus and fcitx5, on displays that nobody sees (docs/TYPING.md)
-# make names          writes the built-in names anew from HEADER (/usr/include/X11/keysymdef.h), and prints what changed
+# make names          writes the built-in names anew from HEADERS (/usr/include/X11/keysymdef.h and XF86keysym.h), and prints what changed
 # make compose_trials proves and builds ./compose_trials, which `make real` and `make bench` need too
 # make real           runs the program on the tables that Debian ships
 # make bench          measures the program
@@ -135,9 +135,9 @@ test-packages: composecheck
 desk: composecheck
 	python3 tests/desk/run.py ./composecheck
 
-HEADER = /usr/include/X11/keysymdef.h
+HEADERS = /usr/include/X11/keysymdef.h /usr/include/X11/XF86keysym.h
 names:
-	python3 packaging/names.py $(HEADER) share/composecheck/short-unicode-names.h crates/builtin_names/src/lines.rt
+	python3 packaging/names.py $(HEADERS) share/composecheck/short-unicode-names.h crates/builtin_names/src/lines.rt
 
 real: composecheck compose_trials $(LIBRARY)
 	python3 tests/real.py ./composecheck ./compose_trials

@@ -4,12 +4,17 @@
   names.py HEADER.. OUT            writes OUT from the headers, and prints which lines came and which went
   names.py --check HEADER.. OUT    writes nothing; the status is 1 if OUT is not what would be written
 
-A header is in the form of keysymdef.h. Of a definition its name, its value and the character in its comment are kept."""
+A header is in the form of keysymdef.h or of XF86keysym.h, whose XF86XK_Launch1 is the keysym XF86Launch1, as libX11 and libxkbcommon call it. Of a definition its
+name, its value and the character in its comment are kept."""
 import os
 import re
 import sys
 
-DEFINITION = re.compile(r"#define XK_(\w+)[ \t]+0x([0-9a-fA-F]{1,8})[ \t]*(?:/\*[ \t]*\(?[ \t]*U\+([0-9A-Fa-f]{4,6})(?![0-9A-Fa-f]))?")
+DEFINITION = re.compile(
+    r"#define (XF86|)XK_(\w+)[ \t]+(?:0x([0-9a-fA-F]{1,8})|_EVDEVK\(0x([0-9a-fA-F]{1,3})\))[ \t]*(?:/\*[ \t]*\(?[ \t]*U\+([0-9A-Fa-f]{4,6})(?![0-9A-Fa-f]))?"
+)
+# The keysym of the kernel's key 0: _EVDEVK of XF86keysym.h adds the key's number.
+KERNEL_KEYS = 0x10081000
 HEAD = """//! The names as data, written by `make names`.
 
 /// The lines of the header.
@@ -23,8 +28,9 @@ def lines_of(path):
     found = []
     with open(path, encoding="utf-8") as file:
         for definition in filter(None, map(DEFINITION.match, file)):
-            name, value, character = definition.groups()
-            found.append(f"#define XK_{name} {int(value, 16):#x}" + (f" /*U+{character.upper()}*/" if character else ""))
+            vendor, name, value, kernel_key, character = definition.groups()
+            keysym = int(value, 16) if value else KERNEL_KEYS + int(kernel_key, 16)
+            found.append(f"#define XK_{vendor}{name} {keysym:#x}" + (f" /*U+{character.upper()}*/" if character else ""))
     return found
 
 

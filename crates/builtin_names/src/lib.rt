@@ -1,5 +1,6 @@
-//! The names of keysyms that are built in, as data: those of the X11 header `keysymdef.h` with their characters, and the short names of
-//! `share/composecheck/short-unicode-names.h`. `make names` writes them anew from both headers.
+//! The names of keysyms that are built in, as data: those of the X11 headers `keysymdef.h`, with their characters, and `XF86keysym.h`
+//! (`XF86XK_Launch1` is `XF86Launch1`), and the short names of
+//! `share/composecheck/short-unicode-names.h`. `make names` writes them anew from these headers.
 //!
 //! ```text
 //! let names = Names::read(alloc, builtin_names().as_bytes())?;
