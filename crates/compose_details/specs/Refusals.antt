@@ -1,6 +1,6 @@
 -- What is told of a refusal (this project's profile).
 use Rattle.std.specs.Prelude.{ℕ, Bool, not, if◌then◌else◌, List, [], ◌∷◌, ◌++◌, map, slice_get, Option, Some, None, Result, Ok, Err, codes}
-use Rattle.std.specs.Option.{option_map_or, option_and_then}
+use Rattle.std.specs.Option.{option_map, option_map_or, option_and_then}
 use Rattle.keysym_core.specs.Names.{KeysymNames}
 use Rattle.keysym_core.specs.Header.{names_of}
 use Rattle.keysym_core.specs.declared.fault.NameFault.{NameFault}
@@ -13,11 +13,10 @@ use Rattle.compose_fresh.specs.declared.fault.CheckFault.TheVariants.{FreshIgnor
 use Rattle.compose_answer.specs.declared.refusal.Refusal.{Refusal}
 use Rattle.compose_answer.specs.declared.refusal.Refusal.TheVariants.{Names, Key, Table, Side, Repertoire, Certificate, Fresh, TooManyFresh}
 use Rattle.compose_messages.specs.Faults.{name_line, name_said, certificate_line, certificate_said, repertoire_line, repertoire_said}
-use Rattle.compose_messages.specs.Hints.{hint_text, table_hint}
+use Rattle.compose_messages.specs.Hints.{hint_text, name_hint, table_hint}
 use Rattle.compose_messages.specs.Messages.{quoting}
 use Rattle.compose_messages.specs.Overlaps.{events}
 use Rattle.compose_messages.specs.declared.hints.Hint.{Hint}
-use Rattle.compose_messages.specs.declared.hints.Hint.TheVariants.{BuiltinNames}
 use Rattle.compose_details.specs.Lines.{line, remark, whole_line, header_line, is_empty}
 use Rattle.compose_details.specs.Faulty.{lines_of_table}
 use Rattle.compose_details.specs.Definitions.{overlap_lines}
@@ -48,12 +47,11 @@ is_unnamed given = is_empty given.headers.now
 abbrev pub argument_line : List (List ℕ) → ℕ → List ℕ
 argument_line arguments index = option_map_or (λ argument. remark (quoting (codes "no keysym has the name ") argument)) (slice_get arguments index) []
 
--- the hint helps where no names are given
-abbrev pub key_hint : Given → Option Hint
-key_hint given = if is_unnamed given then Some BuiltinNames else None
+abbrev pub key_hint : Given → ℕ → Option Hint
+key_hint given index = option_map (name_hint (not (is_unnamed given))) (slice_get (map (λ a. a.now) given.arguments.now) index)
 
 abbrev pub key_lines : Given → ℕ → List ℕ
-key_lines given index = argument_line (map (λ a. a.now) given.arguments.now) index ++ hint_line (key_hint given)
+key_lines given index = argument_line (map (λ a. a.now) given.arguments.now) index ++ hint_line (key_hint given index)
 
 -- ---- tables
 
@@ -69,7 +67,7 @@ lines_by table fault (Ok names) = fault_lines names table fault
 lines_by table fault (Err why) = []
 
 abbrev pub table_lines : Given → GivenTable → TableFault → List ℕ
-table_lines given table fault = lines_by table fault (names_of given.header.now) ++ hint_line (table_hint (not (is_unnamed given)) fault)
+table_lines given table fault = lines_by table fault (names_of given.header.now) ++ hint_line (table_hint table.input.sources.now (not (is_unnamed given)) fault)
 
 -- of the table with this index
 abbrev pub numbered_lines : Given → ℕ → TableFault → List ℕ

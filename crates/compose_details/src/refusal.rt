@@ -11,8 +11,8 @@ use compose_answer::Refusal;
 use compose_check::CheckFault;
 use compose_input::Header;
 use compose_messages::{
-    FaultWords, Hint, Message, certificate_words, name_words, push_events, repertoire_words,
-    table_hint,
+    FaultWords, Hint, Message, certificate_words, name_hint, name_words, push_events,
+    repertoire_words, table_hint,
 };
 use compose_migration::Side;
 use compose_read::SettleFault;
@@ -125,7 +125,7 @@ fn push_key(text: &mut String, given: &Given<'_>, index: usize) -> Result<(), Al
         (string_bytes text.new ≡ string_bytes text.old ++ words.key_lines given.now index) }
 {
     push_argument(text, given.arguments, index)?;
-    push_hint(text, key_hint(given))
+    push_hint(text, key_hint(given, index))
 }
 
 /// Adds the argument with this index, if there is one.
@@ -142,13 +142,13 @@ fn push_argument(text: &mut String, arguments: &[&str], index: usize) -> Result<
 }
 
 /// The hint against an argument that names no keysym.
-fn key_hint(given: &Given<'_>) -> Option<Hint>
-    ensures { result ≡ words.key_hint given.now }
+fn key_hint(given: &Given<'_>, index: usize) -> Option<Hint>
+    ensures { result ≡ words.key_hint given.now index }
 {
-    if given.headers.is_empty() {
-        Some(Hint::BuiltinNames)
-    } else {
-        None
+    let are_given = !given.headers.is_empty();
+    match given.arguments.get(index) {
+        Some(argument) => Some(name_hint(argument, are_given)),
+        None => None,
     }
 }
 
@@ -183,7 +183,8 @@ fn push_table_fault(
         ≡ string_bytes text.old ++ words.table_lines given.now table.now fault.now) }
 {
     push_by_header(alloc, text, given.header, table, fault)?;
-    push_hint(text, table_hint(fault, !given.headers.is_empty()))
+    let are_given = !given.headers.is_empty();
+    push_hint(text, table_hint(table.input.sources, fault, are_given))
 }
 
 /// Adds the lines of a fault of a table that is read with the names of this header.

@@ -4,7 +4,7 @@ use compose_cert::{CertFault, RepertoireFault};
 use compose_manifest::ManifestFault;
 use compose_messages::{
     FaultWords, FileMessage, Hint, Message, Position, certificate_words, fault_position,
-    manifest_hint, manifest_words, name_words, open_words, overlap_words, read_message,
+    manifest_hint, manifest_words, name_hint, name_words, open_words, overlap_words, read_message,
     repertoire_words, source_words, table_hint,
 };
 use compose_read::{ReadFault, SourceFault, Sources, read_definitions};
@@ -17,7 +17,7 @@ use std::test::Fail;
 
 /// The root's lines, those of the source `%L`, and what is printed of the first fault, where the path of a source is its name.
 #[rattlefmt::skip]
-static FAULTY: [(&str, &str, &str); 32] = [
+static FAULTY: [(&str, &str, &str); 37] = [
     ("<a> 5 : \"x\"", "", "r:1:5: expected \":\" or \"<\", found \"5\""),
     ("<a>\r\n", "", "r:1:5: expected \":\" or \"<\", found the end of the line"),
     ("<a> \t# é", "", "r:1:6: expected \":\" or \"<\", found \"#\""),
@@ -27,11 +27,16 @@ static FAULTY: [(&str, &str, &str); 32] = [
     ("<é> : \"x\"", "", "r:1:2: expected the name of a keysym, found \"é\""),
     ("<a é> : \"x\"", "", "r:1:4: expected \">\", found \"é\""),
     ("<a> : é", "", "r:1:7: expected a string or the name of a keysym, found \"é\""),
-    ("<a> : \"éé\" é", "", "r:1:12: expected the end of the line, found \"é\""),
+    ("<a> : \"éé\" é", "", "r:1:12: expected the name of a keysym or the end of the line, found \"é\""),
+    ("<a> : \"é\" b c", "", "r:1:13: expected the end of the line, found \"c\""),
+    ("include \"<\" y", "", "r:1:13: expected the end of the line, found \"y\""),
     ("<a> : b c_1 d", "", "r:1:9: expected the end of the line, found \"c_1\""),
     ("include %L", "", "r:1:9: expected a string, found \"%\""),
     ("include", "", "r:1:8: expected a string, found the end of the line"),
     ("<a> : \"x\"\r\n\r\nCtrl<a> : \"x\"\r\n", "", "r:3:1: a modifier list stands here, which is not supported"),
+    ("<a> ~<b> : \"x\"", "", "r:1:5: a modifier list stands here, which is not supported"),
+    ("includ \"%L\"", "", "r:1:1: expected \"<\" or the word include, found \"includ\""),
+    ("<a> Meta_L : \"x\"", "", "r:1:5: expected \":\" or \"<\", found \"Meta_L\""),
     ("<a> : \"é", "", "r:1:7: the string is not closed"),
     ("<a> : \"é\\q\"", "", "r:1:9: the backslash begins no escape"),
     ("<U00E9> : \"ab\\400\"", "", "r:1:14: the code is that of no byte from 1 to 255"),
@@ -396,16 +401,69 @@ fn words_of_an_overlap(rt: HostRuntime) -> Result<(), Fail> {
 
 #[test]
 fn hints_of_tables(rt: HostRuntime) -> Result<(), Fail> {
-    let unknown = TableFault::Read(ReadFault::UnknownKeysym {
-        source: 0,
-        line: 1,
-        index: 0,
-    });
-    assert_eq!(rt; table_hint(&unknown, false), Some(Hint::BuiltinNames));
-    assert_eq!(rt; table_hint(&unknown, true), None);
+    let sources = two_sources(
+        rt.alloc(),
+        b"<a> <multi_key> : \"x\"\n<a> : \"x\" other",
+        "",
+    )?;
+    let unknown = |line, index| {
+        TableFault::Read(ReadFault::UnknownKeysym {
+            source: 0,
+            line,
+            index,
+        })
+    };
+    assert_eq!(rt;
+        table_hint(&sources, &unknown(1, 1), true),
+        Some(Hint::ComposeKey)
+    );
+    assert_eq!(rt;
+        table_hint(&sources, &unknown(2, 1), false),
+        Some(Hint::BuiltinNames)
+    );
+    assert_eq!(rt;
+        table_hint(&sources, &unknown(2, 1), true),
+        Some(Hint::OwnNames)
+    );
     let large = TableFault::Build(BuildFault::TooManyNodes);
-    assert_eq!(rt; table_hint(&large, false), None);
+    assert_eq!(rt; table_hint(&sources, &large, false), None);
     Ok(())
+}
+
+#[test]
+fn hints_of_encodings(rt: HostRuntime) -> Result<(), Fail> {
+    let rows: [(&[u8], Hint); 4] = [
+        (b"<a> : \"\xe9\"", Hint::Encoding),
+        (b"\xff\xfe<\x00a\x00>\x00", Hint::Utf16),
+        (b"\xfe\xff\x00<\x00a\x00>", Hint::Utf16),
+        (b"\xff", Hint::Encoding),
+    ];
+    for (root, expected) in &rows {
+        let sources = two_sources(rt.alloc(), root, "")?;
+        let fault = TableFault::Read(ReadFault::NotUtf8 { source: 0, line: 1 });
+        assert_eq!(rt; table_hint(&sources, &fault, true), Some(*expected));
+    }
+    Ok(())
+}
+
+#[test]
+fn hints_of_names(rt: HostRuntime) {
+    let rows = [
+        ("UE9", Hint::UnicodeName),
+        ("U2dd", Hint::UnicodeName),
+        ("U", Hint::OwnNames),
+        ("U00E9", Hint::OwnNames),
+        ("u2dd", Hint::OwnNames),
+        ("Ugg", Hint::OwnNames),
+        ("Compose", Hint::ComposeKey),
+        ("multi_key", Hint::ComposeKey),
+        ("Multi_kei", Hint::OwnNames),
+        ("", Hint::OwnNames),
+    ];
+    for (name, expected) in &rows {
+        assert_eq!(rt; name_hint(name, true), *expected);
+    }
+    assert_eq!(rt; name_hint("Multi_kei", false), Hint::BuiltinNames);
 }
 
 #[test]
@@ -438,6 +496,26 @@ fn texts_of_hints(rt: HostRuntime) -> Result<(), Fail> {
         (
             Hint::BuiltinNames,
             "composecheck: hint: `--names builtin` has the names of keysymdef.h",
+        ),
+        (
+            Hint::OwnNames,
+            "composecheck: hint: `--names builtin --names FILE` adds the names of a header of your own",
+        ),
+        (
+            Hint::UnicodeName,
+            "composecheck: hint: four to six hexadecimal digits follow the U, as in U00E9",
+        ),
+        (
+            Hint::ComposeKey,
+            "composecheck: hint: the Compose key is Multi_key",
+        ),
+        (
+            Hint::Encoding,
+            "composecheck: hint: a Compose file is in UTF-8; `iconv -f ENCODING -t UTF-8` converts another one",
+        ),
+        (
+            Hint::Utf16,
+            "composecheck: hint: the file is in UTF-16; `iconv -f UTF-16 -t UTF-8` converts it",
         ),
         (
             Hint::OverlapLongest,

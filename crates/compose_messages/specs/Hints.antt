@@ -1,31 +1,62 @@
 -- Which hint helps against a refusal (this project's profile).
-use Rattle.std.specs.Prelude.{ℕ, Bool, true, false, ◌-◌, ◌||◌, nat_eq, if◌then◌else◌, List, [], Option, Some, None, Result, Ok, get_or, codes}
-use Rattle.std.specs.List.{ends_with}
+use Rattle.std.specs.Prelude.{ℕ, Bool, true, false, ◌-◌, ◌==◌, ◌&&◌, ◌||◌, nat_eq, if◌then◌else◌, List, [], ◌∷◌, drop, Option, Some, None, Result, Ok, get_or, codes, bytes_eq}
+use Rattle.std.specs.List.{starts_with, ends_with}
+use Rattle.compose_text.specs.Bytes.{begins}
 use Rattle.compose_text.specs.Lines.{lines_of}
+use Rattle.compose_text.specs.Numbers.{is_hexadecimal}
 use Rattle.compose_lex.specs.Line.{Reading, include, production}
 use Rattle.compose_lex.specs.Fault.{reading_of}
 use Rattle.compose_lex.specs.declared.LexFault.{LexFault}
-use Rattle.compose_read.specs.declared.ReadFault.TheVariants.{UnknownKeysym}
+use Rattle.compose_read.specs.Lines.{Source}
+use Rattle.compose_read.specs.declared.ReadFault.TheVariants.{UnknownKeysym, NotUtf8}
 use Rattle.compose_read.specs.declared.settling.SettleFault.TheVariants.{Overlap}
 use Rattle.compose_tree.specs.declared.reading.TableFault.{TableFault}
 use Rattle.compose_tree.specs.declared.reading.TableFault.TheVariants.{Read, Settle}
 use Rattle.compose_manifest.specs.declared.manifest.ManifestFault.{ManifestFault}
 use Rattle.compose_manifest.specs.declared.manifest.ManifestFault.TheVariants.{BadLine}
-use Rattle.compose_messages.specs.Places.{text_or_nothing}
+use Rattle.compose_messages.specs.Places.{line_at, text_or_nothing}
+use Rattle.compose_messages.specs.Tokens.{named}
 use Rattle.compose_messages.specs.declared.hints.Hint.{Hint}
-use Rattle.compose_messages.specs.declared.hints.Hint.TheVariants.{BuiltinNames, OverlapLongest, Fresh, Table}
+use Rattle.compose_messages.specs.declared.hints.Hint.TheVariants.{BuiltinNames, OwnNames, UnicodeName, ComposeKey, Encoding, Utf16, OverlapLongest, Fresh, Table}
 
 abbrev pub hint_text : Hint → List ℕ
 hint_text BuiltinNames = codes "composecheck: hint: `--names builtin` has the names of keysymdef.h"
+hint_text OwnNames = codes "composecheck: hint: `--names builtin --names FILE` adds the names of a header of your own"
+hint_text UnicodeName = codes "composecheck: hint: four to six hexadecimal digits follow the U, as in U00E9"
+hint_text ComposeKey = codes "composecheck: hint: the Compose key is Multi_key"
+hint_text Encoding = codes "composecheck: hint: a Compose file is in UTF-8; `iconv -f ENCODING -t UTF-8` converts another one"
+hint_text Utf16 = codes "composecheck: hint: the file is in UTF-16; `iconv -f UTF-16 -t UTF-8` converts it"
 hint_text OverlapLongest = codes "composecheck: hint: with the line `overlap longest` before the entries of the manifest, or `diff --overlap longest`, the longer sequence counts"
 hint_text Fresh = codes "composecheck: hint: `--fresh` takes the keysyms for which nothing has to be promised"
 hint_text Table = codes "composecheck: hint: this is a Compose table; `composecheck manifest TABLE` prints its manifest"
 
--- a name that is unknown, where no names are given; or an overlap
-abbrev pub table_hint : Bool → TableFault → Option Hint
-table_hint named (Read (UnknownKeysym s l index)) = if named then None else Some BuiltinNames
-table_hint named (Settle (Overlap short long)) = Some OverlapLongest
-table_hint named fault = None
+-- the form of Unicode's names with too few digits: `U` (code 85) and one to three
+abbrev pub is_short_unicode_name : List ℕ → Bool
+is_short_unicode_name name = begins (λ b. b == 85) name && is_hexadecimal 1 3 (drop 1 name)
+
+-- other names that people give the Compose key
+abbrev pub is_compose_key : List ℕ → Bool
+is_compose_key name =
+    bytes_eq name (codes "Compose") || bytes_eq name (codes "compose") || bytes_eq name (codes "Multi") || bytes_eq name (codes "multi_key") ||
+    bytes_eq name (codes "Multi_Key") || bytes_eq name (codes "MULTI_KEY")
+
+-- against a name that no keysym has; `are_given` says whether files of names are
+abbrev pub name_hint : Bool → List ℕ → Hint
+name_hint are_given name =
+    if is_compose_key name then ComposeKey else
+    if is_short_unicode_name name then UnicodeName else
+    if are_given then OwnNames else BuiltinNames
+
+-- against a line that is not UTF-8, by the first line of its file: the marks of UTF-16
+abbrev pub encoding_hint : List ℕ → Hint
+encoding_hint first = if starts_with nat_eq first (0xff ∷ 0xfe ∷ []) || starts_with nat_eq first (0xfe ∷ 0xff ∷ []) then Utf16 else Encoding
+
+-- a name that is unknown, a line that is not UTF-8, or an overlap
+abbrev pub table_hint : List Source → Bool → TableFault → Option Hint
+table_hint sources are_given (Read (UnknownKeysym source line index)) = Some (name_hint are_given (named (line_at sources source line) index))
+table_hint sources are_given (Read (NotUtf8 source line)) = Some (encoding_hint (line_at sources source 1))
+table_hint sources are_given (Settle (Overlap short long)) = Some OverlapLongest
+table_hint sources are_given fault = None
 
 -- what is read of a line is a production or an include
 abbrev pub is_of_table : Result Reading LexFault → Bool

@@ -1,5 +1,5 @@
 -- What is said of a fault (this project's profile), and how it is printed.
-use Rattle.std.specs.Prelude.{ℕ, not, ◌-◌, List, [], ◌∷◌, ◌++◌, take, Option, Some, None, codes}
+use Rattle.std.specs.Prelude.{ℕ, not, ◌-◌, if◌then◌else◌, List, [], ◌∷◌, ◌++◌, take, Option, Some, None, codes}
 use Rattle.std.specs.Option.{option_map_or}
 use Rattle.std.specs.Fmt.{decimal}
 use Rattle.compose_lex.specs.declared.LexFault.{LexFault}
@@ -9,7 +9,7 @@ use Rattle.compose_read.specs.declared.ReadFault.{ReadFault}
 use Rattle.compose_read.specs.declared.ReadFault.TheVariants.{MissingRoot, NotUtf8, Lex, UnknownKeysym, IgnoredKeysym, MissingInclude, IncludeDepth, TooManyLines, TooManyDefinitions}
 use Rattle.compose_shown.specs.Shown.{shown_text}
 use Rattle.compose_messages.specs.Places.{line_at, line_of}
-use Rattle.compose_messages.specs.Tokens.{named, expected_after, found_at}
+use Rattle.compose_messages.specs.Tokens.{named, expected_after, found_at, is_modifier}
 use Rattle.compose_messages.specs.declared.position.Position.{Position}
 use Rattle.compose_messages.specs.declared.message.Message.{Message}
 use Rattle.compose_messages.specs.declared.message.Message.TheVariants.{Plain, Quoting, Expected}
@@ -49,7 +49,7 @@ file_text told = codes "composecheck: " ++ shown_text told.path.now ++ position_
 
 abbrev pub lex_said : List ℕ → LexFault → List ℕ
 lex_said line (BadToken at) = expecting (expected_after (take at line)) (found_at line at)
-lex_said line (ModifierList at) = codes "a modifier list stands here, which is not supported"
+lex_said line (ModifierList at) = if is_modifier (found_at line at) then codes "a modifier list stands here, which is not supported" else expecting (expected_after (take at line)) (found_at line at)
 lex_said line (UnclosedString at) = codes "the string is not closed"
 lex_said line (UnknownEscape at) = codes "the backslash begins no escape"
 lex_said line (BadCode at) = codes "the code is that of no byte from 1 to 255"

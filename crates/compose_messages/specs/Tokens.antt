@@ -1,7 +1,7 @@
 -- What a line has at a fault: a name, or the token that stands where another one is expected.
-use Rattle.std.specs.Prelude.{ℕ, ◌+◌, ◌==◌, if◌then◌else◌, List, [], ◌∷◌, length, take, drop, Option, Some, None, Result, Ok, get_or, codes}
+use Rattle.std.specs.Prelude.{ℕ, Bool, ◌+◌, ◌==◌, ◌||◌, if◌then◌else◌, List, [], ◌∷◌, length, take, drop, Option, Some, None, Result, Ok, get_or, codes, bytes_eq, nat_eq}
 use Rattle.std.specs.Option.{unwrap_or}
-use Rattle.std.specs.List.{list_any, position, prefix_len}
+use Rattle.std.specs.List.{list_any, position, prefix_len, starts_with}
 use Rattle.compose_text.specs.Bytes.{is_blank, is_name_byte, begins}
 use Rattle.compose_lex.specs.Line.{Reading, include, production}
 use Rattle.compose_lex.specs.Fault.{reading_of}
@@ -32,6 +32,13 @@ expected_after_name before =
     if list_any (λ b. b == 58) before then codes "the end of the line" else
     if list_any (λ b. b == 60) before then codes "\">\"" else codes "a string"
 
+-- after a string: in a production, which begins with `<`, the name of a keysym may follow too
+abbrev pub begins_production : List ℕ → Bool
+begins_production before = starts_with nat_eq (drop (prefix_len is_blank before) before) (codes "<")
+
+abbrev pub expected_after_string : List ℕ → List ℕ
+expected_after_string before = if begins_production before then codes "the name of a keysym or the end of the line" else codes "the end of the line"
+
 -- after the token that ends with this byte: `<`, `>`, `:`, a quote (codes 60, 62, 58 and 34), or a byte of a name
 abbrev pub expected_behind : List ℕ → Option ℕ → List ℕ
 expected_behind before None = codes "\"<\" or the word include"
@@ -39,7 +46,7 @@ expected_behind before (Some b) =
     if b == 60 then codes "the name of a keysym" else
     if b == 62 then codes "\":\" or \"<\"" else
     if b == 58 then codes "a string or the name of a keysym" else
-    if b == 34 then codes "the end of the line" else expected_after_name before
+    if b == 34 then expected_after_string before else expected_after_name before
 
 -- what may follow these bytes of a line
 abbrev pub expected_after : List ℕ → List ℕ
@@ -57,3 +64,9 @@ first_token rest = take (token_len rest) rest
 -- the token at this offset, where it is a text; nothing at the end
 abbrev pub found_at : List ℕ → ℕ → List ℕ
 found_at line at = text_or_nothing (first_token (drop at line))
+
+-- a word by which Compose(5) begins a list of modifiers
+abbrev pub is_modifier : List ℕ → Bool
+is_modifier word =
+    bytes_eq word (codes "!") || bytes_eq word (codes "~") || bytes_eq word (codes "None") || bytes_eq word (codes "Ctrl") || bytes_eq word (codes "Lock") ||
+    bytes_eq word (codes "Caps") || bytes_eq word (codes "Shift") || bytes_eq word (codes "Alt") || bytes_eq word (codes "Meta")

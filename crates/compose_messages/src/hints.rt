@@ -1,12 +1,15 @@
 //! Hints against a refusal.
 ghost use Rattle.std.specs.Prelude.{◌≡◌};
+ghost use Rattle.compose_text.specs.Numbers.{is_hexadecimal};
 ghost use Rattle.compose_messages.specs.Hints as hints;
 
-use crate::lines::{nth_line, text_or_nothing};
+use crate::lines::{nth_line, source_line, text_or_nothing};
+use crate::tokens::named;
 use arrayvec::ArrayVec;
 use compose_lex::{Said, lex_line_into};
 use compose_manifest::ManifestFault;
-use compose_read::{ReadFault, SettleFault};
+use compose_read::{ReadFault, SettleFault, Sources};
+use compose_text::hexadecimal_number;
 use compose_tree::TableFault;
 use std::fmt;
 
@@ -15,6 +18,16 @@ use std::fmt;
 pub enum Hint {
     /// The names that are in the program.
     BuiltinNames,
+    /// Names of the user's own beside these.
+    OwnNames,
+    /// The digits of a name of Unicode's form.
+    UnicodeName,
+    /// The name of the Compose key.
+    ComposeKey,
+    /// The encoding of Compose files.
+    Encoding,
+    /// The file is in UTF-16.
+    Utf16,
     /// The rule by which overlaps are no fault.
     OverlapLongest,
     /// The option for fresh keysyms.
@@ -34,6 +47,19 @@ impl fmt::Display for Hint {
             Hint::BuiltinNames => f.write_str(
                 "composecheck: hint: `--names builtin` has the names of keysymdef.h",
             ),
+            Hint::OwnNames => f.write_str(
+                "composecheck: hint: `--names builtin --names FILE` adds the names of a header of your own",
+            ),
+            Hint::UnicodeName => f.write_str(
+                "composecheck: hint: four to six hexadecimal digits follow the U, as in U00E9",
+            ),
+            Hint::ComposeKey => f.write_str("composecheck: hint: the Compose key is Multi_key"),
+            Hint::Encoding => f.write_str(
+                "composecheck: hint: a Compose file is in UTF-8; `iconv -f ENCODING -t UTF-8` converts another one",
+            ),
+            Hint::Utf16 => f.write_str(
+                "composecheck: hint: the file is in UTF-16; `iconv -f UTF-16 -t UTF-8` converts it",
+            ),
             Hint::OverlapLongest => f.write_str(
                 "composecheck: hint: with the line `overlap longest` before the entries of the manifest, or `diff --overlap longest`, the longer sequence counts",
             ),
@@ -47,14 +73,81 @@ impl fmt::Display for Hint {
     }
 }
 
-/// The hint against the fault of a table, where one helps; `named` says whether names were given.
-pub fn table_hint(fault: &TableFault, named: bool) -> Option<Hint>
-    ensures { result ≡ hints.table_hint named fault.now }
+/// The hint against the fault of a table of these sources, where one helps; `are_given` says whether files of names are. O(bytes of the source).
+pub fn table_hint(sources: &Sources, fault: &TableFault, are_given: bool) -> Option<Hint>
+    ensures { result ≡ hints.table_hint sources.now are_given fault.now }
 {
     match fault {
-        TableFault::Read(ReadFault::UnknownKeysym { .. }) if !named => Some(Hint::BuiltinNames),
+        TableFault::Read(
+            ReadFault::UnknownKeysym {
+                source,
+                line,
+                index,
+            },
+        ) => {
+            let name = named(source_line(sources, *source, *line), *index);
+            Some(name_hint(name, are_given))
+        }
+        TableFault::Read(ReadFault::NotUtf8 { source, .. }) => {
+            Some(encoding_hint(source_line(sources, *source, 1)))
+        }
         TableFault::Settle(SettleFault::Overlap { .. }) => Some(Hint::OverlapLongest),
         _ => None,
+    }
+}
+
+/// The hint against a name that no keysym has; `are_given` says whether files of names are. O(bytes).
+pub fn name_hint(name: &str, are_given: bool) -> Hint
+    ensures { result ≡ hints.name_hint are_given name.now }
+{
+    if is_compose_key(name) {
+        Hint::ComposeKey
+    } else if is_short_unicode_name(name.as_bytes()) {
+        Hint::UnicodeName
+    } else if are_given {
+        Hint::OwnNames
+    } else {
+        Hint::BuiltinNames
+    }
+}
+
+/// Whether people call the Compose key so.
+fn is_compose_key(name: &str) -> bool
+    ensures { result ≡ hints.is_compose_key name.now }
+{
+    name == "Compose"
+        || name == "compose"
+        || name == "Multi"
+        || name == "multi_key"
+        || name == "Multi_Key"
+        || name == "MULTI_KEY"
+}
+
+/// Whether the name is `U` and one to three hexadecimal digits.
+fn is_short_unicode_name(name: &[u8]) -> bool
+    ensures { result ≡ hints.is_short_unicode_name name.now }
+{
+    match name.split_first() {
+        Some((b'U', digits)) => is_short_number(digits),
+        _ => false,
+    }
+}
+
+/// Whether these are one to three hexadecimal digits.
+fn is_short_number(digits: &[u8]) -> bool
+    ensures { result ≡ is_hexadecimal 1 3 digits.now }
+{
+    hexadecimal_number(1, 3, digits).is_some()
+}
+
+/// The hint against a line that is not UTF-8, in a file with this first line.
+fn encoding_hint(first: &[u8]) -> Hint
+    ensures { result ≡ hints.encoding_hint first.now }
+{
+    if first.starts_with(&[0xff, 0xfe]) || first.starts_with(&[0xfe, 0xff]) {
+        Hint::Utf16
+    } else {
+        Hint::Encoding
     }
 }
 

@@ -26,7 +26,7 @@ pub use faults::{
     FaultWords, certificate_words, manifest_words, name_words, open_words, repertoire_words,
     source_words,
 };
-pub use hints::{Hint, manifest_hint, table_hint};
+pub use hints::{Hint, manifest_hint, name_hint, table_hint};
 pub use message::{FileMessage, Message};
 pub use overlap::{overlap_words, push_events};
 pub use position::{Position, fault_position, line_of};

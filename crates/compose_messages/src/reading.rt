@@ -1,11 +1,13 @@
 //! The faults of sources, in words.
-ghost use Rattle.std.specs.Prelude.{◌≡◌};
-ghost use Rattle.compose_messages.specs.Messages.{message_text, lex_said, read_said, fault_line};
+ghost use Rattle.std.specs.Prelude.{◌≡◌, take};
+ghost use Rattle.compose_messages.specs.Messages.{message_text, lex_said, read_said, fault_line, expecting};
+ghost use Rattle.compose_messages.specs.Tokens as tokens;
+ghost use Rattle.compose_messages.specs.Tokens.{expected_after};
 
 use crate::lines::source_line;
 use crate::message::Message;
 use crate::position::line_of;
-use crate::tokens::{expected_after, found_at, named};
+use crate::tokens::{expected_after, found_at, is_modifier, named};
 use compose_lex::LexFault;
 use compose_read::{ReadFault, Sources};
 
@@ -51,18 +53,26 @@ fn fault_line<'a>(sources: &'a Sources, fault: &ReadFault) -> &'a [u8]
 }
 
 #[tactic(auto, using(std::proofs::lemmas::List::take_min))]
+/// What is said where another token is expected than the one that stands at this offset.
+fn token_message(line: &[u8], at: usize) -> Message<'_>
+    ensures { message_text result ≡ expecting (expected_after (take at line.now)) (tokens.found_at line.now at) }
+{
+    Message::Expected(
+        expected_after(&line[..at.min(line.len())]),
+        found_at(line, at),
+    )
+}
+
 /// What is said of the fault of a line.
 fn lex_message<'a>(line: &'a [u8], fault: &LexFault) -> Message<'a>
     ensures { message_text result ≡ lex_said line.now fault.now }
 {
     match fault {
-        LexFault::BadToken { at } => Message::Expected(
-            expected_after(&line[..(*at).min(line.len())]),
-            found_at(line, *at),
-        ),
-        LexFault::ModifierList { .. } => {
+        LexFault::BadToken { at } => token_message(line, *at),
+        LexFault::ModifierList { at } if is_modifier(found_at(line, *at)) => {
             Message::Plain("a modifier list stands here, which is not supported")
         }
+        LexFault::ModifierList { at } => token_message(line, *at),
         LexFault::UnclosedString { .. } => Message::Plain("the string is not closed"),
         LexFault::UnknownEscape { .. } => Message::Plain("the backslash begins no escape"),
         LexFault::BadCode { .. } => Message::Plain("the code is that of no byte from 1 to 255"),

@@ -10,7 +10,7 @@ use crate::lines::text_or_nothing;
 use crate::offsets::begins_character;
 use arrayvec::ArrayVec;
 use compose_lex::{Said, lex_line_into};
-use compose_text::name_len;
+use compose_text::{blank_len, name_len};
 
 /// The name of the event with this index, or of the result keysym; of an include the raw text.
 pub(crate) fn named(line: &[u8], index: usize) -> &str
@@ -39,9 +39,42 @@ pub(crate) fn expected_after(before: &[u8]) -> &'static str
         Some(b'<') => "the name of a keysym",
         Some(b'>') => "\":\" or \"<\"",
         Some(b':') => "a string or the name of a keysym",
-        Some(b'"') => "the end of the line",
+        Some(b'"') => expected_after_string(before),
         Some(_) => expected_after_name(before),
     }
+}
+
+/// What may follow a string.
+fn expected_after_string(before: &[u8]) -> &'static str
+    ensures { result.now ≡ tokens.expected_after_string before.now }
+{
+    if begins_production(before) {
+        "the name of a keysym or the end of the line"
+    } else {
+        "the end of the line"
+    }
+}
+
+/// Whether a line that begins with these bytes is a production.
+fn begins_production(before: &[u8]) -> bool
+    ensures { result ≡ tokens.begins_production before.now }
+{
+    before[blank_len(before)..].starts_with(b"<")
+}
+
+/// Whether Compose(5) begins a list of modifiers by this word.
+pub(crate) fn is_modifier(word: &str) -> bool
+    ensures { result ≡ tokens.is_modifier word.now }
+{
+    word == "!"
+        || word == "~"
+        || word == "None"
+        || word == "Ctrl"
+        || word == "Lock"
+        || word == "Caps"
+        || word == "Shift"
+        || word == "Alt"
+        || word == "Meta"
 }
 
 /// What may follow a name or the word `include`.
