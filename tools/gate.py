@@ -3,9 +3,9 @@
 
   - the runner of must-fail edits against a small crate of its own, and the gate's store (tests/edits_test.py), and the worked examples (tests/examples.py),
   - `rt ci`, with the edits tried over the proofs of their crates, several in one check (proofs.py),
-  - the command-line cases against both built programs, `composecheck` and the same on the plain form of a table, some of them again
-    with each allocation refused in turn, the second reading of lines, inputs at their limits and files that are written by `composecheck`,
-  - the service of both programs over real sockets, many connections at once, random streams against a second reading of them, README's script, and both packages,
+  - the command-line cases, inputs at their limits and the service over real sockets, with both built programs: `composecheck` and the same on the plain form of a table,
+  - with `composecheck`, some of the cases again with each allocation refused in turn, second readings of lines, tables and streams, files that are written, many
+    connections at once, README's script, and both packages,
   - single calls with each growth of their memory refused in turn, streams over devices that fail, and many clients on a network in memory.
 
 What a run proved is kept on this machine by the checksums of all that it read, and so is which edits were refused: in the kit's store, or
@@ -94,9 +94,9 @@ def commands():
     """Returns the commands that run the built programs, the slowest first, once `composecheck` itself is at PROGRAM."""
     shutil.copy(built("composecheck"), PROGRAM)
     plain, trials = built("composecheck_list"), built("compose_trials")
-    runs = [(it, program) for it in ("refusals.py", "diff.py", "how.py", "lint.py", "cases.py", "service.py") for program in (PROGRAM, plain)]
+    runs = [(it, PROGRAM) for it in ("refusals.py", "diff.py", "how.py", "lint.py")]
+    runs += [(it, program) for it in ("cases.py", "service.py", "limits.py") for program in (PROGRAM, plain)]
     runs += [("devices.py", trials), ("calls.py", trials), ("network.py", trials)]
-    runs += [("limits.py", PROGRAM), ("limits.py", plain)]
     runs += [(it, PROGRAM) for it in ("once.py", "packages.py", "lex_reference.py", "at_once.py", "streams.py", "update.py", "outputs.py", "ci.py", "readme.py", "engine.py", "installed.py")]
     runs += [("snippets.py", PROGRAM), ("makefile.py",), ("documents.py",), ("library.py",)]
     return [script(*it) for it in runs]
