@@ -9,6 +9,7 @@ import shutil
 import subprocess
 import sys
 import tempfile
+import time
 import types
 import unittest.mock
 
@@ -166,6 +167,22 @@ def controlled(status, why=OWN_GOAL):
         return *trial.end()[0], asked[-1]
 
 
+def left_for_the_next_run(last):
+    """Returns what the runner says of an edit whose check may begin until this time."""
+    with tempfile.TemporaryDirectory(prefix="edits-test-") as folder:
+        rt = types.SimpleNamespace(edits_of=lambda crate: (["wrong.edit"], []), read_edit=lambda file, folder: (None, "it is not read here"), REFUSED="refused", AT_LIMIT="limit")
+        rt.checked = lambda *given: types.SimpleNamespace(returncode=0, stdout="fn neighbours::next: proved\n")
+        rt.must_fail = lambda crate, file, flags, kept: ("refused", "must-fail neighbours/wrong.edit: refused, as it must be: a goal")
+        trial = edits.Trial(rt, types.SimpleNamespace(name="neighbours", folder=folder), f"{folder}/kept", f"{folder}/room", last=last)
+        trial.begin()
+        return trial.end()[0]
+
+
+def tests_of_the_time():
+    yield "an edit for which there is no time neither passes nor fails", left_for_the_next_run(0) == (None, f"must-fail neighbours/wrong.edit: {edits.LEFT}")
+    yield "an edit for which there is time is tried", left_for_the_next_run(time.monotonic() + 1000)[0]
+
+
 def tests_of_the_control():
     unedited = {}, ["--jobs", "1", "--only", "neighbours::next"]
     yield "refused in a batch, and its function is then proved unedited", controlled(0) == (True, "must-fail neighbours/wrong.edit: refused by returns", unedited)
@@ -259,7 +276,7 @@ def tests_of_the_store():
 
 def main():
     passed = failed = 0
-    for tests in (tests_of_words, tests_of_the_store, tests_of_the_control, tests_of_the_runner):
+    for tests in (tests_of_words, tests_of_the_time, tests_of_the_store, tests_of_the_control, tests_of_the_runner):
         for name, is_well in tests():
             print(f"{'ok' if is_well else 'FAILED'}: {name}", flush=True)
             passed, failed = passed + is_well, failed + (not is_well)

@@ -17,6 +17,7 @@ Run it at the top of the repository, with the kit's `rt` on PATH. What is not pr
   must-fail CRATE/NAME.edit: BAD EDIT ..                it cannot be applied or read: the edit failed
   must-fail CRATE/NAME.edit: NOT TRIED, NOT JUDGED ..   the crate is not proved, or not over the work that its edits were tried over; or all that
                                                         refuses it is a proof file that names what the edit took away: they failed
+  must-fail CRATE/NAME.edit: LEFT FOR THE NEXT RUN      the gate had no time left for it: it neither passed nor failed
 
 The last line is 'N passed, M failed'. The status is 1 if an edit failed, and 130 after an interrupt.
 """
@@ -35,6 +36,7 @@ import signal
 import sys
 import tempfile
 import threading
+import time
 from typing import NamedTuple
 
 import kit
@@ -55,6 +57,7 @@ ITEM = re.compile(r"\w+ \S+::\S+: ")
 REFUSED_ANSWERS = "use Rattle.std.proofs.Common.{nothing-has-this-name}\n"
 # What a proof file says of a name that the edit took away. That says nothing of the contract, so such an edit fails.
 TAKEN = re.compile(r"has no field|is not in scope|has no `")
+LEFT = "LEFT FOR THE NEXT RUN: the time for edits has passed"
 WEAK = "but only because a proof file names what the edit took away: change a value and keep the names"
 
 
@@ -187,9 +190,10 @@ def copy_of(kept, into):
 class Trial:
     """The edits of one crate, tried over its kept work: `begin`, then `work` in as many threads as there are, and then `end`."""
 
-    def __init__(self, rt, crate, kept, room, is_asked=lambda name: True, results=None, prepare=None):
+    def __init__(self, rt, crate, kept, room, is_asked=lambda name: True, results=None, prepare=None, last=None):
         """`results` finds what earlier runs came to, and keeps what this one does. `prepare` makes the kept work where it need not be proved
-        here, and returns the names of the crate's functions."""
+        here, and returns the names of the crate's functions. No check of edits begins after `last`, a time of the monotonic clock."""
+        self.last = last
         self.rt, self.crate, self.kept, self.room, self.results, self.prepare = rt, crate, kept, room, results, prepare or self.proof
         self.files = [it for it in rt.edits_of(crate)[0] if is_asked(os.path.basename(it).removesuffix(".edit"))]
         self.left, self.told, self.earlier, self.is_proved = collections.deque(), {}, {}, False
@@ -198,6 +202,14 @@ class Trial:
 
     def tell(self, file, passes, text):
         self.told[file] = passes, f"must-fail {self.crate.name}/{os.path.basename(file)}: {text}"
+
+    def is_late(self):
+        return self.last is not None and time.monotonic() > self.last
+
+    def leave(self, files):
+        """Leaves edits for the next run: whether they pass is None."""
+        for file in files:
+            self.tell(file, None, LEFT)
 
     def check(self, kept, texts={}, only=(), crate=None):
         flags = ["--jobs", "1", *itertools.chain(*(("--only", it) for it in only))]
@@ -248,6 +260,9 @@ class Trial:
         files = [it for it in self.files if it not in self.earlier]
         if not files:
             return
+        if self.is_late():
+            self.leave(files)
+            return
         shutil.rmtree(self.room, ignore_errors=True)
         os.makedirs(self.room)
         functions = self.prepare()
@@ -265,7 +280,10 @@ class Trial:
         with contextlib.suppress(IndexError):
             while True:
                 it = self.left.popleft()
-                self.alone(it) if isinstance(it, str) else self.together(it)
+                if self.is_late():
+                    self.leave([it] if isinstance(it, str) else [edit.file for edit in it])
+                else:
+                    self.alone(it) if isinstance(it, str) else self.together(it)
 
     def alone(self, file):
         """Tries an edit alone, by rt's rule."""
@@ -314,9 +332,9 @@ class Trial:
 
     def end(self):
         """Tries what is left, then checks what was edited as it stands, and returns of each edit, in order, whether it passed and its line."""
-        tried = [it for it in self.files if it not in self.earlier]
         try:
             self.work()
+            tried = [it for it in self.files if it not in self.earlier and self.told.get(it, (True,))[0] is not None]
             is_kept_well = bool(tried) and self.is_proved and self.is_kept_well()
         finally:
             shutil.rmtree(self.room, ignore_errors=True)

@@ -16,11 +16,16 @@ import json
 import os
 import shutil
 import sys
+import time
 
 import edits
 import kit
 import measured
 import store
+
+
+# A gate on a slow machine has to end all the same. Edits of which no check has begun by then, in seconds, are left for the next run.
+SECONDS_FOR_EDITS = 105 * 60
 
 
 def take_checked(crate, kept):
@@ -69,6 +74,8 @@ class Gate:
     def __init__(self, rt, file, kept):
         """`kept` is the gate's own store, where the kit has none."""
         self.rt, self.trials, self.kept = rt, {}, kept
+        # (an older kit knows no edit that neither passed nor failed)
+        self.last = None if kept else time.monotonic() + SECONDS_FOR_EDITS
         self.crate_ci, self.in_lanes = rt.Crate.ci, rt.in_lanes
         measured.measure(rt.rtlib, file)
         rt.Crate.ci = lambda crate, flags, tests: self.prove(crate, flags, tests)
@@ -110,7 +117,7 @@ class Gate:
 
         # (of a static library nothing is built that has its proofs in it: they are made once more)
         prepared = prepare if crate.makes_rlib() else None
-        trial = edits.Trial(self.rt, crate, kept_work, f"{crate.folder}/out/edits", results=results, prepare=prepared)
+        trial = edits.Trial(self.rt, crate, kept_work, f"{crate.folder}/out/edits", results=results, prepare=prepared, last=self.last)
         tasks.update(trial.tasks(waits, measured.seconds_of(crate, "edits"), is_well, end))
         return trial
 
@@ -120,8 +127,9 @@ class Gate:
             return lambda given: [], dict
         last = lambda given, jobs: trial.end() if is_well(given) else []
         trial = self.add_trial(tasks, crate, waits, is_well, last, Results(self.rt, kept, crate))
-        # (an edit that cannot be read fails here)
-        return lambda given: [(self.rt.REFUSED if passes else self.rt.MISSED, line) for passes, line in given[crate.name, "edits"]], lambda: trial.earlier
+        # (an edit that cannot be read fails here; what rt calls a bad one neither passes nor fails)
+        kinds = {True: self.rt.REFUSED, False: self.rt.MISSED, None: self.rt.BAD}
+        return lambda given: [(kinds[passes], line) for passes, line in given[crate.name, "edits"]], lambda: trial.earlier
 
     def with_trials(self, tasks):
         """Returns the tasks of a kit that has no `add_edits`, with one of edits as several. The last of them is the kit's own, which calls `must_fail_all`."""
