@@ -447,6 +447,31 @@ fn hints_of_encodings(rt: HostRuntime) -> Result<(), Fail> {
 }
 
 #[test]
+fn hints_of_files_of_another_kind(rt: HostRuntime) -> Result<(), Fail> {
+    let rows: [(&[u8], Option<Hint>); 9] = [
+        (b"compose-certificate 2", Some(Hint::Certificate)),
+        (b"U+00E9", Some(Hint::Repertoire)),
+        (b"keys 0x20 0x7e", Some(Hint::Repertoire)),
+        (b"%L\ttables/en_US", Some(Hint::Manifest)),
+        (b"root tables/en_US", None),
+        (b"Ctrl\t<a> : \"x\"", None),
+        (b"include\t%L", None),
+        (b"<a>\tb", None),
+        (b"\t%", None),
+    ];
+    let names = core(rt.alloc())?;
+    for (root, expected) in &rows {
+        let sources = two_sources(rt.alloc(), root, "")?;
+        let fault = first_fault(rt.alloc(), &names, &sources).unwrap_or(ReadFault::MissingRoot);
+        assert_eq!(rt;
+            table_hint(&sources, &TableFault::Read(fault), true),
+            *expected
+        );
+    }
+    Ok(())
+}
+
+#[test]
 fn hints_of_names(rt: HostRuntime) {
     let rows = [
         ("UE9", Hint::UnicodeName),
@@ -516,6 +541,18 @@ fn texts_of_hints(rt: HostRuntime) -> Result<(), Fail> {
         (
             Hint::Utf16,
             "composecheck: hint: the file is in UTF-16; `iconv -f UTF-16 -t UTF-8` converts it",
+        ),
+        (
+            Hint::Certificate,
+            "composecheck: hint: this is a certificate, and no Compose file",
+        ),
+        (
+            Hint::Repertoire,
+            "composecheck: hint: this is a repertoire, and no Compose file",
+        ),
+        (
+            Hint::Manifest,
+            "composecheck: hint: this is a manifest, which lists Compose files, and none itself",
         ),
         (
             Hint::OverlapLongest,

@@ -1,14 +1,14 @@
 -- Which hint helps against a refusal (this project's profile).
-use Rattle.std.specs.Prelude.{ℕ, Bool, true, false, ◌-◌, ◌==◌, ◌&&◌, ◌||◌, nat_eq, if◌then◌else◌, List, [], ◌∷◌, drop, Option, Some, None, Result, Ok, get_or, codes, bytes_eq}
-use Rattle.std.specs.List.{starts_with, ends_with}
-use Rattle.compose_text.specs.Bytes.{begins}
+use Rattle.std.specs.Prelude.{ℕ, Bool, true, false, not, ◌-◌, ◌==◌, ◌&&◌, ◌||◌, nat_eq, if◌then◌else◌, List, [], ◌∷◌, drop, Option, Some, None, Result, Ok, get_or, codes, bytes_eq}
+use Rattle.std.specs.List.{list_any, starts_with, ends_with}
+use Rattle.compose_text.specs.Bytes.{begins, is_blank}
 use Rattle.compose_text.specs.Lines.{lines_of}
 use Rattle.compose_text.specs.Numbers.{is_hexadecimal}
 use Rattle.compose_lex.specs.Line.{Reading, include, production}
 use Rattle.compose_lex.specs.Fault.{reading_of}
 use Rattle.compose_lex.specs.declared.LexFault.{LexFault}
 use Rattle.compose_read.specs.Lines.{Source}
-use Rattle.compose_read.specs.declared.ReadFault.TheVariants.{UnknownKeysym, NotUtf8}
+use Rattle.compose_read.specs.declared.ReadFault.TheVariants.{UnknownKeysym, Lex, NotUtf8}
 use Rattle.compose_read.specs.declared.settling.SettleFault.TheVariants.{Overlap}
 use Rattle.compose_tree.specs.declared.reading.TableFault.{TableFault}
 use Rattle.compose_tree.specs.declared.reading.TableFault.TheVariants.{Read, Settle}
@@ -17,7 +17,7 @@ use Rattle.compose_manifest.specs.declared.manifest.ManifestFault.TheVariants.{B
 use Rattle.compose_messages.specs.Places.{line_at, text_or_nothing}
 use Rattle.compose_messages.specs.Tokens.{named}
 use Rattle.compose_messages.specs.declared.hints.Hint.{Hint}
-use Rattle.compose_messages.specs.declared.hints.Hint.TheVariants.{BuiltinNames, OwnNames, UnicodeName, ComposeKey, Encoding, Utf16, OverlapLongest, Fresh, Table}
+use Rattle.compose_messages.specs.declared.hints.Hint.TheVariants.{BuiltinNames, OwnNames, UnicodeName, ComposeKey, Encoding, Utf16, Certificate, Repertoire, Manifest, OverlapLongest, Fresh, Table}
 
 abbrev pub hint_text : Hint → List ℕ
 hint_text BuiltinNames = codes "composecheck: hint: `--names builtin` has the names of keysymdef.h"
@@ -26,6 +26,9 @@ hint_text UnicodeName = codes "composecheck: hint: four to six hexadecimal digit
 hint_text ComposeKey = codes "composecheck: hint: the Compose key is Multi_key"
 hint_text Encoding = codes "composecheck: hint: a Compose file is in UTF-8; `iconv -f ENCODING -t UTF-8` converts another one"
 hint_text Utf16 = codes "composecheck: hint: the file is in UTF-16; `iconv -f UTF-16 -t UTF-8` converts it"
+hint_text Certificate = codes "composecheck: hint: this is a certificate, and no Compose file"
+hint_text Repertoire = codes "composecheck: hint: this is a repertoire, and no Compose file"
+hint_text Manifest = codes "composecheck: hint: this is a manifest, which lists Compose files, and none itself"
 hint_text OverlapLongest = codes "composecheck: hint: with the line `overlap longest` before the entries of the manifest, or `diff --overlap longest`, the longer sequence counts"
 hint_text Fresh = codes "composecheck: hint: `--fresh` takes the keysyms for which nothing has to be promised"
 hint_text Table = codes "composecheck: hint: this is a Compose table; `composecheck manifest TABLE` prints its manifest"
@@ -51,9 +54,21 @@ name_hint are_given name =
 abbrev pub encoding_hint : List ℕ → Hint
 encoding_hint first = if starts_with nat_eq first (0xff ∷ 0xfe ∷ []) || starts_with nat_eq first (0xfe ∷ 0xff ∷ []) then Utf16 else Encoding
 
--- a name that is unknown, a line that is not UTF-8, or an overlap
+-- an entry of a manifest: a name, a tab (code 9) and a path; no line of a Compose file, which has `<` (code 60) or begins with `include`
+abbrev pub is_entry : List ℕ → Bool
+is_entry line = list_any (λ b. b == 9) line && not (begins is_blank line || list_any (λ b. b == 60) line || starts_with nat_eq line (codes "include"))
+
+-- against a line that no Compose file has: the file is of another kind
+abbrev pub file_hint : List ℕ → Option Hint
+file_hint line =
+    if starts_with nat_eq line (codes "compose-certificate ") then Some Certificate else
+    if starts_with nat_eq line (codes "U+") || starts_with nat_eq line (codes "keys 0x") then Some Repertoire else
+    if is_entry line then Some Manifest else None
+
+-- a line that can't be read, a name that is unknown, a line that is not UTF-8, or an overlap
 abbrev pub table_hint : List Source → Bool → TableFault → Option Hint
 table_hint sources are_given (Read (UnknownKeysym source line index)) = Some (name_hint are_given (named (line_at sources source line) index))
+table_hint sources are_given (Read (Lex source line fault)) = file_hint (line_at sources source line)
 table_hint sources are_given (Read (NotUtf8 source line)) = Some (encoding_hint (line_at sources source 1))
 table_hint sources are_given (Settle (Overlap short long)) = Some OverlapLongest
 table_hint sources are_given fault = None

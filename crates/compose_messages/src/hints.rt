@@ -1,10 +1,11 @@
 //! Hints against a refusal.
 ghost use Rattle.std.specs.Prelude.{◌≡◌};
+ghost use Rattle.compose_text.specs.Bytes.{begins, is_blank};
 ghost use Rattle.compose_text.specs.Numbers.{is_hexadecimal};
 ghost use Rattle.compose_messages.specs.Hints as hints;
 
 use crate::lines::{nth_line, source_line, text_or_nothing};
-use crate::tokens::named;
+use crate::tokens::{contains, is_blank, named};
 use arrayvec::ArrayVec;
 use compose_lex::{Said, lex_line_into};
 use compose_manifest::ManifestFault;
@@ -28,6 +29,12 @@ pub enum Hint {
     Encoding,
     /// The file is in UTF-16.
     Utf16,
+    /// The file is a certificate.
+    Certificate,
+    /// The file is a repertoire.
+    Repertoire,
+    /// The file is a manifest.
+    Manifest,
     /// The rule by which overlaps are no fault.
     OverlapLongest,
     /// The option for fresh keysyms.
@@ -60,6 +67,15 @@ impl fmt::Display for Hint {
             Hint::Utf16 => f.write_str(
                 "composecheck: hint: the file is in UTF-16; `iconv -f UTF-16 -t UTF-8` converts it",
             ),
+            Hint::Certificate => {
+                f.write_str("composecheck: hint: this is a certificate, and no Compose file")
+            }
+            Hint::Repertoire => {
+                f.write_str("composecheck: hint: this is a repertoire, and no Compose file")
+            }
+            Hint::Manifest => f.write_str(
+                "composecheck: hint: this is a manifest, which lists Compose files, and none itself",
+            ),
             Hint::OverlapLongest => f.write_str(
                 "composecheck: hint: with the line `overlap longest` before the entries of the manifest, or `diff --overlap longest`, the longer sequence counts",
             ),
@@ -87,6 +103,9 @@ pub fn table_hint(sources: &Sources, fault: &TableFault, are_given: bool) -> Opt
         ) => {
             let name = named(source_line(sources, *source, *line), *index);
             Some(name_hint(name, are_given))
+        }
+        TableFault::Read(ReadFault::Lex { source, line, .. }) => {
+            file_hint(source_line(sources, *source, *line))
         }
         TableFault::Read(ReadFault::NotUtf8 { source, .. }) => {
             Some(encoding_hint(source_line(sources, *source, 1)))
@@ -138,6 +157,39 @@ fn is_short_number(digits: &[u8]) -> bool
     ensures { result ≡ is_hexadecimal 1 3 digits.now }
 {
     hexadecimal_number(1, 3, digits).is_some()
+}
+
+/// The hint against a line that no Compose file has.
+fn file_hint(line: &[u8]) -> Option<Hint>
+    ensures { result ≡ hints.file_hint line.now }
+{
+    if line.starts_with(b"compose-certificate ") {
+        Some(Hint::Certificate)
+    } else if line.starts_with(b"U+") || line.starts_with(b"keys 0x") {
+        Some(Hint::Repertoire)
+    } else if is_entry(line) {
+        Some(Hint::Manifest)
+    } else {
+        None
+    }
+}
+
+/// Whether the line is an entry of a manifest, and none of a Compose file.
+fn is_entry(line: &[u8]) -> bool
+    ensures { result ≡ hints.is_entry line.now }
+{
+    contains(line, b'\t')
+        && !(begins_with_blank(line) || contains(line, b'<') || line.starts_with(b"include"))
+}
+
+/// Whether a blank stands at the beginning.
+fn begins_with_blank(line: &[u8]) -> bool
+    ensures { result ≡ begins is_blank line.now }
+{
+    match line.first() {
+        Some(byte) => is_blank(*byte),
+        None => false,
+    }
 }
 
 /// The hint against a line that is not UTF-8, in a file with this first line.

@@ -91,7 +91,7 @@ fn expected_after_name(before: &[u8]) -> &'static str
 }
 
 /// Whether the byte is one of these.
-fn contains(bytes: &[u8], byte: u8) -> bool
+pub(crate) fn contains(bytes: &[u8], byte: u8) -> bool
     ensures { result ≡ list_any (λ b. b == byte) bytes.now }
 {
     bytes.iter().any(|other| *other == byte)
@@ -111,7 +111,7 @@ fn last_solid(bytes: &[u8]) -> Option<u8>
 }
 
 /// Whether the byte is a blank.
-fn is_blank(byte: u8) -> bool
+pub(crate) fn is_blank(byte: u8) -> bool
     ensures { result ≡ is_blank byte }
 {
     byte == b' ' || byte == b'\t' || byte == b'\r'
