@@ -39,9 +39,18 @@ def is_refused(rt, kind):
 
 
 def prove_static(rt, crate, flags):
-    """Proves a static library from nothing and builds it, out/libNAME.a, which `rt ci` proves alone. Returns the status."""
+    """Proves a static library from nothing, which is all that `rt ci` does with one, and builds out/libNAME.a of what was proved. The proof's modules are
+    kept in out/checked. Returns the status."""
+    words = crate.words(flags, keeps=False)
+    shutil.rmtree(f"{crate.folder}/out/checked", ignore_errors=True)
+    status = crate.prove(["check", *words, "-o", "out/checked"])
+    if status:
+        return status
+    for flag in ("--logic-built", "--jobs"):
+        at = words.index(flag)
+        words = [*words[:at], *words[at + 2 :]]
     toolchain = ["--toolchain", f"{rt.KIT}/toolchain", "--backend", "llvm"]
-    return crate.prove(["build", *crate.words(flags, keeps=False), *toolchain, "-o", f"out/lib{crate.name}.a"])
+    return crate.call(rt.rtlib.RATTLE, "build", *words, "--crate-checked", "out/checked", *toolchain, "-o", f"out/lib{crate.name}.a")
 
 
 def ci(rt, is_anew, names):

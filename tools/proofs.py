@@ -32,11 +32,13 @@ def take_checked(crate, kept):
     """Makes kept work of a proved library: each of its checked modules as a file, in a folder that is named after the prover. Returns the names
     of the library's functions, of each of which one of these modules links the theorem."""
     functions, link = set(), f"Rattle-{crate.name}-proofs.TheLinks."
-    with open(f"{crate.rlib}/format", encoding="utf-8") as file:
+    # (a static library has no rlib, but any below it was made by the same prover)
+    proved, built = (f"{crate.folder}/out/checked", crate.below()[0].rlib) if crate.is_static else (crate.rlib, crate.rlib)
+    with open(f"{built}/format", encoding="utf-8") as file:
         build = dict(it.rstrip("\n").partition(" ")[::2] for it in file)["rattle-build"]
     folder = f"{kept}/{build.replace('/', '_')}"
     os.makedirs(folder)
-    with open(f"{crate.rlib}/toolchain/checked.a", "rb") as archive, open(f"{crate.rlib}/toolchain/checked.json", encoding="utf-8") as names:
+    with open(f"{proved}/toolchain/checked.a", "rb") as archive, open(f"{proved}/toolchain/checked.json", encoding="utf-8") as names:
         for name, start, size in map(json.loads, names):
             # (some names have a folder of their own)
             os.makedirs(os.path.dirname(f"{folder}/{name}"), exist_ok=True)
@@ -107,6 +109,9 @@ class Gate:
 
         def prepare():
             shutil.rmtree(kept_work, ignore_errors=True)
+            # (of a static library that an earlier run proved nothing is here but its proof's sum: it is proved once more)
+            if crate.is_static and not os.path.isdir(f"{crate.folder}/out/checked"):
+                return trial.proof()
             return take_checked(crate, kept_work)
 
         def end(given, jobs):
@@ -114,9 +119,9 @@ class Gate:
                 return last(given, jobs)
             finally:
                 shutil.rmtree(kept_work, ignore_errors=True)
+                shutil.rmtree(f"{crate.folder}/out/checked", ignore_errors=True)
 
-        # (of a static library nothing is built that has its proofs in it: they are made once more)
-        prepared = prepare if crate.makes_rlib() else None
+        prepared = prepare if crate.makes_rlib() or crate.is_static else None
         trial = edits.Trial(self.rt, crate, kept_work, f"{crate.folder}/out/edits", results=results, prepare=prepared, last=self.last)
         tasks.update(trial.tasks(waits, measured.seconds_of(crate, "edits"), is_well, end))
         return trial
