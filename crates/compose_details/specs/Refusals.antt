@@ -47,11 +47,12 @@ is_unnamed given = is_empty given.headers.now
 abbrev pub argument_line : List (List ℕ) → ℕ → List ℕ
 argument_line arguments index = option_map_or (λ argument. remark (quoting (codes "no keysym has the name ") argument)) (slice_get arguments index) []
 
-abbrev pub key_hint : Given → ℕ → Option Hint
-key_hint given index = option_map (name_hint (not (is_unnamed given))) (slice_get (map (λ a. a.now) given.arguments.now) index)
+-- against the argument with this index; `are_given` says whether files of names are
+abbrev pub key_hint : Bool → List (List ℕ) → ℕ → Option Hint
+key_hint are_given arguments index = option_map (name_hint are_given) (slice_get arguments index)
 
 abbrev pub key_lines : Given → ℕ → List ℕ
-key_lines given index = argument_line (map (λ a. a.now) given.arguments.now) index ++ hint_line (key_hint given index)
+key_lines given index = argument_line (map (λ a. a.now) given.arguments.now) index ++ hint_line (key_hint (not (is_unnamed given)) (map (λ a. a.now) given.arguments.now) index)
 
 -- ---- tables
 

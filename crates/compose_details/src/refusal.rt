@@ -125,7 +125,8 @@ fn push_key(text: &mut String, given: &Given<'_>, index: usize) -> Result<(), Al
         (string_bytes text.new ≡ string_bytes text.old ++ words.key_lines given.now index) }
 {
     push_argument(text, given.arguments, index)?;
-    push_hint(text, key_hint(given, index))
+    let are_given = !given.headers.is_empty();
+    push_hint(text, key_hint(given.arguments, are_given, index))
 }
 
 /// Adds the argument with this index, if there is one.
@@ -142,11 +143,10 @@ fn push_argument(text: &mut String, arguments: &[&str], index: usize) -> Result<
 }
 
 /// The hint against an argument that names no keysym.
-fn key_hint(given: &Given<'_>, index: usize) -> Option<Hint>
-    ensures { result ≡ words.key_hint given.now index }
+fn key_hint(arguments: &[&str], are_given: bool, index: usize) -> Option<Hint>
+    ensures { result ≡ words.key_hint are_given (map (λ a. a.now) arguments.now) index }
 {
-    let are_given = !given.headers.is_empty();
-    match given.arguments.get(index) {
+    match arguments.get(index) {
         Some(argument) => Some(name_hint(argument, are_given)),
         None => None,
     }
