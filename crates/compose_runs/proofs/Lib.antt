@@ -1,5 +1,7 @@
+pub mod Characters
 pub mod Failing
 pub mod Given
 pub mod Lent
 pub mod Slashes
 pub mod Variables
+pub mod WrittenKeys

@@ -1,5 +1,5 @@
 //! What a command on one Compose file reads.
-ghost use Rattle.std.specs.Prelude.{◌≡◌, ◌++◌, Ok, map, option_copied, IfOk, string_bytes};
+ghost use Rattle.std.specs.Prelude.{◌≡◌, ◌||◌, ◌++◌, Ok, map, option_copied, IfOk, string_bytes};
 ghost use Rattle.compose_runs.specs.Environment as said;
 ghost use Rattle.compose_runs.specs.Environment.{GivesPlaces};
 ghost use Rattle.compose_runs.specs.OneTable as words;
@@ -84,13 +84,20 @@ impl<'n> TableRead<'n> {
 }
 
 /// Whether there is no answer.
-fn is_refused(answered: &Result<Answer, Refusal>) -> bool
+pub(crate) fn is_refused(answered: &Result<Answer, Refusal>) -> bool
     ensures { result ≡ words.is_refused answered.now }
 {
     match answered {
         Ok(_) => false,
         Err(_) => true,
     }
+}
+
+/// Whether more is printed than the answer or the line of a refusal: where it is asked for, and of a refusal always.
+pub(crate) fn wants_details(verbose: bool, answered: &Result<Answer, Refusal>) -> bool
+    ensures { result ≡ verbose || words.is_refused answered.now }
+{
+    verbose || is_refused(answered)
 }
 
 /// A text, and another one after it.
