@@ -1,5 +1,5 @@
 -- Keys as the words of the command line write them where Compose files are given: by their names, or as their characters (this project's profile).
-use Rattle.std.specs.Prelude.{◌≡◌, ◌⊎◌, ℕ, List, [], ◌∷◌, Option, Some, None, Result, Ok, Err, encode_utf8}
+use Rattle.std.specs.Prelude.{◌≡◌, ℕ, List, [], ◌∷◌, Option, Some, None, Result, Ok, Err, encode_utf8}
 use Rattle.keysym_core.specs.Names.{KeysymNames, value}
 use Rattle.keysym_core.specs.Next.{IsNextOf}
 use Rattle.keysym_core.specs.Printed.{printed}

@@ -1,10 +1,9 @@
-use Rattle.std.proofs.Common.{ℕ, List, Bor, map, string_bytes, subst, sym, ap, [], ◌≡◌, ◌∙◌}
+use Rattle.std.proofs.Common.{map, string_bytes, subst, sym, ap, [], ◌≡◌, ◌∙◌}
 use Rattle.keysym_core.specs.Header.{names_of}
 use Rattle.compose_migration.specs.MigrationGives.{table_given}
 use Rattle.compose_answer.specs.Parts.{type_parts}
 use Rattle.compose_answer.specs.Refused.{Gives}
 use Rattle.compose_tool.specs.Answers.{IsTyped}
-use Rattle.compose_input.specs.Tables.{sources_of}
 use Rattle.compose_report.proofs.Results.{ok_map}
 use Rattle.compose_runs.specs.OneTable.{IsTableOutcome}
 use Rattle.compose_runs.specs.Typing.{IsTypeFileOutcome}
