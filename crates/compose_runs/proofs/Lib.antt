@@ -1,4 +1,5 @@
 pub mod Characters
+pub mod Chosen
 pub mod Failing
 pub mod Given
 pub mod Lent

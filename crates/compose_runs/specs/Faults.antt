@@ -5,6 +5,7 @@ use Rattle.std.proofs.Common.{Bor}
 use Rattle.compose_folder.specs.Content.{Entry, File, IsHeld}
 use Rattle.compose_arguments.specs.declared.diff_arguments.DiffArguments.{DiffArguments}
 use Rattle.compose_arguments.specs.declared.given_tables.FilePair.{FilePair}
+use Rattle.compose_arguments.specs.declared.table_arguments.TableArguments.{TableArguments}
 use Rattle.compose_input.specs.Faults.{FailNames, FailsListed, FailsFound}
 use Rattle.compose_input.specs.Names.{AreNames}
 use Rattle.compose_input.specs.Tables.{IsListed}
@@ -18,6 +19,7 @@ use Rattle.compose_runs.specs.DiffFiles.{AreFoundFiles, IsFoundTable, names_or_b
 use Rattle.compose_runs.specs.Differing.{is_colored}
 use Rattle.compose_runs.specs.Environment.{IsPlaced, GivesColor, places_of}
 use Rattle.compose_runs.specs.Files.{AreMigrationFiles}
+use Rattle.compose_runs.specs.OneTable.{table_places}
 use Rattle.compose_runs.specs.declared.checking.CheckPaths.{CheckPaths}
 use Rattle.compose_runs.specs.declared.checking.CheckTexts.{CheckTexts}
 use Rattle.compose_runs.specs.declared.environment.Environment.{Environment}
@@ -74,6 +76,21 @@ FailsCheck folder names paths fault =
 abbrev pub FailsTable : Option (List Entry) → Environment → PlaceArguments → List ℕ → Fault → Type 0
 FailsTable folder environment arguments path fault =
     ((places_of environment ≡ Err tt) × (fault ≡ Word)) ⊎ ((places : Places) × IsPlaced environment arguments places × FailsFound folder places path fault)
+
+-- of a Compose file that is given: the environment, the names, the table
+abbrev pub FailsFile : Option (List Entry) → Environment → List (List ℕ) → PlaceArguments → List ℕ → Fault → Type 0
+FailsFile folder environment names arguments path fault =
+    OrMemory (λ f. ((places_of environment ≡ Err tt) × (f ≡ Word))
+    ⊎ ((places : Places) × IsPlaced environment arguments places
+    × (FailNames folder (names_or_builtin names) f ⊎ (HasNames folder (names_or_builtin names) × FailsFound folder places path f)))) fault
+
+-- of a path that is given; of the user's own file nothing is said
+abbrev pub WhereGiven : Option (List ℕ) → (List ℕ → Type 0) → Type 0
+WhereGiven None P = Unit {0}
+WhereGiven (Some path) P = P path
+
+abbrev pub FailsTableRead : Option (List Entry) → Environment → List (List ℕ) → TableArguments → Fault → Type 0
+FailsTableRead folder environment names arguments fault = WhereGiven (option_copied arguments.file) (λ path. FailsFile folder environment names (table_places arguments) path fault)
 
 -- of two Compose files: the names, the old table, the new one
 abbrev pub FailsPair : Option (List Entry) → Environment → List (List ℕ) → FilePair → Fault → Type 0

@@ -1,6 +1,6 @@
 //! `type`: what happens at keys.
 ghost use Rattle.std.specs.Prelude.{◌≡◌, map, IfOk, IfErr};
-ghost use Rattle.compose_runs.specs.Faults.{FailsType};
+ghost use Rattle.compose_runs.specs.Faults.{FailsTableRead, FailsType};
 ghost use Rattle.compose_runs.specs.Typing.{IsTypeFileOutcome, IsTypeFileRun, IsTypeRun, IsTypeOutcome};
 
 use crate::environment::Environment;
@@ -70,6 +70,9 @@ pub fn run_type_file<T: ComposeTable, F: Folder>(
     ensures outcome { IfOk result
         (λ outcome. IsTypeFileRun files.old.holds environment.now (map (λ name. name.now) names.now)
         arguments.now (map (λ word. word.now) words.now) outcome) }
+    ensures fault { IfErr result
+        (λ fault. FailsTableRead files.old.holds environment.now (map (λ name. name.now) names.now)
+        arguments.now fault) }
 {
     let read = TableRead::read(alloc, files, environment, names, arguments)?;
     Ok(type_file_outcome::<T>(alloc, read, words)?)
