@@ -1,9 +1,9 @@
 #!/usr/bin/env python3
-"""how.py PROGRAM [COUNT]: what `how` and `list` print of random tables, against a second reading of which definitions count.
+"""how.py PROGRAM [COUNT]: what `how`, `list` and `type --files` print of random tables, against a second reading of which definitions count.
 
 A table is a file of some lines with few keysyms, some of them written in several ways, and an include of another such file; sequences
 come again, and some go on after others. Which definitions count is worked out here from the lines as a list. What `list` prints is
-read again by `list` and by `diff`, to which it is the same table. So are the sequences that begin with some keys or give a text, in each order,
+read again by `list`, and by `diff` and `explain --files`, to which it is the same table. A sequence that counts is typed. So are the sequences that begin with some keys or give a text, in each order,
 the keys that can follow, what the keys of a repertoire can type, and all of it as JSON. COUNT tables are tried, 200 if none is given. The last line is
 `N passed, M failed`."""
 import json
@@ -138,6 +138,16 @@ def types_right(program, folder, table, texts, chance):
     return (printed[0], objects_in(printed[1])) == (status, [table.objects[it] for text in texts for it in table.found(text, keys)])
 
 
+def typed_right(program, folder, table, chance):
+    """Whether `type --files` prints what it is to print of the keys of a sequence that counts, if there is one."""
+    if not table.counts:
+        return True
+    keysyms = chance.choice(sorted(table.counts))
+    keys = [chance.choice(WRITTEN[it]) for it in keysyms]
+    lines = ['composing ""'] * (len(keys) - 1) + [f"composed {quoted(table.counts[keysyms][0])}"]
+    return run(program, folder, "type", "--files", "own", *keys) == (0, lines)
+
+
 def without_places(lines):
     return [line.split("  # ")[0] for line in lines]
 
@@ -157,8 +167,12 @@ def is_right(program, table, chance):
             return False
         if not lists_right(program, folder, table, chance) or not types_right(program, folder, table, texts, chance):
             return False
+        if not typed_right(program, folder, table, chance):
+            return False
         with open(os.path.join(folder, "again"), "w", encoding="utf-8") as file:
             file.write("".join(line + "\n" for line in table.listed()))
+        if run(program, folder, "explain", "--files", "own", "again") != (0, ["follows"]):
+            return False
         again = run(program, folder, "list", "--overlap", "refuse", "again")
         return (again[0], without_places(again[1])) == (0, without_places(table.listed())) and run(program, folder, "diff", "--overlap", "longest", "own", "again")[0] == 0
 

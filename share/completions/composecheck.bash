@@ -19,10 +19,10 @@ _composecheck() {
         --mode) COMPREPLY=($(compgen -W "600 660 666" -- "$word")); return ;;
     esac
     case ${COMP_WORDS[1]} in
-        type) options="--names --verbose --help" ;;
-        check) options="--names --fresh --verbose --help" ;;
-        explain) options="--names --fresh --all --verbose --help" ;;
-        make) options="--names --fresh --all --output --verbose --help" ;;
+        type) options="--files --names --overlap --system --locale --root --verbose --help" ;;
+        check) options="--files --names --fresh --overlap --system --locale --root --verbose --help" ;;
+        explain) options="--files --names --fresh --all --overlap --system --locale --root --verbose --help" ;;
+        make) options="--files --names --fresh --all --output --overlap --system --locale --root --verbose --help" ;;
         diff) options="--verbose --names --fresh --overlap --accept --write-accept --no-fold --lost --format --color --system --locale --root --help" ;;
         how) options="--names --from --repertoire --first --format --overlap --system --locale --root --help" ;;
         list) options="--names --prefix --text --next --sort --format --overlap --system --locale --root --help" ;;

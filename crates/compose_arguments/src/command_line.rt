@@ -27,6 +27,7 @@ fn program<'a>(alloc: Global) -> Command<'a> {
 /// A command with its options and arguments.
 fn command_of<'a>(alloc: Global, row: &CommandRow) -> Result<Command<'a>, AllocError> {
     let mut arguments = options_of(alloc, row.options)?;
+    add_options_of_files(alloc, row.options_of_files, &mut arguments)?;
     add_arguments(alloc, row.arguments, &mut arguments)?;
     Command::new(alloc, row.name)
         .about(row.about)
@@ -41,6 +42,18 @@ fn options_of<'a>(alloc: Global, rows: &[OptionRow]) -> Result<Vec<Arg<'a>>, All
         options.push(option_of(alloc, row)?)?;
     }
     Ok(options)
+}
+
+/// Adds the options of a command that may be there with `--files` alone.
+fn add_options_of_files<'a>(
+    alloc: Global,
+    rows: &[OptionRow],
+    arguments: &mut Vec<Arg<'a>>,
+) -> Result<(), AllocError> {
+    for row in rows {
+        arguments.push(option_of(alloc, row)?.requires_arg("files")?)?;
+    }
+    Ok(())
 }
 
 /// Adds the arguments of a command that go by their places.

@@ -103,22 +103,52 @@ const ROOT: OptionRow = OptionRow {
     help: "Look for an include's absolute path below DIR first, as in an unpacked package",
 };
 
+/// The same where two tables may be looked for below different folders.
+const ROOTS: OptionRow = OptionRow {
+    name: "root",
+    letter: None,
+    takes: Takes::Values("DIR"),
+    help: "Look for an include's absolute path below DIR first, as in an unpacked package; given twice, the first is OLD's and the last NEW's",
+};
+
+/// Compose files in the place of manifests.
+const FILES: OptionRow = OptionRow {
+    name: "files",
+    letter: Some('f'),
+    takes: Takes::Nothing,
+    help: "Take Compose files as they lie on the system in the place of manifests, includes followed",
+};
+
 /// The table that is used.
 const TABLE: ArgumentRow = ArgumentRow {
     name: "TABLE",
     given: Given::Text,
-    help: "The manifest of the table",
+    help: "The manifest of the table, or with --files its Compose file",
 };
 
 /// The old table.
 const OLD: ArgumentRow = ArgumentRow {
     name: "OLD",
     given: Given::Text,
-    help: "The manifest of the old table",
+    help: "The manifest of the old table, or with --files its Compose file",
 };
 
 /// The new table.
 const NEW: ArgumentRow = ArgumentRow {
+    name: "NEW",
+    given: Given::Text,
+    help: "The manifest of the new table, or with --files its Compose file",
+};
+
+/// The manifest of a table that is used.
+const TABLE_MANIFEST: ArgumentRow = ArgumentRow {
+    name: "TABLE",
+    given: Given::Text,
+    help: "The manifest of the table",
+};
+
+/// The manifest of a new table.
+const NEW_MANIFEST: ArgumentRow = ArgumentRow {
     name: "NEW",
     given: Given::Text,
     help: "The manifest of the new table",
@@ -149,8 +179,9 @@ const SOCKET: ArgumentRow = ArgumentRow {
 static TYPE: CommandRow = CommandRow {
     name: "type",
     about: "Type keys with a table, and print what happens at each",
-    after_help: "Exit status: 0 typed, 2 input refused, 3 out of memory\nExample: composecheck type table.manifest Multi_key apostrophe e",
-    options: &[VERBOSE, NAMES],
+    after_help: "With --files, names are those of keysymdef.h, unless --names gives others, and a key may be written as its character.\nExit status: 0 typed, 2 input refused, 3 out of memory\nExample: composecheck type -f ~/.XCompose Multi_key \"'\" e",
+    options: &[VERBOSE, NAMES, FILES],
+    options_of_files: &[OVERLAP, SYSTEM, LOCALE, ROOT],
     arguments: &[
         TABLE,
         ArgumentRow {
@@ -165,8 +196,9 @@ static TYPE: CommandRow = CommandRow {
 static CHECK: CommandRow = CommandRow {
     name: "check",
     about: "Check by a certificate that a new table changes nobody's typing",
-    after_help: "With --fresh, a certificate whose fresh keysyms are not all among KEYS is answered no.\nExit status: 0 yes, 1 no, 2 input refused, 3 out of memory\nExample: composecheck check old.manifest new.manifest repertoire certificate",
-    options: &[VERBOSE, NAMES, FRESH],
+    after_help: "With --fresh, a certificate whose fresh keysyms are not all among KEYS is answered no. With --files, names are those of keysymdef.h, unless --names gives others.\nExit status: 0 yes, 1 no, 2 input refused, 3 out of memory\nExample: composecheck check old.manifest new.manifest repertoire certificate",
+    options: &[VERBOSE, NAMES, FILES, FRESH],
+    options_of_files: &[OVERLAP, SYSTEM, LOCALE, ROOTS],
     arguments: &[OLD, NEW, REPERTOIRE, CERTIFICATE],
 };
 
@@ -235,13 +267,9 @@ static DIFF: CommandRow = CommandRow {
         },
         SYSTEM,
         LOCALE,
-        OptionRow {
-            name: "root",
-            letter: None,
-            takes: Takes::Values("DIR"),
-            help: "Look for an include's absolute path below DIR first, as in an unpacked package; given twice, the first is OLD's and the last NEW's",
-        },
+        ROOTS,
     ],
+    options_of_files: &[],
     arguments: &[
         ArgumentRow {
             name: "OLD",
@@ -311,6 +339,7 @@ static HOW: CommandRow = CommandRow {
         LOCALE,
         ROOT,
     ],
+    options_of_files: &[],
     arguments: &[ArgumentRow {
         name: "TEXT",
         given: Given::Some,
@@ -359,6 +388,7 @@ static LIST: CommandRow = CommandRow {
         LOCALE,
         ROOT,
     ],
+    options_of_files: &[],
     arguments: &[ArgumentRow {
         name: "FILE",
         given: Given::Maybe,
@@ -370,10 +400,11 @@ static LIST: CommandRow = CommandRow {
 static EXPLAIN: CommandRow = CommandRow {
     name: "explain",
     about: "Print the shortest keys on which two tables differ",
-    after_help: "Exit status: 0 no difference, 1 a difference, 2 input refused, 3 out of memory\nExample: composecheck explain --all old.manifest new.manifest",
+    after_help: "With --files, names are those of keysymdef.h, unless --names gives others.\nExit status: 0 no difference, 1 a difference, 2 input refused, 3 out of memory\nExample: composecheck explain -f --all /usr/share/X11/locale/en_US.UTF-8/Compose ~/.XCompose",
     options: &[
         VERBOSE,
         NAMES,
+        FILES,
         FRESH,
         OptionRow {
             name: "all",
@@ -382,6 +413,7 @@ static EXPLAIN: CommandRow = CommandRow {
             help: "Print every shortest difference, and count them",
         },
     ],
+    options_of_files: &[OVERLAP, SYSTEM, LOCALE, ROOTS],
     arguments: &[OLD, NEW],
 };
 
@@ -411,6 +443,7 @@ static LINT: CommandRow = CommandRow {
             help: "Print the lines too that say again what an included file says",
         },
     ],
+    options_of_files: &[],
     arguments: &[ArgumentRow {
         name: "FILE",
         given: Given::Some,
@@ -422,10 +455,11 @@ static LINT: CommandRow = CommandRow {
 static MAKE: CommandRow = CommandRow {
     name: "make",
     about: "Make a certificate, or print why there is none",
-    after_help: "Exit status: 0 made, 1 none, 2 input refused, 3 out of memory\nExample: composecheck make -o certificate old.manifest new.manifest repertoire",
+    after_help: "With --files, names are those of keysymdef.h, unless --names gives others.\nExit status: 0 made, 1 none, 2 input refused, 3 out of memory\nExample: composecheck make -o certificate old.manifest new.manifest repertoire",
     options: &[
         VERBOSE,
         NAMES,
+        FILES,
         FRESH,
         OptionRow {
             name: "all",
@@ -440,6 +474,7 @@ static MAKE: CommandRow = CommandRow {
             help: "Write the certificate to FILE, whole or not at all",
         },
     ],
+    options_of_files: &[OVERLAP, SYSTEM, LOCALE, ROOTS],
     arguments: &[OLD, NEW, REPERTOIRE],
 };
 
@@ -449,6 +484,7 @@ static MANIFEST: CommandRow = CommandRow {
     about: "Print the manifest of a Compose file as it lies on the system, includes followed",
     after_help: "Exit status: 0 printed, 2 input refused, 3 out of memory\nExample: composecheck manifest --locale en_US.UTF-8 ~/.XCompose > table.manifest",
     options: &[VERBOSE, SYSTEM, LOCALE, ROOT],
+    options_of_files: &[],
     arguments: &[ArgumentRow {
         name: "FILE",
         given: Given::Maybe,
@@ -485,6 +521,7 @@ static UPDATE: CommandRow = CommandRow {
         SYSTEM,
         LOCALE,
     ],
+    options_of_files: &[],
     arguments: &[ArgumentRow {
         name: "FILE",
         given: Given::Text,
@@ -565,8 +602,9 @@ static SERVE: CommandRow = CommandRow {
             help: "Serve the table that update keeps in DIR, without end: the path of the socket is all that follows",
         },
     ],
+    options_of_files: &[],
     arguments: &[
-        TABLE,
+        TABLE_MANIFEST,
         ArgumentRow {
             name: "REPERTOIRE",
             given: Given::TextUnless("state"),
@@ -596,7 +634,8 @@ static LOAD: CommandRow = CommandRow {
     about: "Load a new table into a running service, by a certificate that it follows the table in use",
     after_help: "Exit status: 0 loaded, 1 refused by the service, 2 input refused, 3 out of memory\nExample: composecheck load compose.socket new.manifest certificate",
     options: &[VERBOSE],
-    arguments: &[SOCKET, NEW, CERTIFICATE],
+    options_of_files: &[],
+    arguments: &[SOCKET, NEW_MANIFEST, CERTIFICATE],
 };
 
 /// The command that types in a session.
@@ -632,6 +671,7 @@ static SESSION: CommandRow = CommandRow {
             help: "Close the session at the end",
         },
     ],
+    options_of_files: &[],
     arguments: &[
         SOCKET,
         ArgumentRow {

@@ -1,15 +1,12 @@
 //! What `diff` asks for.
+use crate::given_tables::{FilePair, file_pair};
 use clap::ArgMatches;
 
 /// The arguments of `diff`, but for the names and the fresh keysyms.
 #[derive(Clone, Copy)]
 pub struct DiffArguments<'a> {
-    /// The path of the old Compose file.
-    pub old: &'a str,
-    /// The path of the new one.
-    pub new: &'a str,
-    /// Whether the longest of overlapping sequences is taken; else they are refused.
-    pub longest: bool,
+    /// The old and the new Compose file.
+    pub files: FilePair<'a>,
     /// The path of the list of changes that are meant.
     pub accept: Option<&'a str>,
     /// Whether only changes are printed whose old text no sequence of the new table gives.
@@ -18,14 +15,6 @@ pub struct DiffArguments<'a> {
     pub form: DiffForm,
     /// When they are told in colours.
     pub color: DiffColor,
-    /// The folder of the system's tables.
-    pub system: Option<&'a str>,
-    /// The name of a locale.
-    pub locale: Option<&'a str>,
-    /// The folder below which an absolute path of an include is looked for first, where a file of the old table includes it.
-    pub old_root: Option<&'a str>,
-    /// The same for the new table.
-    pub new_root: Option<&'a str>,
 }
 
 /// How `diff` tells changes.
@@ -52,25 +41,13 @@ pub enum DiffColor {
 
 /// The arguments of `diff`, if they are all there.
 pub fn diff_arguments<'a>(given: &ArgMatches<'a>) -> Option<DiffArguments<'a>> {
-    let (old_root, new_root) = roots_of(given.get_strs("root").unwrap_or(&[]));
     Some(DiffArguments {
-        old: given.get_str("OLD")?,
-        new: given.get_str("NEW")?,
-        longest: given.get_str("overlap") == Some("longest"),
+        files: file_pair(given)?,
         accept: given.get_str("accept"),
         lost: given.get_flag("lost"),
         form: form_of(given),
         color: color_of(given),
-        system: given.get_str("system"),
-        locale: given.get_str("locale"),
-        old_root,
-        new_root,
     })
-}
-
-/// The roots of the old and the new table: the first and the last that is given.
-fn roots_of<'a>(roots: &[&'a str]) -> (Option<&'a str>, Option<&'a str>) {
-    (roots.first().copied(), roots.last().copied())
 }
 
 /// How the changes are to be told.

@@ -4,7 +4,7 @@
 //!
 //! ```text
 //! read_command_line(alloc, &arguments)?.request    // type table.manifest a b
-//! Request::Type { table: "table.manifest", keys: ["a", "b"] }
+//! Request::Type { table: TypeTable::Manifest("table.manifest"), keys: ["a", "b"] }
 //! ```
 #![tactic(auto)]
 
@@ -12,6 +12,7 @@ mod client_arguments;
 mod command_line;
 mod commands;
 mod diff_arguments;
+mod given_tables;
 mod how_arguments;
 mod lint_arguments;
 mod list_arguments;
@@ -24,11 +25,12 @@ mod update_arguments;
 
 pub use client_arguments::{LoadArguments, SessionArguments};
 pub use diff_arguments::{DiffArguments, DiffColor, DiffForm};
+pub use given_tables::{BothTables, FilePair, TablePaths, TypeTable};
 pub use how_arguments::HowArguments;
 pub use lint_arguments::LintArguments;
 pub use list_arguments::{ListArguments, ListSort};
 pub use manifest_arguments::ManifestArguments;
-pub use request::{CommandLine, Request, TablePaths, read_command_line};
+pub use request::{CommandLine, Request, read_command_line};
 pub use serve_arguments::{ServeArguments, Served};
 pub use table_arguments::TableArguments;
 pub use update_arguments::UpdateArguments;

@@ -6,6 +6,7 @@ ghost use Rattle.compose_arguments.specs.Commas.{names_between};
 use crate::client_arguments::{LoadArguments, SessionArguments, load_arguments, session_arguments};
 use crate::command_line::command_line;
 use crate::diff_arguments::{DiffArguments, diff_arguments};
+use crate::given_tables::{BothTables, TypeTable, both_tables, type_table};
 use crate::how_arguments::{HowArguments, how_arguments};
 use crate::lint_arguments::{LintArguments, lint_arguments};
 use crate::list_arguments::{ListArguments, list_arguments};
@@ -21,14 +22,13 @@ use std::alloc::{AllocError, Global};
 pub enum Request<'a> {
     /// Type keys with a table.
     Type {
-        /// The path of the table's manifest.
-        table: &'a str,
+        table: TypeTable<'a>,
         /// The names of the keysyms, at least one.
         keys: Vec<&'a str>,
     },
     /// Check a certificate.
     Check {
-        tables: TablePaths<'a>,
+        tables: BothTables<'a>,
         /// The names of `--fresh` between commas, where it is given.
         fresh: Option<Vec<&'a str>>,
         repertoire: &'a str,
@@ -36,7 +36,7 @@ pub enum Request<'a> {
     },
     /// Explain how two tables differ.
     Explain {
-        tables: TablePaths<'a>,
+        tables: BothTables<'a>,
         /// The names of `--fresh` between commas.
         fresh: Vec<&'a str>,
         /// Whether all differences are asked for.
@@ -60,7 +60,7 @@ pub enum Request<'a> {
     Lint(LintArguments<'a>),
     /// Make a certificate.
     Make {
-        tables: TablePaths<'a>,
+        tables: BothTables<'a>,
         /// The names of `--fresh` between commas.
         fresh: Vec<&'a str>,
         /// Whether all characters that can't be typed are asked for.
@@ -87,15 +87,6 @@ pub enum Request<'a> {
     Load(LoadArguments<'a>),
     /// Type in a session of a running service.
     Session(SessionArguments<'a>),
-}
-
-/// The paths of what an old and a new table are read from.
-#[derive(Clone, Copy)]
-pub struct TablePaths<'a> {
-    /// The path of the old table's manifest.
-    pub old: &'a str,
-    /// The path of the new table's manifest.
-    pub new: &'a str,
 }
 
 /// What the arguments of the command line say.
@@ -222,7 +213,7 @@ fn type_request<'a>(
     alloc: Global,
     given: &ArgMatches<'a>,
 ) -> Result<Option<Request<'a>>, AllocError> {
-    let (Some(table), Some(keys)) = (given.get_str("TABLE"), given.get_strs("KEY")) else {
+    let (Some(table), Some(keys)) = (type_table(given), given.get_strs("KEY")) else {
         return Ok(None);
     };
     Ok(Some(Request::Type {
@@ -248,9 +239,9 @@ fn check_request<'a>(
 }
 
 /// The paths of `check`.
-fn check_paths<'a>(given: &ArgMatches<'a>) -> Option<(TablePaths<'a>, &'a str, &'a str)> {
+fn check_paths<'a>(given: &ArgMatches<'a>) -> Option<(BothTables<'a>, &'a str, &'a str)> {
     Some((
-        table_paths(given)?,
+        both_tables(given)?,
         given.get_str("REPERTOIRE")?,
         given.get_str("CERTIFICATE")?,
     ))
@@ -261,7 +252,7 @@ fn explain_request<'a>(
     alloc: Global,
     given: &ArgMatches<'a>,
 ) -> Result<Option<Request<'a>>, AllocError> {
-    let Some(tables) = table_paths(given) else {
+    let Some(tables) = both_tables(given) else {
         return Ok(None);
     };
     Ok(Some(Request::Explain {
@@ -318,7 +309,7 @@ fn make_request<'a>(
     alloc: Global,
     given: &ArgMatches<'a>,
 ) -> Result<Option<Request<'a>>, AllocError> {
-    let (Some(tables), Some(repertoire)) = (table_paths(given), given.get_str("REPERTOIRE")) else {
+    let (Some(tables), Some(repertoire)) = (both_tables(given), given.get_str("REPERTOIRE")) else {
         return Ok(None);
     };
     Ok(Some(Request::Make {
@@ -328,14 +319,6 @@ fn make_request<'a>(
         repertoire,
         output: given.get_str("output"),
     }))
-}
-
-/// The paths of an old and a new table.
-fn table_paths<'a>(given: &ArgMatches<'a>) -> Option<TablePaths<'a>> {
-    Some(TablePaths {
-        old: given.get_str("OLD")?,
-        new: given.get_str("NEW")?,
-    })
 }
 
 /// The names of `--fresh` between commas, where it is given.

@@ -10,6 +10,8 @@ pub struct CommandRow {
     pub after_help: &'static str,
     /// Its options, in the order of its help.
     pub options: &'static [OptionRow],
+    /// Its options that may be there with `--files` alone, which come after them.
+    pub options_of_files: &'static [OptionRow],
     /// What it takes beside options, in order.
     pub arguments: &'static [ArgumentRow],
 }

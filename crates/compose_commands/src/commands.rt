@@ -7,15 +7,16 @@ use crate::serving::serve_files;
 use crate::updating::update_files;
 use compose_answer::Ended;
 use compose_arguments::{
-    CommandLine, DiffArguments, HowArguments, LintArguments, ListArguments, ManifestArguments,
-    Request,
+    BothTables, CommandLine, DiffArguments, HowArguments, LintArguments, ListArguments,
+    ManifestArguments, Request, TypeTable,
 };
 use compose_folder::{Folder, ReadOnce};
 use compose_input::Fault;
 use compose_report::Outcome;
 use compose_runs::{
-    CheckPaths, MakeOptions, Options, run_check, run_diff, run_explain, run_how, run_lint,
-    run_list, run_make, run_manifest, run_type,
+    CheckPaths, CheckTexts, MakeOptions, Options, run_check, run_check_files, run_diff,
+    run_explain, run_explain_files, run_how, run_lint, run_list, run_make, run_make_files,
+    run_manifest, run_type, run_type_file,
 };
 use compose_tree::ComposeTable;
 use std::fs::File;
@@ -40,7 +41,7 @@ pub fn answer<T: ComposeTable, F: Folder>(
             put(
                 rt,
                 verbose,
-                run_type::<T, F>(rt.alloc(), files, options, *table, keys),
+                type_keys::<T, F>(rt, files, is_terminal, options, table, keys),
             )
         }
         Request::Check {
@@ -49,8 +50,7 @@ pub fn answer<T: ComposeTable, F: Folder>(
             repertoire,
             certificate,
         } => {
-            let paths = CheckPaths {
-                tables: *tables,
+            let texts = CheckTexts {
                 repertoire: *repertoire,
                 certificate: *certificate,
             };
@@ -58,14 +58,14 @@ pub fn answer<T: ComposeTable, F: Folder>(
             put(
                 rt,
                 verbose,
-                run_check::<T, F>(rt.alloc(), files, options, &paths, allowed),
+                check::<T, F>(rt, files, is_terminal, options, tables, texts, allowed),
             )
         }
         Request::Explain { tables, fresh, all } => {
             put(
                 rt,
                 verbose,
-                run_explain::<T, F>(rt.alloc(), files, options, tables, fresh, *all),
+                explain::<T, F>(rt, files, is_terminal, options, tables, fresh, *all),
             )
         }
         Request::Diff { arguments, fresh } => {
@@ -112,7 +112,7 @@ pub fn answer<T: ComposeTable, F: Folder>(
             put(
                 rt,
                 verbose,
-                run_make::<T, F>(rt.alloc(), files, options, tables, making),
+                make::<T, F>(rt, files, is_terminal, options, tables, making),
             )
         }
         Request::Manifest(arguments) => {
@@ -132,6 +132,99 @@ pub fn answer<T: ComposeTable, F: Folder>(
                 verbose,
                 session_files::<T, F>(rt, files, options, arguments),
             )
+        }
+    }
+}
+
+/// The outcome of `type`; in the environment where a Compose file is given.
+fn type_keys<T: ComposeTable, F: Folder>(
+    rt: &(impl Env + AllocGlobal),
+    files: &mut ReadOnce<F>,
+    is_terminal: bool,
+    options: Options<'_>,
+    table: &TypeTable<'_>,
+    keys: &[&str],
+) -> Result<Outcome, Fault> {
+    match table {
+        TypeTable::Manifest(path) => run_type::<T, F>(rt.alloc(), files, options, *path, keys),
+        TypeTable::File(table) => {
+            let environment = read_environment(rt, is_terminal)?;
+            run_type_file::<T, F>(rt.alloc(), files, &environment, options.names, table, keys)
+        }
+    }
+}
+
+/// The outcome of `check`; in the environment where Compose files are given.
+fn check<T: ComposeTable, F: Folder>(
+    rt: &(impl Env + AllocGlobal),
+    files: &mut ReadOnce<F>,
+    is_terminal: bool,
+    options: Options<'_>,
+    tables: &BothTables<'_>,
+    texts: CheckTexts<'_>,
+    allowed: Option<&[&str]>,
+) -> Result<Outcome, Fault> {
+    match tables {
+        BothTables::Manifests(tables) => {
+            let paths = CheckPaths {
+                tables: *tables,
+                repertoire: texts.repertoire,
+                certificate: texts.certificate,
+            };
+            run_check::<T, F>(rt.alloc(), files, options, &paths, allowed)
+        }
+        BothTables::Files(pair) => {
+            let environment = read_environment(rt, is_terminal)?;
+            run_check_files::<T, F>(
+                rt.alloc(),
+                files,
+                &environment,
+                options,
+                pair,
+                texts,
+                allowed,
+            )
+        }
+    }
+}
+
+/// The outcome of `explain`; in the environment where Compose files are given.
+fn explain<T: ComposeTable, F: Folder>(
+    rt: &(impl Env + AllocGlobal),
+    files: &mut ReadOnce<F>,
+    is_terminal: bool,
+    options: Options<'_>,
+    tables: &BothTables<'_>,
+    fresh: &[&str],
+    all: bool,
+) -> Result<Outcome, Fault> {
+    match tables {
+        BothTables::Manifests(paths) => {
+            run_explain::<T, F>(rt.alloc(), files, options, paths, fresh, all)
+        }
+        BothTables::Files(pair) => {
+            let environment = read_environment(rt, is_terminal)?;
+            run_explain_files::<T, F>(rt.alloc(), files, &environment, options, pair, fresh, all)
+        }
+    }
+}
+
+/// The outcome of `make`; in the environment where Compose files are given.
+fn make<T: ComposeTable, F: Folder>(
+    rt: &(impl Env + AllocGlobal),
+    files: &mut ReadOnce<F>,
+    is_terminal: bool,
+    options: Options<'_>,
+    tables: &BothTables<'_>,
+    making: MakeOptions<'_>,
+) -> Result<Outcome, Fault> {
+    match tables {
+        BothTables::Manifests(paths) => {
+            run_make::<T, F>(rt.alloc(), files, options, paths, making)
+        }
+        BothTables::Files(pair) => {
+            let environment = read_environment(rt, is_terminal)?;
+            run_make_files::<T, F>(rt.alloc(), files, &environment, options, pair, making)
         }
     }
 }

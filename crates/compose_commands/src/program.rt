@@ -5,7 +5,7 @@ ghost use Rattle.std.specs.Process.{exit_status};
 use crate::commands::answer;
 use crate::output::put_fault;
 use compose_answer::Ended;
-use compose_arguments::{CommandLine, Request, read_command_line};
+use compose_arguments::{BothTables, CommandLine, Request, TypeTable, read_command_line};
 use compose_folder::{Disk, ReadOnce};
 use compose_input::Fault;
 use compose_report::{Outcome, arguments_outcome, exit_code, no_memory, print};
@@ -73,12 +73,16 @@ fn answer_command<T: ComposeTable>(
     }
 }
 
-/// Whether the command always says where a fault is.
+/// Whether the command always says where a fault is: where it is given Compose files, and no manifests.
 fn is_always_verbose(asked: &CommandLine<'_>) -> bool {
-    matches!(
-        &asked.request,
-        Request::Diff { .. } | Request::How { .. } | Request::List(_)
-    )
+    match &asked.request {
+        Request::Diff { .. } | Request::How { .. } | Request::List(_) => true,
+        Request::Type { table, .. } => matches!(table, TypeTable::File(_)),
+        Request::Check { tables, .. }
+        | Request::Explain { tables, .. }
+        | Request::Make { tables, .. } => matches!(tables, BothTables::Files(_)),
+        _ => false,
+    }
 }
 
 /// Prints the help that the arguments ask for, or why they are refused.

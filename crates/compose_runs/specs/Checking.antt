@@ -15,9 +15,13 @@ use Rattle.compose_details.specs.Given.{parts_of as listed_parts}
 use Rattle.compose_details.specs.declared.given.Given.{Given}
 use Rattle.compose_report.specs.Outcomes.{IsReported}
 use Rattle.compose_report.specs.declared.outcome.Outcome.{Outcome}
-use Rattle.compose_runs.specs.CheckFiles.{AreCheckFiles, check_given}
+use Rattle.compose_arguments.specs.declared.given_tables.FilePair.{FilePair}
+use Rattle.compose_runs.specs.CheckFiles.{AreCheckFiles, AreFoundCheckFiles, check_given}
+use Rattle.compose_runs.specs.Reports.{IsFilesReport}
+use Rattle.compose_runs.specs.declared.environment.Environment.{Environment}
 use Rattle.compose_runs.specs.declared.checking.CheckFiles.{CheckFiles}
 use Rattle.compose_runs.specs.declared.checking.CheckPaths.{CheckPaths}
+use Rattle.compose_runs.specs.declared.checking.CheckTexts.{CheckTexts}
 use Rattle.compose_runs.specs.declared.options.Options.{Options}
 
 -- the names of the allowed keysyms, where they are given
@@ -29,17 +33,21 @@ abbrev pub AnswersCheck : Option (List (List ℕ)) → Result Answer Refusal →
 AnswersCheck None answered check = Gives IsChecked answered (or_because unread (parts_of (check_given check)))
 AnswersCheck (Some allowed) answered check = Gives IsCheckedFor answered (allowed_parts allowed (check_given check))
 
+-- the paths beside those of the tables
+abbrev pub texts_of : CheckPaths → CheckTexts
+texts_of paths = record { repertoire = paths.repertoire; certificate = paths.certificate }
+
 -- what was given to `check`
-abbrev pub given_parts : CheckFiles → CheckPaths → Option (List (List ℕ)) → GivenParts
-given_parts check paths allowed =
-    record (listed_parts check.both.names (unwrap_or allowed []) (check.both.old ∷ check.both.new ∷ [])) { repertoire = paths.repertoire.now; certificate = paths.certificate.now; certificate_text = check.certificate.items }
+abbrev pub given_parts : CheckFiles → CheckTexts → Option (List (List ℕ)) → GivenParts
+given_parts check texts allowed =
+    record (listed_parts check.both.names (unwrap_or allowed []) (check.both.old ∷ check.both.new ∷ [])) { repertoire = texts.repertoire.now; certificate = texts.certificate.now; certificate_text = check.certificate.items }
 
 -- the answer on these files, reported
 pub record IsCheckOutcome (verbose : Bool) (check : CheckFiles) (paths : CheckPaths) (allowed : Option (List (List ℕ))) (outcome : Outcome) : Type 0 where
   pub answered : Result Answer Refusal
   pub is : AnswersCheck allowed answered check
   pub given : Given
-  pub parts : IsGiven (given_parts check paths allowed) given
+  pub parts : IsGiven (given_parts check (texts_of paths) allowed) given
   pub reported : IsReported verbose given answered outcome
 
 -- the same on the files that the folder has
@@ -47,3 +55,16 @@ pub record IsCheckRun (folder : Option (List Entry)) (options : Options) (paths 
   pub check : CheckFiles
   pub read : AreCheckFiles folder (map (λ name. name.now) options.names.now) paths check
   pub is : IsCheckOutcome options.verbose check paths allowed outcome
+
+-- ---- on Compose files
+
+pub record IsCheckFilesOutcome (verbose : Bool) (check : CheckFiles) (texts : CheckTexts) (allowed : Option (List (List ℕ))) (outcome : Outcome) : Type 0 where
+  pub answered : Result Answer Refusal
+  pub is : AnswersCheck allowed answered check
+  pub reported : IsFilesReport verbose check.both (given_parts check texts allowed) answered outcome
+
+-- the same on the files that the folder has, in this environment
+pub record IsCheckFilesRun (folder : Option (List Entry)) (environment : Environment) (options : Options) (pair : FilePair) (texts : CheckTexts) (allowed : Option (List (List ℕ))) (outcome : Outcome) : Type 0 where
+  pub check : CheckFiles
+  pub read : AreFoundCheckFiles folder environment (map (λ name. name.now) options.names.now) pair texts check
+  pub is : IsCheckFilesOutcome options.verbose check texts allowed outcome

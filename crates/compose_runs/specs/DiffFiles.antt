@@ -1,19 +1,20 @@
--- The files of a comparison of two tables (this project's profile).
+-- The Compose files of an old and a new table, and the files of their comparison (this project's profile).
 use Rattle.std.specs.Prelude.{◌≡◌, ℕ, Bool, true, false, List, [], ◌∷◌, Option, Some, None, option_copied, codes}
 use Rattle.std.proofs.Common.{Bor}
 use Rattle.compose_folder.specs.Content.{Entry, File, IsHeld}
 use Rattle.compose_model.specs.declared.Rule.{Rule}
 use Rattle.compose_model.specs.declared.Rule.TheVariants.{Refuse, Longest}
-use Rattle.compose_migration.specs.Migration.{GivenMigration}
 use Rattle.compose_arguments.specs.declared.diff_arguments.DiffArguments.{DiffArguments}
+use Rattle.compose_arguments.specs.declared.given_tables.FilePair.{FilePair}
 use Rattle.compose_input.specs.Names.{AreNames}
-use Rattle.compose_input.specs.Tables.{IsFoundOnSystem, sources_of}
+use Rattle.compose_input.specs.Tables.{IsFoundOnSystem}
 use Rattle.compose_input.specs.declared.places.Places.{Places}
 use Rattle.compose_input.specs.declared.tables.TableFiles.{TableFiles}
 use Rattle.compose_runs.specs.Environment.{IsPlaced}
 use Rattle.compose_runs.specs.declared.differing.DiffFiles.{DiffFiles}
 use Rattle.compose_runs.specs.declared.environment.Environment.{Environment}
 use Rattle.compose_runs.specs.declared.environment.PlaceArguments.{PlaceArguments}
+use Rattle.compose_runs.specs.declared.files.MigrationFiles.{MigrationFiles}
 
 -- the names that were given, or else those that are built in
 abbrev pub names_or_builtin : List (List ℕ) → List (List ℕ)
@@ -25,14 +26,20 @@ rule_by true = Longest
 rule_by false = Refuse
 
 -- what the arguments say of where the tables lie, with the root that is given for one of them
-abbrev pub place_arguments : DiffArguments → Option (Bor (List ℕ)) → PlaceArguments
-place_arguments arguments root = record { system = arguments.system; locale = arguments.locale; root = root }
+abbrev pub place_arguments : FilePair → Option (Bor (List ℕ)) → PlaceArguments
+place_arguments pair root = record { system = pair.system; locale = pair.locale; root = root }
 
 -- the table of the Compose file at this path as it lies on the system, by the rule that is asked for
-pub record IsDiffTable (folder : Option (List Entry)) (environment : Environment) (arguments : DiffArguments) (root : Option (Bor (List ℕ))) (path : List ℕ) (table : TableFiles) : Type 0 where
+pub record IsFoundTable (folder : Option (List Entry)) (environment : Environment) (pair : FilePair) (root : Option (Bor (List ℕ))) (path : List ℕ) (table : TableFiles) : Type 0 where
   pub places : Places
-  pub are_places : IsPlaced environment (place_arguments arguments root) places
-  pub is : IsFoundOnSystem folder places path (rule_by arguments.longest) table
+  pub are_places : IsPlaced environment (place_arguments pair root) places
+  pub is : IsFoundOnSystem folder places path (rule_by pair.longest) table
+
+-- the names that were given, or else those that are built in, and both tables
+pub record AreFoundFiles (folder : Option (List Entry)) (environment : Environment) (names : List (List ℕ)) (pair : FilePair) (files : MigrationFiles) : Type 0 where
+  pub are_names : AreNames folder (names_or_builtin names) files.names
+  pub is_old : IsFoundTable folder environment pair pair.old_root pair.old.now files.old
+  pub is_new : IsFoundTable folder environment pair pair.new_root pair.new.now files.new
 
 -- the list of the changes that are meant; an empty one where none is given
 abbrev pub IsAccepted : Option (List Entry) → Option (List ℕ) → List ℕ → Type 0
@@ -41,11 +48,5 @@ IsAccepted folder (Some path) bytes = IsHeld folder path (File bytes)
 
 -- the names, both tables, and the list
 pub record AreDiffFiles (folder : Option (List Entry)) (environment : Environment) (names : List (List ℕ)) (arguments : DiffArguments) (files : DiffFiles) : Type 0 where
-  pub are_names : AreNames folder (names_or_builtin names) files.names
-  pub is_old : IsDiffTable folder environment arguments arguments.old_root arguments.old.now files.old
-  pub is_new : IsDiffTable folder environment arguments arguments.new_root arguments.new.now files.new
+  pub are_both : AreFoundFiles folder environment names arguments.files files.both
   pub is_accepted : IsAccepted folder (option_copied arguments.accept) files.accepted.items
-
--- the migration that the files are to give, with these names of fresh keysyms
-abbrev pub diff_migration_given : DiffFiles → List (List ℕ) → GivenMigration
-diff_migration_given files fresh = record { header = files.names.lines.items; key_names = fresh; old = sources_of files.old; new = sources_of files.new }

@@ -26,7 +26,8 @@ use Rattle.compose_report.specs.Outcomes.{IsNoted, IsOutcome, IsReported, Prints
 use Rattle.compose_report.specs.declared.outcome.Outcome.{Outcome}
 use Rattle.compose_runs.specs.Environment.{wants_color}
 use Rattle.compose_runs.specs.Variables.{Said}
-use Rattle.compose_runs.specs.DiffFiles.{AreDiffFiles, diff_migration_given}
+use Rattle.compose_runs.specs.DiffFiles.{AreDiffFiles}
+use Rattle.compose_runs.specs.Files.{migration_given, notes_of}
 use Rattle.compose_runs.specs.declared.differing.DiffFiles.{DiffFiles}
 use Rattle.compose_runs.specs.declared.environment.Environment.{Environment}
 
@@ -40,9 +41,9 @@ form_of forms.AcceptList = AcceptList
 
 abbrev pub diff_asked : DiffFiles → DiffArguments → List (List ℕ) → Asked
 diff_asked files arguments fresh = record {
-  migration = diff_migration_given files fresh;
-  old_paths = map string_bytes files.old.paths.items;
-  new_paths = map string_bytes files.new.paths.items;
+  migration = migration_given files.both fresh;
+  old_paths = map string_bytes files.both.old.paths.items;
+  new_paths = map string_bytes files.both.new.paths.items;
   accepted = files.accepted.items;
   lost_alone = arguments.lost;
   form = form_of arguments.form;
@@ -87,7 +88,7 @@ pub record ShowsAnswer (colored : Bool) (answer : Answer) (fresh : List (List �
 -- of a refusal of the tables, its line and each faulty line of what was given
 pub record IsRefusalOutcome (files : DiffFiles) (fresh : List (List ℕ)) (refusal : Refusal) (outcome : Outcome) : Type 0 where
   pub given : Given
-  pub parts : IsGiven (parts_of files.names fresh (files.old ∷ files.new ∷ [])) given
+  pub parts : IsGiven (parts_of files.both.names fresh (files.both.old ∷ files.both.new ∷ [])) given
   pub is : IsReported true given (Err refusal) outcome
 
 -- which line of the list of meant changes is refused, and why (code 10 ends it)
@@ -115,7 +116,7 @@ pub record IsDiffOutcome (files : DiffFiles) (arguments : DiffArguments) (fresh 
   pub is : AnswersDiff (diff_asked files arguments fresh) answered
   pub printed : Outcome
   pub is_printed : IsDiffPrinted files arguments fresh colored answered printed
-  pub noted : IsNoted (string_bytes files.old.note ++ string_bytes files.new.note) printed outcome
+  pub noted : IsNoted (notes_of files.both) printed outcome
 
 -- the same on the files that the folder has, in this environment
 pub record IsDiffRun (folder : Option (List Entry)) (environment : Environment) (names : List (List ℕ)) (arguments : DiffArguments) (fresh : List (List ℕ)) (outcome : Outcome) : Type 0 where

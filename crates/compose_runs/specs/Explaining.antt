@@ -6,13 +6,17 @@ use Rattle.compose_answer.specs.Parts.{explain_parts}
 use Rattle.compose_answer.specs.Refused.{Gives}
 use Rattle.compose_answer.specs.declared.answer.Answer.{Answer}
 use Rattle.compose_answer.specs.declared.refusal.Refusal.{Refusal}
-use Rattle.compose_arguments.specs.declared.request.TablePaths.{TablePaths}
+use Rattle.compose_arguments.specs.declared.given_tables.FilePair.{FilePair}
+use Rattle.compose_arguments.specs.declared.given_tables.TablePaths.{TablePaths}
 use Rattle.compose_tool.specs.Answers.{IsExplained, IsAllExplained}
 use Rattle.compose_details.specs.Given.{GivenParts, IsGiven, parts_of}
 use Rattle.compose_details.specs.declared.given.Given.{Given}
 use Rattle.compose_report.specs.Outcomes.{IsReported}
 use Rattle.compose_report.specs.declared.outcome.Outcome.{Outcome}
+use Rattle.compose_runs.specs.DiffFiles.{AreFoundFiles}
 use Rattle.compose_runs.specs.Files.{AreMigrationFiles, migration_given}
+use Rattle.compose_runs.specs.Reports.{IsFilesReport}
+use Rattle.compose_runs.specs.declared.environment.Environment.{Environment}
 use Rattle.compose_runs.specs.declared.files.MigrationFiles.{MigrationFiles}
 use Rattle.compose_runs.specs.declared.options.Options.{Options}
 
@@ -38,3 +42,16 @@ pub record IsExplainRun (folder : Option (List Entry)) (options : Options) (path
   pub files : MigrationFiles
   pub read : AreMigrationFiles folder (map (λ name. name.now) options.names.now) paths.old.now paths.new.now files
   pub is : IsExplainOutcome options.verbose files fresh all outcome
+
+-- ---- on Compose files
+
+pub record IsExplainFilesOutcome (verbose : Bool) (files : MigrationFiles) (fresh : List (List ℕ)) (all : Bool) (outcome : Outcome) : Type 0 where
+  pub answered : Result Answer Refusal
+  pub is : AnswersExplain all answered (migration_given files fresh)
+  pub reported : IsFilesReport verbose files (explain_given files fresh all) answered outcome
+
+-- the same on the files that the folder has, in this environment
+pub record IsExplainFilesRun (folder : Option (List Entry)) (environment : Environment) (options : Options) (pair : FilePair) (fresh : List (List ℕ)) (all : Bool) (outcome : Outcome) : Type 0 where
+  pub files : MigrationFiles
+  pub read : AreFoundFiles folder environment (map (λ name. name.now) options.names.now) pair files
+  pub is : IsExplainFilesOutcome options.verbose files fresh all outcome

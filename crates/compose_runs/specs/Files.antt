@@ -1,5 +1,5 @@
 -- The files of tables, as the commands read them (this project's profile).
-use Rattle.std.specs.Prelude.{ℕ, List, Option}
+use Rattle.std.specs.Prelude.{ℕ, List, ◌++◌, Option, string_bytes}
 use Rattle.compose_folder.specs.Content.{Entry}
 use Rattle.compose_input.specs.Names.{AreNames}
 use Rattle.compose_input.specs.Tables.{IsListed, sources_of}
@@ -9,6 +9,10 @@ use Rattle.compose_runs.specs.declared.files.MigrationFiles.{MigrationFiles}
 -- the migration that the files are to give, with these names of fresh keysyms
 abbrev pub migration_given : MigrationFiles → List (List ℕ) → GivenMigration
 migration_given files fresh = record { header = files.names.lines.items; key_names = fresh; old = sources_of files.old; new = sources_of files.new }
+
+-- what is noted of where they lie
+abbrev pub notes_of : MigrationFiles → List ℕ
+notes_of files = string_bytes files.old.note ++ string_bytes files.new.note
 
 -- the names, and both tables of the manifests at these paths
 pub record AreMigrationFiles (folder : Option (List Entry)) (names : List (List ℕ)) (old new : List ℕ) (files : MigrationFiles) : Type 0 where

@@ -12,3 +12,5 @@ pub mod DiffFiles
 pub mod Differing
 pub mod Faults
 pub mod OneTable
+pub mod Reports
+pub mod WrittenKeys

@@ -9,13 +9,17 @@ use Rattle.compose_answer.specs.declared.answer.Answer.{Answer}
 use Rattle.compose_answer.specs.declared.answer.Ended.{Ended}
 use Rattle.compose_answer.specs.declared.answer.Ended.TheVariants.{Yes}
 use Rattle.compose_answer.specs.declared.refusal.Refusal.{Refusal}
-use Rattle.compose_arguments.specs.declared.request.TablePaths.{TablePaths}
+use Rattle.compose_arguments.specs.declared.given_tables.FilePair.{FilePair}
+use Rattle.compose_arguments.specs.declared.given_tables.TablePaths.{TablePaths}
 use Rattle.compose_tool.specs.Answers.{IsMadeText, IsAllMadeText}
 use Rattle.compose_details.specs.Given.{GivenParts, IsGiven, parts_of}
 use Rattle.compose_details.specs.declared.given.Given.{Given}
 use Rattle.compose_report.specs.Outcomes.{IsReported}
 use Rattle.compose_report.specs.declared.outcome.Outcome.{Outcome}
+use Rattle.compose_runs.specs.DiffFiles.{AreFoundFiles}
 use Rattle.compose_runs.specs.Files.{AreMigrationFiles, migration_given}
+use Rattle.compose_runs.specs.Reports.{IsFilesReport}
+use Rattle.compose_runs.specs.declared.environment.Environment.{Environment}
 use Rattle.compose_runs.specs.declared.files.MigrationFiles.{MigrationFiles}
 use Rattle.compose_runs.specs.declared.making.MakeOptions.{MakeOptions}
 use Rattle.compose_runs.specs.declared.options.Options.{Options}
@@ -58,4 +62,21 @@ pub record IsMakeRun (folder : Option (List Entry)) (options : Options) (paths :
   pub is_repertoire : IsHeld folder making.repertoire.now (File repertoire)
   pub printed : Outcome
   pub is : IsMakeOutcome options.verbose files repertoire making printed
+  pub written : IsWrittenTo (option_copied making.output) printed outcome
+
+-- ---- on Compose files
+
+pub record IsMakeFilesOutcome (verbose : Bool) (files : MigrationFiles) (repertoire : List ℕ) (making : MakeOptions) (outcome : Outcome) : Type 0 where
+  pub answered : Result Answer Refusal
+  pub is : AnswersMake making.all answered (migration_given files (map (λ name. name.now) making.fresh.now)) repertoire
+  pub reported : IsFilesReport verbose files (make_given files making) answered outcome
+
+-- the same on the files that the folder has, in this environment
+pub record IsMakeFilesRun (folder : Option (List Entry)) (environment : Environment) (options : Options) (pair : FilePair) (making : MakeOptions) (outcome : Outcome) : Type 0 where
+  pub files : MigrationFiles
+  pub read : AreFoundFiles folder environment (map (λ name. name.now) options.names.now) pair files
+  pub repertoire : List ℕ
+  pub is_repertoire : IsHeld folder making.repertoire.now (File repertoire)
+  pub printed : Outcome
+  pub is : IsMakeFilesOutcome options.verbose files repertoire making printed
   pub written : IsWrittenTo (option_copied making.output) printed outcome

@@ -1,12 +1,15 @@
 //! `check`: whether a certificate is valid.
 ghost use Rattle.std.specs.Prelude.{◌≡◌, map, IfOk, IfErr};
-ghost use Rattle.compose_runs.specs.Faults.{FailsCheck};
-ghost use Rattle.compose_runs.specs.Checking.{IsCheckRun, IsCheckOutcome, AnswersCheck, allowed_names};
+ghost use Rattle.compose_runs.specs.Faults.{FailsCheck, FailsCheckFiles};
+ghost use Rattle.compose_runs.specs.Checking.{IsCheckFilesOutcome, IsCheckFilesRun, IsCheckRun, IsCheckOutcome, AnswersCheck, allowed_names, given_parts};
+ghost use Rattle.compose_runs.specs.Reports.{IsReport};
 
+use crate::environment::Environment;
 use crate::files::MigrationFiles;
+use crate::one_table::wants_details;
 use crate::options::Options;
 use compose_answer::{Answer, Refusal};
-use compose_arguments::TablePaths;
+use compose_arguments::{FilePair, TablePaths};
 use compose_check::CheckInput;
 use compose_details::{Given, GivenTable};
 use compose_folder::{Folder, ReadOnce};
@@ -24,6 +27,13 @@ pub struct CheckPaths<'a> {
     pub certificate: &'a str,
 }
 
+/// The paths of the files of a check beside its tables.
+#[derive(Clone, Copy)]
+pub struct CheckTexts<'a> {
+    pub repertoire: &'a str,
+    pub certificate: &'a str,
+}
+
 /// What the files of a check hold.
 #[derive(Drop)]
 struct CheckFiles<'n> {
@@ -34,7 +44,7 @@ struct CheckFiles<'n> {
 
 impl<'n> CheckFiles<'n> {
     ghost use Rattle.compose_check.specs.CheckGives.{input_of};
-    ghost use Rattle.compose_runs.specs.CheckFiles.{AreCheckFiles, check_given};
+    ghost use Rattle.compose_runs.specs.CheckFiles.{AreCheckFiles, AreFoundCheckFiles, check_given};
 
     /// Reads the files of names, those of both tables, the repertoire and the certificate.
     fn read<F: Folder>(
@@ -54,6 +64,33 @@ impl<'n> CheckFiles<'n> {
         let both = MigrationFiles::read(files, alloc, names, &paths.tables)?;
         let repertoire = read_text(files, alloc, paths.repertoire)?;
         let certificate = read_text(files, alloc, paths.certificate)?;
+        Ok(CheckFiles {
+            both,
+            repertoire,
+            certificate,
+        })
+    }
+
+    /// Reads the files of names, both Compose files as they lie on the system, the repertoire and the certificate.
+    fn found<F: Folder>(
+        files: &mut ReadOnce<F>,
+        alloc: Global,
+        environment: &Environment,
+        names: &[&'n str],
+        pair: &FilePair<'_>,
+        texts: CheckTexts<'_>,
+    ) -> Result<CheckFiles<'n>, Fault>
+        ensures kept { files.new.holds ≡ files.old.holds }
+        ensures read { IfOk result
+            (λ read. AreFoundCheckFiles files.old.holds environment.now
+            (map (λ name. name.now) names.now) pair.now texts.entry read) }
+        ensures fault { IfErr result
+            (λ fault. FailsCheckFiles files.old.holds environment.now
+            (map (λ name. name.now) names.now) pair.now texts.entry fault) }
+    {
+        let both = MigrationFiles::found(files, alloc, environment, names, pair)?;
+        let repertoire = read_text(files, alloc, texts.repertoire)?;
+        let certificate = read_text(files, alloc, texts.certificate)?;
         Ok(CheckFiles {
             both,
             repertoire,
@@ -112,14 +149,76 @@ fn check_outcome<T: ComposeTable>(
         outcome) }
 {
     let answered = check_answer::<T>(alloc, check, allowed);
+    let texts = CheckTexts {
+        repertoire: paths.repertoire,
+        certificate: paths.certificate,
+    };
+    check_report::<T>(alloc, verbose, check, texts, allowed, answered)
+}
+
+/// The outcome of `check` on Compose files as they lie on the system. The files of names are read first, then those of the old table, those of the
+/// new one, the repertoire and the certificate. At the cost of `find_files` for both tables and of `check_allowed`.
+pub fn run_check_files<T: ComposeTable, F: Folder>(
+    alloc: Global,
+    files: &mut ReadOnce<F>,
+    environment: &Environment,
+    options: Options<'_>,
+    pair: &FilePair<'_>,
+    texts: CheckTexts<'_>,
+    allowed: Option<&[&str]>,
+) -> Result<Outcome, Fault>
+    ensures kept { files.new.holds ≡ files.old.holds }
+    ensures outcome { IfOk result
+        (λ outcome. IsCheckFilesRun files.old.holds environment.now options.entry pair.now
+        texts.entry (allowed_names allowed.entry) outcome) }
+    ensures fault { IfErr result
+        (λ fault. FailsCheckFiles files.old.holds environment.now
+        (map (λ name. name.now) options.entry.names.now) pair.now texts.entry fault) }
+{
+    let check = CheckFiles::found(files, alloc, environment, options.names, pair, texts)?;
+    Ok(check_files_outcome::<T>(alloc, options.verbose, &check, texts, allowed)?)
+}
+
+/// The outcome of `check` on Compose files, once they are read.
+fn check_files_outcome<T: ComposeTable>(
+    alloc: Global,
+    verbose: bool,
+    check: &CheckFiles<'_>,
+    texts: CheckTexts<'_>,
+    allowed: Option<&[&str]>,
+) -> Result<Outcome, AllocError>
+    ensures { IfOk result
+        (λ outcome. IsCheckFilesOutcome verbose check.now texts.entry
+        (allowed_names allowed.entry) outcome) }
+{
+    let answered = check_answer::<T>(alloc, check, allowed);
+    let verbose = wants_details(verbose, &answered);
+    let printed = check_report::<T>(alloc, verbose, check, texts, allowed, answered)?;
+    let notes = check.both.notes(alloc)?;
+    Ok(printed.with_notes(notes))
+}
+
+/// The outcome of what is answered to `check`, or refused.
+fn check_report<T: ComposeTable>(
+    alloc: Global,
+    verbose: bool,
+    check: &CheckFiles<'_>,
+    texts: CheckTexts<'_>,
+    allowed: Option<&[&str]>,
+    answered: Result<Answer, Refusal>,
+) -> Result<Outcome, AllocError>
+    ensures { IfOk result
+        (λ outcome. IsReport verbose
+        (given_parts check.now texts.entry (allowed_names allowed.entry)) answered outcome) }
+{
     let tables = [
         GivenTable::of(&check.both.old),
         GivenTable::of(&check.both.new),
     ];
     let listed = Given::of(&check.both.names, allowed.unwrap_or(&[]), &tables);
     let given = Given {
-        repertoire: paths.repertoire,
-        certificate: paths.certificate,
+        repertoire: texts.repertoire,
+        certificate: texts.certificate,
         certificate_text: &check.certificate,
         ..listed
     };

@@ -3,23 +3,22 @@ ghost use Rattle.std.specs.Prelude.{◌≡◌, ◌++◌, ◌∷◌, [], map, IfO
 ghost use Rattle.compose_diff_rows.specs.Answers.{AnswersDiff};
 ghost use Rattle.compose_input.specs.Faults.{FailNames};
 ghost use Rattle.compose_input.specs.Names.{AreNames};
-ghost use Rattle.compose_runs.specs.DiffFiles.{IsAccepted, IsDiffTable, names_or_builtin, place_arguments, rule_by};
+ghost use Rattle.compose_runs.specs.DiffFiles.{IsAccepted, names_or_builtin};
 ghost use Rattle.compose_runs.specs.Differing as words;
 ghost use Rattle.compose_runs.specs.Differing.{IsAcceptRefusal, IsDiffOutcome, IsDiffPrinted, IsDiffRun, IsFaultPrinted, IsRefusalOutcome, ShowsAnswer, diff_asked};
 ghost use Rattle.compose_runs.specs.Environment.{GivesColor};
-ghost use Rattle.compose_runs.specs.Faults.{FailsAccepted, FailsDiff, FailsDiffRun, FailsTable};
+ghost use Rattle.compose_runs.specs.Faults.{FailsAccepted, FailsDiff, FailsDiffRun};
 
-use crate::environment::{Environment, PlaceArguments};
+use crate::environment::Environment;
+use crate::files::MigrationFiles;
 use compose_answer::{Answer, Ended, Refusal};
 use compose_arguments::{DiffArguments, DiffColor, DiffForm};
 use compose_details::{Given, GivenTable};
 use compose_diff::{AcceptFault, colored_text};
 use compose_diff_rows::{DiffFault, DiffInput, Form, diff_migration};
 use compose_folder::{Folder, ReadOnce};
-use compose_input::{Fault, NameFiles, TableFiles, read_text};
+use compose_input::{Fault, NameFiles, read_text};
 use compose_messages::{FileMessage, Message, Position};
-use compose_migration::MigrationInput;
-use compose_model::Rule;
 use compose_report::{Outcome, outcome_of, outcome_with};
 use compose_tree::ComposeTable;
 use std::alloc::{AllocError, Global};
@@ -51,15 +50,12 @@ pub fn run_diff<T: ComposeTable, F: Folder>(
 /// What a comparison of two tables is read from.
 #[derive(Drop)]
 struct DiffFiles<'n> {
-    names: NameFiles<'n>,
-    old: TableFiles,
-    new: TableFiles,
+    both: MigrationFiles<'n>,
     accepted: Vec<u8>,
 }
 
 impl<'n> DiffFiles<'n> {
-    ghost use Rattle.compose_runs.specs.DiffFiles.{AreDiffFiles, diff_migration_given};
-    ghost use Rattle.compose_migration.specs.MigrationGives.{given_of};
+    ghost use Rattle.compose_runs.specs.DiffFiles.{AreDiffFiles};
 
     /// Reads the files of names, both tables as they lie on the system, and the list of the changes that are meant.
     fn read<F: Folder>(
@@ -77,44 +73,9 @@ impl<'n> DiffFiles<'n> {
             (λ fault. FailsDiff files.old.holds environment.now
             (map (λ name. name.now) names.now) arguments.now fault) }
     {
-        let (old_root, new_root) = (arguments.old_root, arguments.new_root);
-        let names = read_names(files, alloc, names)?;
-        let old = read_table(
-            files,
-            alloc,
-            environment,
-            arguments,
-            old_root,
-            arguments.old,
-        )?;
-        let new = read_table(
-            files,
-            alloc,
-            environment,
-            arguments,
-            new_root,
-            arguments.new,
-        )?;
+        let both = MigrationFiles::found(files, alloc, environment, names, &arguments.files)?;
         let accepted = read_accepted(files, alloc, arguments.accept)?;
-        Ok(DiffFiles {
-            names,
-            old,
-            new,
-            accepted,
-        })
-    }
-
-    /// The migration that they are to give, with these names of fresh keysyms.
-    fn input<'a, 'w>(&'a self, fresh: &'a [&'w str]) -> MigrationInput<'a, 'w>
-        ensures { given_of result
-            ≡ diff_migration_given self.now (map (λ name. name.now) fresh.now) }
-    {
-        MigrationInput {
-            header: &self.names.lines,
-            key_names: fresh,
-            old: self.old.input(),
-            new: self.new.input(),
-        }
+        Ok(DiffFiles { both, accepted })
     }
 }
 
@@ -139,31 +100,6 @@ pub(crate) fn read_names<'n, F: Folder>(
     NameFiles::read(files, alloc, names)
 }
 
-/// The table at this path, as it lies on the system; an absolute path of an include is looked for below the root first.
-fn read_table<F: Folder>(
-    files: &mut ReadOnce<F>,
-    alloc: Global,
-    environment: &Environment,
-    arguments: &DiffArguments<'_>,
-    root: Option<&str>,
-    path: &str,
-) -> Result<TableFiles, Fault>
-    ensures kept { files.new.holds ≡ files.old.holds }
-    ensures read { IfOk result
-        (λ table. IsDiffTable files.old.holds environment.now arguments.now root.entry path.now
-        table) }
-    ensures fault { IfErr result
-        (λ fault. FailsTable files.old.holds environment.now
-        (place_arguments arguments.now root.entry) path.now fault) }
-{
-    let places = environment.places(PlaceArguments {
-        system: arguments.system,
-        locale: arguments.locale,
-        root,
-    })?;
-    TableFiles::found(files, alloc, places, path, rule_of(arguments.longest))
-}
-
 /// The list of the changes that are meant; an empty one where no path is given.
 fn read_accepted<F: Folder>(
     files: &mut ReadOnce<F>,
@@ -180,13 +116,6 @@ fn read_accepted<F: Folder>(
         Some(path) => read_text(files, alloc, path),
         None => Ok(Vec::new(alloc)),
     }
-}
-
-/// What is done with overlaps.
-fn rule_of(longest: bool) -> Rule
-    ensures { result ≡ rule_by longest }
-{
-    if longest { Rule::Longest } else { Rule::Refuse }
 }
 
 /// How the changes are printed.
@@ -227,7 +156,7 @@ fn diff_outcome<T: ComposeTable>(
 {
     let answered = diff_answer::<T>(alloc, files, arguments, fresh);
     let printed = printed_outcome::<T>(alloc, files, arguments, fresh, colored, answered)?;
-    Ok(printed.with_notes(notes_of(alloc, files)?))
+    Ok(printed.with_notes(files.both.notes(alloc)?))
 }
 
 /// The outcome of what is answered, or refused, on these files, without notes.
@@ -267,17 +196,6 @@ fn fault_outcome<T: ComposeTable>(
     }
 }
 
-/// Notes on the files of both tables.
-fn notes_of(alloc: Global, files: &DiffFiles<'_>) -> Result<String, AllocError>
-    ensures { IfOk result
-        (λ notes. string_bytes notes
-        ≡ string_bytes files.now.old.note ++ string_bytes files.now.new.note) }
-{
-    let mut notes = String::from_str(alloc, &files.old.note)?;
-    notes.push_str(&files.new.note)?;
-    Ok(notes)
-}
-
 /// What is answered on these files.
 fn diff_answer<T: ComposeTable>(
     alloc: Global,
@@ -288,9 +206,10 @@ fn diff_answer<T: ComposeTable>(
     ensures { AnswersDiff
         (diff_asked files.now arguments.now (map (λ name. name.now) fresh.now)) result }
 {
-    let (old_paths, new_paths) = (files.old.path_texts(alloc)?, files.new.path_texts(alloc)?);
+    let both = &files.both;
+    let (old_paths, new_paths) = (both.old.path_texts(alloc)?, both.new.path_texts(alloc)?);
     let input = DiffInput {
-        tables: files.input(fresh),
+        tables: both.input(fresh),
         old_paths: &old_paths,
         new_paths: &new_paths,
         accepted: &files.accepted,
@@ -346,8 +265,9 @@ fn refusal_outcome<T: ComposeTable>(
     ensures { IfOk result
         (λ outcome. IsRefusalOutcome files.now (map (λ name. name.now) fresh.now) refusal outcome) }
 {
-    let tables = [GivenTable::of(&files.old), GivenTable::of(&files.new)];
-    let given = Given::of(&files.names, fresh, &tables);
+    let both = &files.both;
+    let tables = [GivenTable::of(&both.old), GivenTable::of(&both.new)];
+    let given = Given::of(&both.names, fresh, &tables);
     outcome_of::<T>(alloc, true, &given, Err(refusal))
 }
 

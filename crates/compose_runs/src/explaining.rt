@@ -1,13 +1,16 @@
 //! `explain`: how two tables differ.
 ghost use Rattle.std.specs.Prelude.{◌≡◌, map, IfOk, IfErr};
-ghost use Rattle.compose_runs.specs.Faults.{FailsMigration};
-ghost use Rattle.compose_runs.specs.Explaining.{IsExplainRun, IsExplainOutcome, AnswersExplain};
+ghost use Rattle.compose_runs.specs.Faults.{FailsMigration, FailsPair};
+ghost use Rattle.compose_runs.specs.Explaining.{IsExplainFilesOutcome, IsExplainFilesRun, IsExplainRun, IsExplainOutcome, AnswersExplain, explain_given};
 ghost use Rattle.compose_runs.specs.Files.{migration_given};
+ghost use Rattle.compose_runs.specs.Reports.{IsReport};
 
+use crate::environment::Environment;
 use crate::files::MigrationFiles;
+use crate::one_table::wants_details;
 use crate::options::Options;
 use compose_answer::{Answer, Refusal};
-use compose_arguments::TablePaths;
+use compose_arguments::{FilePair, TablePaths};
 use compose_details::{Given, GivenTable};
 use compose_folder::{Folder, ReadOnce};
 use compose_input::Fault;
@@ -51,6 +54,64 @@ fn explain_outcome<T: ComposeTable>(
         outcome) }
 {
     let answered = explain_answer::<T>(alloc, both, fresh, all);
+    explain_report::<T>(alloc, verbose, both, fresh, all, answered)
+}
+
+/// The outcome of `explain` on Compose files as they lie on the system. The files of names are read first, then those of the old table, and those
+/// of the new one. At the cost of `find_files` for both tables and of `explain_migration`.
+pub fn run_explain_files<T: ComposeTable, F: Folder>(
+    alloc: Global,
+    files: &mut ReadOnce<F>,
+    environment: &Environment,
+    options: Options<'_>,
+    pair: &FilePair<'_>,
+    fresh: &[&str],
+    all: bool,
+) -> Result<Outcome, Fault>
+    ensures kept { files.new.holds ≡ files.old.holds }
+    ensures outcome { IfOk result
+        (λ outcome. IsExplainFilesRun files.old.holds environment.now options.entry pair.now
+        (map (λ name. name.now) fresh.now) all outcome) }
+    ensures fault { IfErr result
+        (λ fault. FailsPair files.old.holds environment.now
+        (map (λ name. name.now) options.entry.names.now) pair.now fault) }
+{
+    let both = MigrationFiles::found(files, alloc, environment, options.names, pair)?;
+    Ok(explain_files_outcome::<T>(alloc, options.verbose, &both, fresh, all)?)
+}
+
+/// The outcome of `explain` on Compose files, once they are read.
+fn explain_files_outcome<T: ComposeTable>(
+    alloc: Global,
+    verbose: bool,
+    both: &MigrationFiles<'_>,
+    fresh: &[&str],
+    all: bool,
+) -> Result<Outcome, AllocError>
+    ensures { IfOk result
+        (λ outcome. IsExplainFilesOutcome verbose both.now (map (λ name. name.now) fresh.now) all
+        outcome) }
+{
+    let answered = explain_answer::<T>(alloc, both, fresh, all);
+    let verbose = wants_details(verbose, &answered);
+    let printed = explain_report::<T>(alloc, verbose, both, fresh, all, answered)?;
+    let notes = both.notes(alloc)?;
+    Ok(printed.with_notes(notes))
+}
+
+/// The outcome of what is answered to `explain`, or refused.
+fn explain_report<T: ComposeTable>(
+    alloc: Global,
+    verbose: bool,
+    both: &MigrationFiles<'_>,
+    fresh: &[&str],
+    all: bool,
+    answered: Result<Answer, Refusal>,
+) -> Result<Outcome, AllocError>
+    ensures { IfOk result
+        (λ outcome. IsReport verbose
+        (explain_given both.now (map (λ name. name.now) fresh.now) all) answered outcome) }
+{
     let tables = [GivenTable::of(&both.old), GivenTable::of(&both.new)];
     let listed = Given::of(&both.names, fresh, &tables);
     let given = Given { all, ..listed };

@@ -1,13 +1,18 @@
 //! The files of an old and a new table.
-ghost use Rattle.std.specs.Prelude.{◌≡◌, map, IfOk, IfErr};
+ghost use Rattle.std.specs.Prelude.{◌≡◌, ◌++◌, map, IfOk, IfErr, string_bytes};
 ghost use Rattle.compose_migration.specs.MigrationGives.{given_of};
+ghost use Rattle.compose_runs.specs.DiffFiles.{IsFoundTable, place_arguments, rule_by};
+ghost use Rattle.compose_runs.specs.Faults.{FailsTable};
 
-use compose_arguments::TablePaths;
-use compose_details::{Given, GivenTable};
+use crate::differing::read_names;
+use crate::environment::{Environment, PlaceArguments};
+use crate::one_table::joined;
+use compose_arguments::{FilePair, TablePaths};
 use compose_folder::{Folder, ReadOnce};
 use compose_input::{Fault, NameFiles, TableFiles};
 use compose_migration::MigrationInput;
-use std::alloc::Global;
+use compose_model::Rule;
+use std::alloc::{AllocError, Global};
 
 /// The files of names, and those of an old and a new table.
 #[derive(Drop)]
@@ -18,8 +23,9 @@ pub(crate) struct MigrationFiles<'n> {
 }
 
 impl<'n> MigrationFiles<'n> {
-    ghost use Rattle.compose_runs.specs.Faults.{FailsMigration};
-    ghost use Rattle.compose_runs.specs.Files.{AreMigrationFiles, migration_given};
+    ghost use Rattle.compose_runs.specs.DiffFiles.{AreFoundFiles};
+    ghost use Rattle.compose_runs.specs.Faults.{FailsMigration, FailsPair};
+    ghost use Rattle.compose_runs.specs.Files.{AreMigrationFiles, migration_given, notes_of};
 
     /// Reads the files of names, those of the old table, and those of the new one.
     pub(crate) fn read<F: Folder>(
@@ -42,6 +48,29 @@ impl<'n> MigrationFiles<'n> {
         Ok(MigrationFiles { names, old, new })
     }
 
+    /// Reads the files of names, and both Compose files as they lie on the system.
+    pub(crate) fn found<F: Folder>(
+        files: &mut ReadOnce<F>,
+        alloc: Global,
+        environment: &Environment,
+        names: &[&'n str],
+        pair: &FilePair<'_>,
+    ) -> Result<MigrationFiles<'n>, Fault>
+        ensures kept { files.new.holds ≡ files.old.holds }
+        ensures read { IfOk result
+            (λ read. AreFoundFiles files.old.holds environment.now
+            (map (λ name. name.now) names.now) pair.now read) }
+        ensures fault { IfErr result
+            (λ fault. FailsPair files.old.holds environment.now
+            (map (λ name. name.now) names.now) pair.now fault) }
+    {
+        let (old_root, new_root) = (pair.old_root, pair.new_root);
+        let names = read_names(files, alloc, names)?;
+        let old = read_table(files, alloc, environment, pair, old_root, pair.old)?;
+        let new = read_table(files, alloc, environment, pair, new_root, pair.new)?;
+        Ok(MigrationFiles { names, old, new })
+    }
+
     /// The migration that they are to give, with these names of fresh keysyms.
     pub(crate) fn input<'a, 'w>(&'a self, fresh: &'a [&'w str]) -> MigrationInput<'a, 'w>
         ensures { given_of result
@@ -54,4 +83,42 @@ impl<'n> MigrationFiles<'n> {
             new: self.new.input(),
         }
     }
+
+    /// Notes on where the files of both tables lie.
+    pub(crate) fn notes(&self, alloc: Global) -> Result<String, AllocError>
+        ensures { IfOk result (λ notes. string_bytes notes ≡ notes_of self.now) }
+    {
+        joined(alloc, &self.old.note, &self.new.note)
+    }
+}
+
+/// The table at this path, as it lies on the system; an absolute path of an include is looked for below the root first.
+fn read_table<F: Folder>(
+    files: &mut ReadOnce<F>,
+    alloc: Global,
+    environment: &Environment,
+    pair: &FilePair<'_>,
+    root: Option<&str>,
+    path: &str,
+) -> Result<TableFiles, Fault>
+    ensures kept { files.new.holds ≡ files.old.holds }
+    ensures read { IfOk result
+        (λ table. IsFoundTable files.old.holds environment.now pair.now root.entry path.now table) }
+    ensures fault { IfErr result
+        (λ fault. FailsTable files.old.holds environment.now (place_arguments pair.now root.entry)
+        path.now fault) }
+{
+    let places = environment.places(PlaceArguments {
+        system: pair.system,
+        locale: pair.locale,
+        root,
+    })?;
+    TableFiles::found(files, alloc, places, path, rule_of(pair.longest))
+}
+
+/// What is done with overlaps.
+fn rule_of(longest: bool) -> Rule
+    ensures { result ≡ rule_by longest }
+{
+    if longest { Rule::Longest } else { Rule::Refuse }
 }

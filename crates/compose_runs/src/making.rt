@@ -1,13 +1,16 @@
 //! `make`: a certificate.
 ghost use Rattle.std.specs.Prelude.{◌≡◌, map, None, IfOk, IfErr, option_copied};
-ghost use Rattle.compose_runs.specs.Faults.{FailsMake};
-ghost use Rattle.compose_runs.specs.Making.{IsMakeRun, IsMakeOutcome, AnswersMake, IsWrittenTo};
+ghost use Rattle.compose_runs.specs.Faults.{FailsMake, FailsMakeFiles};
+ghost use Rattle.compose_runs.specs.Making.{IsMakeFilesOutcome, IsMakeFilesRun, IsMakeRun, IsMakeOutcome, AnswersMake, IsWrittenTo, make_given};
 ghost use Rattle.compose_runs.specs.Files.{migration_given};
+ghost use Rattle.compose_runs.specs.Reports.{IsReport};
 
+use crate::environment::Environment;
 use crate::files::MigrationFiles;
+use crate::one_table::wants_details;
 use crate::options::Options;
 use compose_answer::{Answer, Ended, Refusal};
-use compose_arguments::TablePaths;
+use compose_arguments::{FilePair, TablePaths};
 use compose_details::{Given, GivenTable};
 use compose_folder::{Folder, ReadOnce};
 use compose_input::{Fault, read_text};
@@ -63,6 +66,63 @@ fn make_outcome<T: ComposeTable>(
         (λ outcome. IsMakeOutcome verbose both.now repertoire.now making.entry outcome) }
 {
     let answered = make_answer::<T>(alloc, both, repertoire, making);
+    make_report::<T>(alloc, verbose, both, making, answered)
+}
+
+/// The outcome of `make` on Compose files as they lie on the system. The files of names are read first, then those of the old table, those of the
+/// new one, and the repertoire. At the cost of `find_files` for both tables and of `make_migration`.
+pub fn run_make_files<T: ComposeTable, F: Folder>(
+    alloc: Global,
+    files: &mut ReadOnce<F>,
+    environment: &Environment,
+    options: Options<'_>,
+    pair: &FilePair<'_>,
+    making: MakeOptions<'_>,
+) -> Result<Outcome, Fault>
+    ensures kept { files.new.holds ≡ files.old.holds }
+    ensures outcome { IfOk result
+        (λ outcome. IsMakeFilesRun files.old.holds environment.now options.entry pair.now
+        making.entry outcome) }
+    ensures fault { IfErr result
+        (λ fault. FailsMakeFiles files.old.holds environment.now
+        (map (λ name. name.now) options.entry.names.now) pair.now making.entry.repertoire.now
+        fault) }
+{
+    let both = MigrationFiles::found(files, alloc, environment, options.names, pair)?;
+    let repertoire = read_text(files, alloc, making.repertoire)?;
+    let outcome = make_files_outcome::<T>(alloc, options.verbose, &both, &repertoire, making)?;
+    Ok(written_to(alloc, making.output, outcome)?)
+}
+
+/// The outcome of `make` on Compose files, once they are read.
+fn make_files_outcome<T: ComposeTable>(
+    alloc: Global,
+    verbose: bool,
+    both: &MigrationFiles<'_>,
+    repertoire: &[u8],
+    making: MakeOptions<'_>,
+) -> Result<Outcome, AllocError>
+    ensures { IfOk result
+        (λ outcome. IsMakeFilesOutcome verbose both.now repertoire.now making.entry outcome) }
+{
+    let answered = make_answer::<T>(alloc, both, repertoire, making);
+    let verbose = wants_details(verbose, &answered);
+    let printed = make_report::<T>(alloc, verbose, both, making, answered)?;
+    let notes = both.notes(alloc)?;
+    Ok(printed.with_notes(notes))
+}
+
+/// The outcome of what is answered to `make`, or refused.
+fn make_report<T: ComposeTable>(
+    alloc: Global,
+    verbose: bool,
+    both: &MigrationFiles<'_>,
+    making: MakeOptions<'_>,
+    answered: Result<Answer, Refusal>,
+) -> Result<Outcome, AllocError>
+    ensures { IfOk result
+        (λ outcome. IsReport verbose (make_given both.now making.entry) answered outcome) }
+{
     let tables = [GivenTable::of(&both.old), GivenTable::of(&both.new)];
     let listed = Given::of(&both.names, making.fresh, &tables);
     let given = Given {

@@ -1,7 +1,9 @@
 //! What a command on one Compose file reads.
-ghost use Rattle.std.specs.Prelude.{◌≡◌, ◌++◌, Ok, map, option_copied, IfOk, string_bytes};
+ghost use Rattle.std.specs.Prelude.{◌≡◌, ◌||◌, ◌++◌, Ok, map, option_copied, IfOk, IfErr, string_bytes};
 ghost use Rattle.compose_runs.specs.Environment as said;
 ghost use Rattle.compose_runs.specs.Environment.{GivesPlaces};
+ghost use Rattle.compose_input.specs.declared.fault.Fault.TheVariants.{NoMemory};
+ghost use Rattle.compose_runs.specs.Faults.{WhereGiven};
 ghost use Rattle.compose_runs.specs.OneTable as words;
 ghost use Rattle.compose_runs.specs.OneTable.{table_places, rule_unless};
 ghost use Rattle.compose_runs.specs.Own as own;
@@ -30,6 +32,7 @@ pub(crate) struct TableRead<'n> {
 }
 
 impl<'n> TableRead<'n> {
+    ghost use Rattle.compose_runs.specs.Faults.{FailsTableRead};
     ghost use Rattle.compose_runs.specs.OneTable.{IsTableRead, IsTableOutcome};
 
     /// Reads the files of names, and then the Compose file as it lies on the system; if none is given, that of the user, which is noted.
@@ -44,6 +47,9 @@ impl<'n> TableRead<'n> {
         ensures read { IfOk result
             (λ read. IsTableRead files.old.holds environment.now (map (λ name. name.now) names.now)
             arguments.now read) }
+        ensures fault { IfErr result
+            (λ fault. FailsTableRead files.old.holds environment.now
+            (map (λ name. name.now) names.now) arguments.now fault) }
     {
         let places = places_of(environment, arguments)?;
         let names = read_names(files, alloc, names)?;
@@ -84,13 +90,20 @@ impl<'n> TableRead<'n> {
 }
 
 /// Whether there is no answer.
-fn is_refused(answered: &Result<Answer, Refusal>) -> bool
+pub(crate) fn is_refused(answered: &Result<Answer, Refusal>) -> bool
     ensures { result ≡ words.is_refused answered.now }
 {
     match answered {
         Ok(_) => false,
         Err(_) => true,
     }
+}
+
+/// Whether more is printed than the answer or the line of a refusal: where it is asked for, and of a refusal always.
+pub(crate) fn wants_details(verbose: bool, answered: &Result<Answer, Refusal>) -> bool
+    ensures { result ≡ verbose || words.is_refused answered.now }
+{
+    verbose || is_refused(answered)
 }
 
 /// A text, and another one after it.
@@ -146,6 +159,8 @@ pub(crate) fn file_or_own<F: Folder>(
     ensures chosen { IfOk result
         (λ file. IsChosen files.old.holds environment.now places.entry (option_copied given.entry)
         file) }
+    ensures fault { IfErr result
+        (λ fault. WhereGiven (option_copied given.entry) (λ _. fault ≡ NoMemory)) }
 {
     match given {
         Some(path) => Ok(ChosenFile {

@@ -1,29 +1,16 @@
-use Rattle.std.proofs.Common.{refl, map, ap, ◌∙◌, ℕ, List, [], ◌∷◌, Bor}
-use Rattle.compose_report.specs.Outcomes.{IsReported}
 use Rattle.compose_report.proofs.Results.{ok_map}
-use Rattle.compose_runs.specs.Checking.{IsCheckOutcome, allowed_names}
-use Rattle.compose_runs.proofs.Lent.{names_or_none}
+use Rattle.compose_runs.specs.Checking.{IsCheckOutcome, allowed_names, given_parts, texts_of}
+use Rattle.compose_runs.specs.Reports.{IsReport}
 use Rattle.compose_runs.proofs.checking.check_outcome.Goals as goal
 
 pub returns : goal.returns
 returns g c =
-    let check = c.args.check.now in let paths = c.args.paths.now in let answered = c.check_answer-answered.result in
-    let given = record c.of-listed.result { repertoire = paths.repertoire; certificate = paths.certificate; certificate_text = c.deref.result } in
-    let parts = c.of-listed.ensures (check.both.old ∷ check.both.new ∷ []) (c.of.ensures, (c.of-2.ensures, tt)) in
-    ok_map (IsReported c.args.verbose given answered) (IsCheckOutcome c.args.verbose check paths (allowed_names c.args.allowed)) c.outcome_of.result
-    (λ outcome reported. record {
+    let check = c.args.check.now in let paths = c.args.paths.now in let answered = c.check_answer-answered.result in let allowed = allowed_names c.args.allowed in
+    ok_map (IsReport c.args.verbose (given_parts check (texts_of paths) allowed) answered) (IsCheckOutcome c.args.verbose check paths allowed) c.check_report.result
+    (λ outcome report. record {
       answered = answered;
       is = c.check_answer-answered.ensures;
-      given = given;
-      parts = record {
-        headers = parts.headers;
-        header = parts.header;
-        arguments = parts.arguments ∙ (ap (λ (l : Bor (List (Bor (List ℕ)))). map (λ name. name.now) l.now) c.unwrap_or.ensures ∙ names_or_none c.args.allowed _ refl);
-        tables = parts.tables;
-        repertoire = refl;
-        certificate = refl;
-        certificate_text = c.deref.ensures.value;
-        all = parts.all;
-      };
-      reported = reported;
-    }) c.outcome_of.ensures
+      given = report.given;
+      parts = report.are_parts;
+      reported = report.reported;
+    }) c.check_report.ensures

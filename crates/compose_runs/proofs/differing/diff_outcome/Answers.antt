@@ -8,5 +8,5 @@ returns g c = record {
   is = c.diff_answer-answered.ensures;
   printed = c.in_ok-printed.printed;
   is_printed = c.in_ok-printed.ensures;
-  noted = subst (λ notes. IsNoted notes c.in_ok-printed.printed c.with_notes.result) c.in_ok-notes_of.ensures c.with_notes.ensures;
+  noted = subst (λ notes. IsNoted notes c.in_ok-printed.printed c.with_notes.result) c.in_ok-notes.ensures c.with_notes.ensures;
 }

@@ -11,6 +11,6 @@ returns g c =
     ok_map (IsReported true c.of-given.result (Err c.args.refusal)) (IsRefusalOutcome files (map (λ name. name.now) c.args.fresh.now) c.args.refusal) c.outcome_of.result
     (λ outcome reported. record {
       given = c.of-given.result;
-      parts = c.of-given.ensures (files.old ∷ files.new ∷ []) (c.of.ensures, (c.of-2.ensures, tt));
+      parts = c.of-given.ensures (files.both.old ∷ files.both.new ∷ []) (c.of.ensures, (c.of-2.ensures, tt));
       is = reported;
     }) c.outcome_of.ensures

@@ -1,64 +1,28 @@
-use Rattle.std.proofs.Common.{◌∙◌, subst, option_copied, rules, ◌≡◌, inl, inr, map}
-use Rattle.compose_runs.specs.DiffFiles.{IsAccepted, IsDiffTable, place_arguments}
+use Rattle.std.proofs.Common.{subst, option_copied, rules, ◌≡◌, inl, inr, map}
 use Rattle.std.specs.Prelude.{Err}
+use Rattle.compose_runs.specs.DiffFiles.{IsAccepted}
+use Rattle.compose_runs.specs.Faults.{FailsAccepted, FailsDiff}
 use Rattle.compose_runs.proofs.Failing.{fails}
-use Rattle.compose_runs.specs.Faults.{FailsTable, FailsAccepted, FailsDiff}
 use Rattle.compose_runs.proofs.differing.DiffFiles.read.Goals as goal
 
 pub returns-clause-read : goal.returns-clause-read
-returns-clause-read g c =
-    let environment = c.args.environment.now in let arguments = c.args.arguments.now in
-    let names_kept = c.in_ok-names.ensures.kept in let old_kept = c.in_ok-old.ensures.kept ∙ names_kept in let new_kept = c.in_ok-new.ensures.kept ∙ old_kept in
-    record {
-      are_names = c.in_ok-names.ensures.read;
-      is_old = subst (λ f. IsDiffTable f environment arguments arguments.old_root arguments.old.now c.in_ok-old.old) names_kept c.in_ok-old.ensures.read;
-      is_new = subst (λ f. IsDiffTable f environment arguments arguments.new_root arguments.new.now c.in_ok-new.new) old_kept c.in_ok-new.ensures.read;
-      is_accepted = subst (λ f. IsAccepted f (option_copied arguments.accept) c.in_ok-accepted.accepted.items) new_kept c.in_ok-accepted.ensures.read;
-    }
+returns-clause-read g c = record {
+  are_both = c.in_ok-both.ensures.read;
+  is_accepted = subst (λ f. IsAccepted f (option_copied c.args.arguments.now.accept) c.in_ok-accepted.accepted.items) c.in_ok-both.ensures.kept c.in_ok-accepted.ensures.read;
+}
 
-pub returns-in_err-names-clause-fault : goal.returns-in_err-names-clause-fault
-returns-in_err-names-clause-fault g c =
-    let fault = c.in_err-names.field-0.0 in
+pub returns-in_err-both-clause-fault : goal.returns-in_err-both-clause-fault
+returns-in_err-both-clause-fault g c =
+    let fault = c.in_err-both.field-0.0 in
     let is : c.from_residual.result ≡ Err fault = search rules in
-    fails (FailsDiff c.args.files.now.holds c.args.environment.now (map (λ name. name.now) c.args.names.now) c.args.arguments.now) c.from_residual.result fault is (inr (inl c.in_err-names.ensures.fault))
-
-pub returns-in_err-old-clause-fault : goal.returns-in_err-old-clause-fault
-returns-in_err-old-clause-fault g c =
-    let fault = c.in_err-old.field-0.0 in let environment = c.args.environment.now in let arguments = c.args.arguments.now in
-    let is : c.from_residual-in_err-old.result ≡ Err fault = search rules in
-    fails (FailsDiff c.args.files.now.holds c.args.environment.now (map (λ name. name.now) c.args.names.now) c.args.arguments.now) c.from_residual-in_err-old.result fault is
-    (inr (inr (
-      (c.in_ok-names.names, c.in_ok-names.ensures.read),
-      inl (subst (λ f. FailsTable f environment (place_arguments arguments arguments.old_root) arguments.old.now fault) c.in_ok-names.ensures.kept c.in_err-old.ensures.fault),
-    )))
-
-pub returns-in_err-new-clause-fault : goal.returns-in_err-new-clause-fault
-returns-in_err-new-clause-fault g c =
-    let fault = c.in_err-new.field-0.0 in let environment = c.args.environment.now in let arguments = c.args.arguments.now in
-    let names_kept = c.in_ok-names.ensures.kept in let old_kept = c.in_ok-old.ensures.kept ∙ names_kept in
-    let is : c.from_residual-in_err-new.result ≡ Err fault = search rules in
-    fails (FailsDiff c.args.files.now.holds c.args.environment.now (map (λ name. name.now) c.args.names.now) c.args.arguments.now) c.from_residual-in_err-new.result fault is
-    (inr (inr (
-      (c.in_ok-names.names, c.in_ok-names.ensures.read),
-      inr (
-        (c.in_ok-old.old, subst (λ f. IsDiffTable f environment arguments arguments.old_root arguments.old.now c.in_ok-old.old) names_kept c.in_ok-old.ensures.read),
-        inl (subst (λ f. FailsTable f environment (place_arguments arguments arguments.new_root) arguments.new.now fault) old_kept c.in_err-new.ensures.fault),
-      ),
-    )))
+    fails (FailsDiff c.args.files.now.holds c.args.environment.now (map (λ name. name.now) c.args.names.now) c.args.arguments.now) c.from_residual.result fault is (inr (inl c.in_err-both.ensures.fault))
 
 pub returns-in_err-accepted-clause-fault : goal.returns-in_err-accepted-clause-fault
 returns-in_err-accepted-clause-fault g c =
-    let fault = c.in_err-accepted.field-0.0 in let environment = c.args.environment.now in let arguments = c.args.arguments.now in
-    let names_kept = c.in_ok-names.ensures.kept in let old_kept = c.in_ok-old.ensures.kept ∙ names_kept in let new_kept = c.in_ok-new.ensures.kept ∙ old_kept in
+    let fault = c.in_err-accepted.field-0.0 in
     let is : c.from_residual-in_err-accepted.result ≡ Err fault = search rules in
     fails (FailsDiff c.args.files.now.holds c.args.environment.now (map (λ name. name.now) c.args.names.now) c.args.arguments.now) c.from_residual-in_err-accepted.result fault is
     (inr (inr (
-      (c.in_ok-names.names, c.in_ok-names.ensures.read),
-      inr (
-        (c.in_ok-old.old, subst (λ f. IsDiffTable f environment arguments arguments.old_root arguments.old.now c.in_ok-old.old) names_kept c.in_ok-old.ensures.read),
-        inr (
-          (c.in_ok-new.new, subst (λ f. IsDiffTable f environment arguments arguments.new_root arguments.new.now c.in_ok-new.new) old_kept c.in_ok-new.ensures.read),
-          subst (λ f. FailsAccepted f (option_copied arguments.accept) fault) new_kept c.in_err-accepted.ensures.fault,
-        ),
-      ),
+      (c.in_ok-both.both, c.in_ok-both.ensures.read),
+      subst (λ f. FailsAccepted f (option_copied c.args.arguments.now.accept) fault) c.in_ok-both.ensures.kept c.in_err-accepted.ensures.fault,
     )))

@@ -1,0 +1,88 @@
+//! What a command says of the tables that it is given.
+use crate::table_arguments::{TableArguments, table_arguments};
+use clap::ArgMatches;
+
+/// The table that is typed with.
+#[derive(Clone, Copy)]
+pub enum TypeTable<'a> {
+    /// The path of its manifest.
+    Manifest(&'a str),
+    /// Its Compose file, as it lies on the system.
+    File(TableArguments<'a>),
+}
+
+/// An old and a new table.
+#[derive(Clone, Copy)]
+pub enum BothTables<'a> {
+    /// The paths of their manifests.
+    Manifests(TablePaths<'a>),
+    /// Their Compose files, as they lie on the system.
+    Files(FilePair<'a>),
+}
+
+/// The paths of what an old and a new table are read from.
+#[derive(Clone, Copy)]
+pub struct TablePaths<'a> {
+    /// The path of the old table's manifest.
+    pub old: &'a str,
+    /// The path of the new table's manifest.
+    pub new: &'a str,
+}
+
+/// The Compose files of an old and a new table, and where their includes lie.
+#[derive(Clone, Copy)]
+pub struct FilePair<'a> {
+    /// The path of the old Compose file.
+    pub old: &'a str,
+    /// The path of the new one.
+    pub new: &'a str,
+    /// Whether the longest of overlapping sequences is taken; else they are refused.
+    pub longest: bool,
+    /// The folder of the system's tables.
+    pub system: Option<&'a str>,
+    /// The name of a locale.
+    pub locale: Option<&'a str>,
+    /// The folder below which an absolute path of an include is looked for first, where a file of the old table includes it.
+    pub old_root: Option<&'a str>,
+    /// The same for the new table.
+    pub new_root: Option<&'a str>,
+}
+
+/// The table that is typed with, if it is given.
+pub fn type_table<'a>(given: &ArgMatches<'a>) -> Option<TypeTable<'a>> {
+    let path = given.get_str("TABLE")?;
+    if given.get_flag("files") {
+        return Some(TypeTable::File(table_arguments(given, Some(path))));
+    }
+    Some(TypeTable::Manifest(path))
+}
+
+/// An old and a new table, if they are given.
+pub fn both_tables<'a>(given: &ArgMatches<'a>) -> Option<BothTables<'a>> {
+    if given.get_flag("files") {
+        return file_pair(given).map(BothTables::Files);
+    }
+    Some(BothTables::Manifests(TablePaths {
+        old: given.get_str("OLD")?,
+        new: given.get_str("NEW")?,
+    }))
+}
+
+/// The Compose files of an old and a new table, if they are given.
+pub fn file_pair<'a>(given: &ArgMatches<'a>) -> Option<FilePair<'a>> {
+    let (old_root, new_root) = roots_of(given.get_strs("root").unwrap_or(&[]));
+    Some(FilePair {
+        old: given.get_str("OLD")?,
+        new: given.get_str("NEW")?,
+        longest: given.get_str("overlap") == Some("longest"),
+        system: given.get_str("system"),
+        locale: given.get_str("locale"),
+        old_root,
+        new_root,
+    })
+}
+
+/// The roots of the old and the new table: the first and the last that is given.
+fn roots_of<'a>(roots: &[&'a str]) -> (Option<&'a str>, Option<&'a str>) {
+    (roots.first().copied(), roots.last().copied())
+}

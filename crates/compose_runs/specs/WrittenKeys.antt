@@ -1,0 +1,48 @@
+-- Keys as the words of the command line write them where Compose files are given: by their names, or as their characters (this project's profile).
+use Rattle.std.specs.Prelude.{◌≡◌, ℕ, List, [], ◌∷◌, Option, Some, None, Result, Ok, Err, encode_utf8}
+use Rattle.keysym_core.specs.Names.{KeysymNames, value}
+use Rattle.keysym_core.specs.Next.{IsNextOf}
+use Rattle.keysym_core.specs.Printed.{printed}
+use Rattle.keysym_core.specs.declared.fault.NameFault.{NameFault}
+
+-- the character that the word is, if it is one alone
+abbrev pub IsCharacter : List ℕ → Option ℕ → Type 0
+IsCharacter word None = (c : ℕ) → word ≡ encode_utf8 c → ⊥
+IsCharacter word (Some c) = word ≡ encode_utf8 c
+
+-- the least keysym of the character, if it is there and a keysym has it
+abbrev pub IsKeyOf : KeysymNames → Option ℕ → Option ℕ → Type 0
+IsKeyOf names None found = found ≡ None
+IsKeyOf names (Some c) found = IsNextOf names c None found
+
+-- the word itself, or the name by which the keysym is printed that was found in its place
+abbrev pub name_of : KeysymNames → List ℕ → Option ℕ → List ℕ
+name_of names word None = word
+name_of names word (Some keysym) = printed names keysym
+
+-- the name of a word that names no keysym: that of its character, if it is one
+pub record IsNameOfCharacter (names : KeysymNames) (word name : List ℕ) : Type 0 where
+  pub character : Option ℕ
+  pub is_character : IsCharacter word character
+  pub found : Option ℕ
+  pub is_found : IsKeyOf names character found
+  pub is : name ≡ name_of names word found
+
+-- the name that a word with this value stands for: itself where it names a keysym
+abbrev pub IsWrittenAs : KeysymNames → List ℕ → Option ℕ → List ℕ → Type 0
+IsWrittenAs names word (Some keysym) name = name ≡ word
+IsWrittenAs names word None name = IsNameOfCharacter names word name
+
+abbrev pub IsWritten : KeysymNames → List ℕ → List ℕ → Type 0
+IsWritten names word name = IsWrittenAs names word (value names word) name
+
+-- the names that the words stand for, one by one
+abbrev pub AreNamed : KeysymNames → List (List ℕ) → List (List ℕ) → Type 0
+AreNamed names [] [] = Unit {0}
+AreNamed names (word ∷ words) (name ∷ keys) = IsWritten names word name × AreNamed names words keys
+AreNamed names words keys = ⊥
+
+-- by these names; the words themselves where the names are refused
+abbrev pub AreWritten : Result KeysymNames NameFault → List (List ℕ) → List (List ℕ) → Type 0
+AreWritten (Ok names) words keys = AreNamed names words keys
+AreWritten (Err fault) words keys = keys ≡ words
