@@ -91,7 +91,8 @@ no_control c safe =
     above (inl low) = absurd (omega (arith, leb-false 0 c low))
     above (inr high) = omega (arith, leb-false c 31 high)
 
-character_plain : (c : ℕ) → ArePlain (shown_character c)
+-- a character as it is printed
+pub character_plain : (c : ℕ) → ArePlain (shown_character c)
 character_plain c = by (is_unsafe c) refl
   where
     by : (t : Bool) → is_unsafe c ≡ t → ArePlain (shown_character c)

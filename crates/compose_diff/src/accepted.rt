@@ -39,14 +39,14 @@ impl From<AllocError> for AcceptFault {
     }
 }
 
-/// A line of a file of changes that are meant.
+/// A line of a list of what is meant: its number in the file, from 1, and its bytes without the newline.
 #[derive(Drop)]
-struct Line<'a> {
-    number: usize,
-    text: &'a [u8],
+pub struct ListLine<'a> {
+    pub number: usize,
+    pub text: &'a [u8],
 }
 
-impl<'a> Model for Line<'a> {
+impl<'a> Model for ListLine<'a> {
     ghost use Rattle.compose_diff.specs.Accepted as words;
 
     ghost Value = { words.Line };
@@ -57,7 +57,7 @@ impl<'a> Model for Line<'a> {
 /// The changes that are meant, as lines in the form in which rows are told.
 #[derive(Drop)]
 pub struct Accepted<'a> {
-    lines: Vec<Line<'a>>,
+    lines: Vec<ListLine<'a>>,
 }
 
 impl<'a> Model for Accepted<'a> {
@@ -75,7 +75,7 @@ impl<'a> Accepted<'a> {
     pub fn read(alloc: Global, bytes: &'a [u8]) -> Result<Accepted<'a>, AcceptFault>
         ensures { Gives result (accepted_of bytes.now) }
     {
-        let lines = said_lines(alloc, bytes)?;
+        let lines = list_lines(alloc, bytes)?;
         match first_bad(&lines) {
             Some(line) => Err(AcceptFault::BadLine { line }),
             None => Ok(Accepted { lines }),
@@ -106,8 +106,8 @@ impl<'a> Accepted<'a> {
     }
 }
 
-/// The lines of a file that are not skipped.
-fn said_lines(alloc: Global, bytes: &[u8]) -> Result<Vec<Line<'_>>, AllocError>
+/// The lines of a list of what is meant, but for the empty ones and those that begin with `#`. O(bytes).
+pub fn list_lines(alloc: Global, bytes: &[u8]) -> Result<Vec<ListLine<'_>>, AllocError>
     ensures { IfOk result (λ lines. lines.items ≡ words.said_from 1 (lines_of bytes.now)) }
 {
     let mut lines = Vec::new(alloc);
@@ -116,7 +116,7 @@ fn said_lines(alloc: Global, bytes: &[u8]) -> Result<Vec<Line<'_>>, AllocError>
     while let Some((text, behind)) = first_line(rest) {
         number += 1;
         if !is_skipped(text) {
-            lines.push(Line { number, text })?;
+            lines.push(ListLine { number, text })?;
         }
         rest = behind;
     }
@@ -134,7 +134,7 @@ fn is_skipped(line: &[u8]) -> bool
 }
 
 /// The number of the first line that is not in the form.
-fn first_bad(lines: &[Line]) -> Option<usize>
+fn first_bad(lines: &[ListLine]) -> Option<usize>
     ensures { result
         ≡ option_map (λ line. line.number) (find (λ line. not (words.is_in_form line)) lines.now) }
 {
@@ -147,7 +147,7 @@ fn first_bad(lines: &[Line]) -> Option<usize>
 }
 
 /// Whether the line begins as the line of a change that can be accepted.
-fn is_in_form(line: &Line) -> bool
+fn is_in_form(line: &ListLine) -> bool
     ensures { result ≡ words.is_in_form line.now }
 {
     begins_as(line.text, Change::Changed)
@@ -167,7 +167,11 @@ fn begins_as(text: &[u8], change: Change) -> bool
 }
 
 /// The number of the first line that tells none of the rows. Where there is no line, the rows are not looked at.
-fn stale_line(alloc: Global, lines: &[Line], rows: &[DiffRow]) -> Result<Option<usize>, AllocError>
+fn stale_line(
+    alloc: Global,
+    lines: &[ListLine],
+    rows: &[DiffRow],
+) -> Result<Option<usize>, AllocError>
     ensures { IfOk result
         (λ stale. stale
         ≡ option_map (λ line. line.number)
@@ -203,7 +207,7 @@ fn row_text(alloc: Global, row: &DiffRow) -> Result<String, AllocError>
 }
 
 /// The number of the first line that tells none of the texts. Texts in the order of the lines are found at once.
-fn first_stale(lines: &[Line], texts: &[String]) -> Option<usize>
+fn first_stale(lines: &[ListLine], texts: &[String]) -> Option<usize>
     ensures { result
         ≡ option_map (λ line. line.number)
         (find (words.is_stale (map (λ text. string_bytes text) texts.now)) lines.now) }
@@ -219,7 +223,7 @@ fn first_stale(lines: &[Line], texts: &[String]) -> Option<usize>
 }
 
 /// The index of a text that the line tells, looked for at the hint first.
-fn told_by(line: &Line, hint: usize, texts: &[String]) -> Option<usize>
+fn told_by(line: &ListLine, hint: usize, texts: &[String]) -> Option<usize>
     ensures told { not (is_some result)
         ≡ words.is_stale (map (λ text. string_bytes text) texts.now) line.now }
     ensures within { IfSome result (λ at. at < length texts.now) }
@@ -236,7 +240,7 @@ fn told_by(line: &Line, hint: usize, texts: &[String]) -> Option<usize>
 }
 
 /// Whether the line is the text, with places after it or without.
-fn tells(text: &str, line: &Line) -> bool
+fn tells(text: &str, line: &ListLine) -> bool
     ensures { result ≡ words.tells text.now line.now }
 {
     match line.text.strip_prefix(text.as_bytes()) {
@@ -259,7 +263,7 @@ fn is_end(rest: &[u8]) -> bool
 fn not_told<'r>(
     alloc: Global,
     rows: &[DiffRow<'r>],
-    lines: &[Line],
+    lines: &[ListLine],
 ) -> Result<Vec<DiffRow<'r>>, AllocError>
     ensures { IfOk result
         (λ left. left.items ≡ filter (λ row. not (words.is_accepted lines.now row)) rows.now) }
@@ -279,7 +283,7 @@ fn not_told<'r>(
 fn accepting(
     alloc: Global,
     row: &DiffRow,
-    lines: &[Line],
+    lines: &[ListLine],
     hint: usize,
 ) -> Result<Option<usize>, AllocError>
     ensures accepted { IfOk result (λ at. is_some at ≡ words.is_accepted lines.now row.now) }
@@ -293,7 +297,7 @@ fn accepting(
 }
 
 /// The index of a line that tells the text, looked for at the hint first.
-fn telling(lines: &[Line], hint: usize, text: &str) -> Option<usize>
+fn telling(lines: &[ListLine], hint: usize, text: &str) -> Option<usize>
     ensures told { is_some result ≡ list_any (words.tells text.now) lines.now }
     ensures within { IfSome result (λ at. at < length lines.now) }
 {

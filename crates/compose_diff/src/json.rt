@@ -64,7 +64,7 @@ fn push_sequence(
     write!(text, ",\"{name}\":")?;
     push_strings(text, sequence.keys)?;
     write!(text, ",\"{name}_file\":")?;
-    push_string(text, sequence.path)?;
+    push_json_string(text, sequence.path)?;
     write!(text, ",\"{name}_line\":{line}")?;
     Ok(())
 }
@@ -110,7 +110,7 @@ fn push_strings(text: &mut String, texts: &[&str]) -> Result<(), AllocError>
         return text.push_str("[]");
     };
     text.push_str("[")?;
-    push_string(text, first)?;
+    push_json_string(text, first)?;
     push_others(text, others)?;
     text.push_str("]")
 }
@@ -123,7 +123,7 @@ fn push_others(text: &mut String, texts: &[&str]) -> Result<(), AllocError>
 {
     for other in texts {
         text.push_str(",")?;
-        push_string(text, other)?;
+        push_json_string(text, other)?;
     }
     Ok(())
 }
@@ -134,7 +134,7 @@ fn push_text(text: &mut String, entry: &Option<Entry>) -> Result<(), AllocError>
         (string_bytes text.new ≡ string_bytes text.old ++ words.json_text entry.now) }
 {
     match entry {
-        Some(entry) => push_string(text, entry.text),
+        Some(entry) => push_json_string(text, entry.text),
         None => text.push_str("null"),
     }
 }
@@ -150,13 +150,14 @@ fn push_place(text: &mut String, side: &str, entry: &Option<Entry>) -> Result<()
     };
     let line = entry.line;
     write!(text, ",\"{side}_file\":")?;
-    push_string(text, entry.path)?;
+    push_json_string(text, entry.path)?;
     write!(text, ",\"{side}_line\":{line}")?;
     Ok(())
 }
 
-/// Appends the text as a JSON string to the text.
-fn push_string(text: &mut String, inside: &str) -> Result<(), AllocError>
+/// Appends the text as a JSON string (RFC 8259) to the text: in quotes, with a backslash before a quote and a backslash, and what may
+/// steer a terminal as `\u` and four hexadecimal digits. O(bytes).
+pub fn push_json_string(text: &mut String, inside: &str) -> Result<(), AllocError>
     ensures { OnOk result
         (string_bytes text.new ≡ string_bytes text.old ++ words.json_string inside.now) }
 {

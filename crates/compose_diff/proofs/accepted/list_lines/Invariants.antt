@@ -1,7 +1,7 @@
 use Rattle.std.proofs.Common.{◌≡◌, ◌≤◌, ◌+◌, ◌++◌, length}
 use Rattle.compose_text.specs.Lines.{lines_of}
 use Rattle.compose_diff.specs.Accepted.{said_from}
-use Rattle.compose_diff.proofs.accepted.said_lines.Given as goal
+use Rattle.compose_diff.proofs.accepted.list_lines.Given as goal
 
 -- the lines so far and those of the bytes that are left are all, and no more lines were read than bytes
 abbrev pub invariant-loop-text : goal.invariant-loop-text
