@@ -1,5 +1,6 @@
 pub mod Failing
 pub mod Given
 pub mod Lent
+pub mod Missing
 pub mod Slashes
 pub mod Variables

@@ -12,3 +12,6 @@ pub mod DiffFiles
 pub mod Differing
 pub mod Faults
 pub mod OneTable
+pub mod Listing
+pub mod HowTo
+pub mod Updating

@@ -1,7 +1,8 @@
 //! What a command on one Compose file reads.
-ghost use Rattle.std.specs.Prelude.{◌≡◌, ◌++◌, Ok, map, option_copied, IfOk, string_bytes};
+ghost use Rattle.std.specs.Prelude.{◌≡◌, ◌++◌, None, Ok, map, option_copied, IfOk, IfErr, string_bytes};
 ghost use Rattle.compose_runs.specs.Environment as said;
 ghost use Rattle.compose_runs.specs.Environment.{GivesPlaces};
+ghost use Rattle.compose_runs.specs.Faults.{FailsChosen};
 ghost use Rattle.compose_runs.specs.OneTable as words;
 ghost use Rattle.compose_runs.specs.OneTable.{table_places, rule_unless};
 ghost use Rattle.compose_runs.specs.Own as own;
@@ -30,6 +31,7 @@ pub(crate) struct TableRead<'n> {
 }
 
 impl<'n> TableRead<'n> {
+    ghost use Rattle.compose_runs.specs.Faults.{FailsTableRead};
     ghost use Rattle.compose_runs.specs.OneTable.{IsTableRead, IsTableOutcome};
 
     /// Reads the files of names, and then the Compose file as it lies on the system; if none is given, that of the user, which is noted.
@@ -44,6 +46,9 @@ impl<'n> TableRead<'n> {
         ensures read { IfOk result
             (λ read. IsTableRead files.old.holds environment.now (map (λ name. name.now) names.now)
             arguments.now read) }
+        ensures fault { IfErr result
+            (λ fault. FailsTableRead files.old.holds environment.now
+            (map (λ name. name.now) names.now) arguments.now fault) }
     {
         let places = places_of(environment, arguments)?;
         let names = read_names(files, alloc, names)?;
@@ -146,6 +151,8 @@ pub(crate) fn file_or_own<F: Folder>(
     ensures chosen { IfOk result
         (λ file. IsChosen files.old.holds environment.now places.entry (option_copied given.entry)
         file) }
+    ensures fault { IfErr result
+        (λ fault. FailsChosen environment.now places.entry (option_copied given.entry) fault) }
 {
     match given {
         Some(path) => Ok(ChosenFile {
@@ -180,6 +187,7 @@ fn user_file<F: Folder>(
     ensures kept { files.new.holds ≡ files.old.holds }
     ensures own { IfOk result
         (λ path. IsOwnFile files.old.holds environment.now places.entry (string_bytes path)) }
+    ensures fault { IfErr result (λ fault. FailsChosen environment.now places.entry None fault) }
 {
     let paths = own_paths(alloc, environment, places)?;
     if let Some(path) = first_file(files, alloc, &paths)? {
@@ -197,9 +205,10 @@ fn own_paths(
     environment: &Environment,
     places: Places<'_>,
 ) -> Result<Vec<String>, Fault>
-    ensures { IfOk result
+    ensures are { IfOk result
         (λ paths. own.own_paths environment.now places.entry
         ≡ Ok (map string_bytes paths.items)) }
+    ensures fault { IfErr result (λ fault. FailsChosen environment.now places.entry None fault) }
 {
     let compose_file = environment.xcomposefile.text()?;
     let config = environment.xdg_config_home.text()?;
