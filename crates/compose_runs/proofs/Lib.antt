@@ -1,8 +1,8 @@
 pub mod Characters
-pub mod Chosen
 pub mod Failing
 pub mod Given
 pub mod Lent
+pub mod Missing
 pub mod Slashes
 pub mod Variables
 pub mod WrittenKeys

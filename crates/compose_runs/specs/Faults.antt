@@ -1,14 +1,18 @@
 -- Why the files of a command can't be read: the first that is refused says it, and those before it are read (this project's profile).
 -- Memory may run out at any time: nothing more is known then.
-use Rattle.std.specs.Prelude.{◌≡◌, ◌⊎◌, ℕ, List, Option, Some, None, Err, option_copied, codes}
+use Rattle.std.specs.Prelude.{◌≡◌, ◌⊎◌, ℕ, List, Option, Some, None, Err, option_copied, string_bytes, codes}
 use Rattle.std.proofs.Common.{Bor}
 use Rattle.compose_folder.specs.Content.{Entry, File, IsHeld}
+use Rattle.compose_model.specs.declared.Rule.TheVariants.{Longest}
 use Rattle.compose_arguments.specs.declared.diff_arguments.DiffArguments.{DiffArguments}
 use Rattle.compose_arguments.specs.declared.given_tables.FilePair.{FilePair}
+use Rattle.compose_arguments.specs.declared.how_arguments.HowArguments.{HowArguments}
+use Rattle.compose_arguments.specs.declared.manifest_arguments.ManifestArguments.{ManifestArguments}
 use Rattle.compose_arguments.specs.declared.table_arguments.TableArguments.{TableArguments}
+use Rattle.compose_arguments.specs.declared.update_arguments.UpdateArguments.{UpdateArguments}
 use Rattle.compose_input.specs.Faults.{FailNames, FailsListed, FailsFound}
 use Rattle.compose_input.specs.Names.{AreNames}
-use Rattle.compose_input.specs.Tables.{IsListed}
+use Rattle.compose_input.specs.Tables.{IsListed, IsFoundOnSystem}
 use Rattle.compose_input.specs.Texts.{IsRead}
 use Rattle.compose_input.specs.declared.fault.Fault.{Fault}
 use Rattle.compose_input.specs.declared.fault.Fault.TheVariants.{Word, NoMemory}
@@ -19,12 +23,17 @@ use Rattle.compose_runs.specs.DiffFiles.{AreFoundFiles, IsFoundTable, names_or_b
 use Rattle.compose_runs.specs.Differing.{is_colored}
 use Rattle.compose_runs.specs.Environment.{IsPlaced, GivesColor, places_of}
 use Rattle.compose_runs.specs.Files.{AreMigrationFiles}
-use Rattle.compose_runs.specs.OneTable.{table_places}
+use Rattle.compose_runs.specs.Manifest as manifest
+use Rattle.compose_runs.specs.OneTable.{IsTableRead, table_places}
+use Rattle.compose_runs.specs.Own.{IsChosen, own_paths}
+use Rattle.compose_runs.specs.Updating.{builtin, update_places}
 use Rattle.compose_runs.specs.declared.checking.CheckPaths.{CheckPaths}
 use Rattle.compose_runs.specs.declared.checking.CheckTexts.{CheckTexts}
 use Rattle.compose_runs.specs.declared.environment.Environment.{Environment}
 use Rattle.compose_runs.specs.declared.environment.PlaceArguments.{PlaceArguments}
 use Rattle.compose_runs.specs.declared.files.MigrationFiles.{MigrationFiles}
+use Rattle.compose_runs.specs.declared.one_table.ChosenFile.{ChosenFile}
+use Rattle.compose_runs.specs.declared.one_table.TableRead.{TableRead}
 
 -- memory ran out, or this is why
 abbrev pub OrMemory : (Fault → Type 0) → Fault → Type 0
@@ -77,21 +86,6 @@ abbrev pub FailsTable : Option (List Entry) → Environment → PlaceArguments �
 FailsTable folder environment arguments path fault =
     ((places_of environment ≡ Err tt) × (fault ≡ Word)) ⊎ ((places : Places) × IsPlaced environment arguments places × FailsFound folder places path fault)
 
--- of a Compose file that is given: the environment, the names, the table
-abbrev pub FailsFile : Option (List Entry) → Environment → List (List ℕ) → PlaceArguments → List ℕ → Fault → Type 0
-FailsFile folder environment names arguments path fault =
-    OrMemory (λ f. ((places_of environment ≡ Err tt) × (f ≡ Word))
-    ⊎ ((places : Places) × IsPlaced environment arguments places
-    × (FailNames folder (names_or_builtin names) f ⊎ (HasNames folder (names_or_builtin names) × FailsFound folder places path f)))) fault
-
--- of a path that is given; of the user's own file nothing is said
-abbrev pub WhereGiven : Option (List ℕ) → (List ℕ → Type 0) → Type 0
-WhereGiven None P = Unit {0}
-WhereGiven (Some path) P = P path
-
-abbrev pub FailsTableRead : Option (List Entry) → Environment → List (List ℕ) → TableArguments → Fault → Type 0
-FailsTableRead folder environment names arguments fault = WhereGiven (option_copied arguments.file) (λ path. FailsFile folder environment names (table_places arguments) path fault)
-
 -- of two Compose files: the names, the old table, the new one
 abbrev pub FailsPair : Option (List Entry) → Environment → List (List ℕ) → FilePair → Fault → Type 0
 FailsPair folder environment names pair fault =
@@ -111,7 +105,7 @@ FailsCheckFiles folder environment names pair texts fault =
     OrMemory (λ f. FailsPair folder environment names pair f
     ⊎ (HasPair folder environment names pair × (IsRead folder texts.repertoire.now (Err f) ⊎ (HasFile folder texts.repertoire.now × IsRead folder texts.certificate.now (Err f))))) fault
 
--- the list of the changes that are meant, where one is given
+-- the file of an option, as the list of the changes that are meant, where its path is given
 abbrev pub FailsAccepted : Option (List Entry) → Option (List ℕ) → Fault → Type 0
 FailsAccepted folder None fault = fault ≡ NoMemory
 FailsAccepted folder (Some path) fault = IsRead folder path (Err fault)
@@ -124,3 +118,49 @@ FailsDiff folder environment names arguments fault =
 -- the same after the environment, which may say no text of colours
 abbrev pub FailsDiffRun : Option (List Entry) → Environment → List (List ℕ) → DiffArguments → Fault → Type 0
 FailsDiffRun folder environment names arguments fault = GivesColor (Err fault) (is_colored environment arguments) ⊎ FailsDiff folder environment names arguments fault
+
+-- ---- the commands on one Compose file
+
+-- of a file of the user's own, of which the environment says no text; nothing is refused of one that is given
+abbrev pub FailsChosen : Environment → Places → Option (List ℕ) → Fault → Type 0
+FailsChosen environment places (Some path) fault = fault ≡ NoMemory
+FailsChosen environment places None fault = OrMemory (λ f. (own_paths environment places ≡ Err tt) × (f ≡ Word)) fault
+
+-- which file it is, and then the search for its files
+abbrev pub FailsChosenTable : Option (List Entry) → Environment → Places → Option (List ℕ) → Fault → Type 0
+FailsChosenTable folder environment places given fault =
+    FailsChosen environment places given fault ⊎ ((file : ChosenFile) × IsChosen folder environment places given file × FailsFound folder places (string_bytes file.path) fault)
+
+-- the environment says no text where tables lie, or this is why, where it says it
+abbrev pub FailsPlaced : Environment → PlaceArguments → (Places → Fault → Type 0) → Fault → Type 0
+FailsPlaced environment arguments Fails fault =
+    ((places_of environment ≡ Err tt) × (fault ≡ Word)) ⊎ ((places : Places) × IsPlaced environment arguments places × Fails places fault)
+
+-- of `list`: the environment, the names, the table
+abbrev pub FailsTableRead : Option (List Entry) → Environment → List (List ℕ) → TableArguments → Fault → Type 0
+FailsTableRead folder environment names arguments fault =
+    OrMemory (FailsPlaced environment (table_places arguments)
+    (λ places f. FailNames folder (names_or_builtin names) f ⊎ (HasNames folder (names_or_builtin names) × FailsChosenTable folder environment places (option_copied arguments.file) f))) fault
+
+-- of `manifest`: the environment, the table
+abbrev pub FailsManifestRun : Option (List Entry) → Environment → ManifestArguments → Fault → Type 0
+FailsManifestRun folder environment arguments fault =
+    OrMemory (FailsPlaced environment (manifest.place_arguments arguments) (λ places f. FailsChosenTable folder environment places (option_copied arguments.file) f)) fault
+
+abbrev pub HasTableRead : Option (List Entry) → Environment → List (List ℕ) → TableArguments → Type 0
+HasTableRead folder environment names arguments = (read : TableRead) × IsTableRead folder environment names arguments read
+
+-- of `how`: these, and the repertoire, where one is given
+abbrev pub FailsHow : Option (List Entry) → Environment → List (List ℕ) → HowArguments → Fault → Type 0
+FailsHow folder environment names arguments fault =
+    OrMemory (λ f. FailsTableRead folder environment names arguments.table f
+    ⊎ (HasTableRead folder environment names arguments.table × FailsAccepted folder (option_copied arguments.repertoire) f)) fault
+
+-- of `update`: the environment, the names, the table, and the repertoire, where one is given
+abbrev pub FailsUpdateRead : Option (List Entry) → Environment → UpdateArguments → Fault → Type 0
+FailsUpdateRead folder environment arguments fault =
+    OrMemory (FailsPlaced environment (update_places arguments)
+    (λ places f. FailNames folder builtin f
+    ⊎ (HasNames folder builtin
+    × (FailsFound folder places arguments.file.now f
+    ⊎ (((table : TableFiles) × IsFoundOnSystem folder places arguments.file.now Longest table) × FailsAccepted folder (option_copied arguments.repertoire) f))))) fault

@@ -14,3 +14,6 @@ pub mod Faults
 pub mod OneTable
 pub mod Reports
 pub mod WrittenKeys
+pub mod Listing
+pub mod HowTo
+pub mod Updating

@@ -1,5 +1,15 @@
 //! `how` and `list`: the sequences of one Compose file.
-ghost use Rattle.std.specs.Prelude.{◌≡◌};
+ghost use Rattle.std.specs.Prelude.{◌≡◌, ◌++◌, [], map, unwrap_or, option_map, option_copied, IfOk, IfErr, OnOk, string_bytes};
+ghost use Rattle.std.specs.List.{list_all};
+ghost use Rattle.compose_answer.specs.Refused.{Gives};
+ghost use Rattle.compose_listing.specs.Answers.{AreWays, IsListed, how_parts};
+ghost use Rattle.compose_listing.specs.Wanted as wanted_words;
+ghost use Rattle.compose_input.specs.Tables.{sources_of};
+ghost use Rattle.compose_runs.specs.Faults.{FailsAccepted, FailsHow, FailsTableRead};
+ghost use Rattle.compose_runs.specs.HowTo as how_words;
+ghost use Rattle.compose_runs.specs.HowTo.{AnswersHow, HasErrors, IsGivenText, IsHowOutcome, IsHowRun, IsWaysOutcome};
+ghost use Rattle.compose_runs.specs.Listing as words;
+ghost use Rattle.compose_runs.specs.Listing.{AnswersList, AnswersNext, AnswersSequences, IsListRun, list_parts};
 
 use crate::environment::Environment;
 use crate::one_table::TableRead;
@@ -17,26 +27,8 @@ use compose_tree::ComposeTable;
 use std::alloc::{AllocError, Global};
 use std::fmt::Write;
 
-/// The outcome of `how`: the sequences that give each of these texts, and on standard error the texts that no sequence gives. The files of names are
-/// read first, then those of the table, and the repertoire. At the cost of `find_files` and of `how_to_type`.
-pub fn run_how<T: ComposeTable, F: Folder>(
-    alloc: Global,
-    files: &mut ReadOnce<F>,
-    environment: &Environment,
-    names: &[&str],
-    arguments: &HowArguments<'_>,
-    texts: &[&str],
-) -> Result<Outcome, Fault>
-    ensures kept { files.new.holds ≡ files.old.holds }
-{
-    let read = TableRead::read(alloc, files, environment, names, &arguments.table)?;
-    let repertoire = read_given(alloc, files, arguments.repertoire)?;
-    let answered = how_answer::<T>(alloc, &read, arguments, &repertoire, texts);
-    Ok(how_outcome::<T>(alloc, read, arguments, texts, answered)?)
-}
-
-/// The outcome of `list`: the sequences of a Compose file, or the keys that can follow some keys. At the cost of `find_files` and of `list_table` or
-/// `list_next`.
+/// The outcome of `list`: the sequences of a Compose file, or the keys that can follow some keys. The files of names are read first, then those of the
+/// table. At the cost of `find_files` and of `list_table` or `list_next`.
 pub fn run_list<T: ComposeTable, F: Folder>(
     alloc: Global,
     files: &mut ReadOnce<F>,
@@ -45,10 +37,150 @@ pub fn run_list<T: ComposeTable, F: Folder>(
     arguments: &ListArguments<'_>,
 ) -> Result<Outcome, Fault>
     ensures kept { files.new.holds ≡ files.old.holds }
+    ensures outcome { IfOk result
+        (λ outcome. IsListRun files.old.holds environment.now (map (λ name. name.now) names.now)
+        arguments.now outcome) }
+    ensures fault { IfErr result
+        (λ fault. FailsTableRead files.old.holds environment.now
+        (map (λ name. name.now) names.now) arguments.now.table fault) }
 {
     let read = TableRead::read(alloc, files, environment, names, &arguments.table)?;
     let answered = list_answer::<T>(alloc, &read, arguments);
     Ok(read.outcome::<T>(alloc, &arguments.prefix, "", answered)?)
+}
+
+/// The sequences of the table, or the keys that can follow.
+fn list_answer<T: ComposeTable>(
+    alloc: Global,
+    read: &TableRead<'_>,
+    arguments: &ListArguments<'_>,
+) -> Result<Answer, Refusal>
+    ensures { AnswersList arguments.now.next read.now arguments.now result }
+{
+    if arguments.next {
+        next_answer::<T>(alloc, read, arguments)
+    } else {
+        sequences_answer::<T>(alloc, read, arguments)
+    }
+}
+
+/// The keys that can follow.
+fn next_answer<T: ComposeTable>(
+    alloc: Global,
+    read: &TableRead<'_>,
+    arguments: &ListArguments<'_>,
+) -> Result<Answer, Refusal>
+    ensures { AnswersNext read.now arguments.now result }
+{
+    let form = form_of(arguments.json);
+    let table = read.table.input();
+    list_next::<T>(alloc, &read.names.lines, &table, &arguments.prefix, form)
+}
+
+/// The sequences of the table.
+fn sequences_answer<T: ComposeTable>(
+    alloc: Global,
+    read: &TableRead<'_>,
+    arguments: &ListArguments<'_>,
+) -> Result<Answer, Refusal>
+    ensures { AnswersSequences read.now arguments.now result }
+{
+    let text = asked_text(alloc, arguments.text)?;
+    let paths = read.table.path_texts(alloc)?;
+    asked_answer::<T>(alloc, read, arguments, text_of(&text), &paths)
+}
+
+/// The sequences of the table, whose files have these paths, that give this text if there is one.
+fn asked_answer<'a, T: ComposeTable>(
+    alloc: Global,
+    read: &TableRead<'_>,
+    arguments: &'a ListArguments<'a>,
+    text: Option<&'a str>,
+    paths: &[&str],
+) -> Result<Answer, Refusal>
+    ensures { Gives
+        (IsListed read.now.table.sources (map (λ path. path.now) paths.now)
+        (option_copied text.entry) (words.order_of arguments.now.sort)
+        (words.form_of arguments.now.json)) result (list_parts read.now arguments.now) }
+{
+    let order = order_of(arguments.sort);
+    let form = form_of(arguments.json);
+    let wanted = ListWanted {
+        prefix: &arguments.prefix,
+        text,
+        order,
+        form,
+    };
+    let table = read.table.input();
+    list_table::<T>(alloc, &read.names.lines, &table, paths, wanted)
+}
+
+/// The text that is asked for, if a word for one is given.
+fn asked_text(alloc: Global, word: Option<&str>) -> Result<Option<String>, AllocError>
+    ensures { IfOk result
+        (λ text. option_map string_bytes text
+        ≡ option_map wanted_words.wanted_text (option_copied word.entry)) }
+{
+    match word {
+        Some(word) => Ok(Some(wanted_text(alloc, word)?)),
+        None => Ok(None),
+    }
+}
+
+/// The text, if it is there.
+fn text_of(text: &Option<String>) -> Option<&str>
+    ensures { option_copied result ≡ option_map string_bytes text.now }
+{
+    match text {
+        Some(text) => Some(text),
+        None => None,
+    }
+}
+
+/// The form in which sequences are printed.
+fn form_of(json: bool) -> ListForm
+    ensures { result ≡ words.form_of json }
+{
+    if json {
+        ListForm::Json
+    } else {
+        ListForm::Lines
+    }
+}
+
+/// The order in which they are printed.
+fn order_of(sort: ListSort) -> ListOrder
+    ensures { result ≡ words.order_of sort }
+{
+    match sort {
+        ListSort::Keys => ListOrder::Keys,
+        ListSort::Text => ListOrder::Text,
+        ListSort::File => ListOrder::File,
+    }
+}
+
+/// The outcome of `how`: the sequences that give the texts of these words, and on standard error the words of texts that no sequence gives. The files
+/// of names are read first, then those of the table, and the repertoire. At the cost of `find_files` and of `how_to_type`.
+pub fn run_how<T: ComposeTable, F: Folder>(
+    alloc: Global,
+    files: &mut ReadOnce<F>,
+    environment: &Environment,
+    names: &[&str],
+    arguments: &HowArguments<'_>,
+    words: &[&str],
+) -> Result<Outcome, Fault>
+    ensures kept { files.new.holds ≡ files.old.holds }
+    ensures outcome { IfOk result
+        (λ outcome. IsHowRun files.old.holds environment.now (map (λ name. name.now) names.now)
+        arguments.now (map (λ word. word.now) words.now) outcome) }
+    ensures fault { IfErr result
+        (λ fault. FailsHow files.old.holds environment.now (map (λ name. name.now) names.now)
+        arguments.now fault) }
+{
+    let read = TableRead::read(alloc, files, environment, names, &arguments.table)?;
+    let repertoire = read_given(alloc, files, arguments.repertoire)?;
+    let answered = how_answer::<T>(alloc, &read, arguments, &repertoire, words);
+    Ok(how_outcome::<T>(alloc, read, arguments, words, answered)?)
 }
 
 /// The bytes of the file at this path, if one is given.
@@ -58,6 +190,11 @@ fn read_given<F: Folder>(
     path: Option<&str>,
 ) -> Result<Option<Vec<u8>>, Fault>
     ensures kept { files.new.holds ≡ files.old.holds }
+    ensures read { IfOk result
+        (λ bytes. IsGivenText files.old.holds (option_copied path.entry)
+        (option_map (λ held. held.items) bytes)) }
+    ensures fault { IfErr result
+        (λ fault. FailsAccepted files.old.holds (option_copied path.entry) fault) }
 {
     match path {
         Some(path) => Ok(Some(read_text(files, alloc, path)?)),
@@ -65,164 +202,175 @@ fn read_given<F: Folder>(
     }
 }
 
-/// How these texts can be typed with the table.
+/// How the texts of these words can be typed with the table.
 fn how_answer<T: ComposeTable>(
     alloc: Global,
     read: &TableRead<'_>,
     arguments: &HowArguments<'_>,
     repertoire: &Option<Vec<u8>>,
-    texts: &[&str],
-) -> Result<Ways, Refusal> {
-    let texts = wanted_texts(alloc, texts)?;
-    let texts = borrowed(alloc, &texts)?;
+    words: &[&str],
+) -> Result<Ways, Refusal>
+    ensures { AnswersHow read.now arguments.now
+        (option_map (λ held. held.items) repertoire.now) (map (λ word. word.now) words.now)
+        result }
+{
+    let wanted = wanted_texts(alloc, words)?;
+    let texts = borrowed(alloc, &wanted)?;
     let paths = read.table.path_texts(alloc)?;
-    let repertoire = bytes_of(repertoire);
+    ways_answer::<T>(alloc, read, arguments, bytes_of(repertoire), &texts, &paths)
+}
+
+/// How these texts can be typed with the table, whose files have these paths.
+fn ways_answer<'a, T: ComposeTable>(
+    alloc: Global,
+    read: &TableRead<'_>,
+    arguments: &HowArguments<'_>,
+    repertoire: Option<&'a [u8]>,
+    texts: &'a [&'a str],
+    paths: &[&str],
+) -> Result<Ways, Refusal>
+    ensures { Gives
+        (AreWays read.now.table.sources (map (λ path. path.now) paths.now)
+        (map (λ text. text.now) texts.now) arguments.now.first
+        (words.form_of arguments.now.json)) result
+        (how_parts read.now.names.lines.items (sources_of read.now.table)
+        (option_copied repertoire.entry)) }
+{
+    let first = arguments.first;
+    let form = form_of(arguments.json);
     let wanted = HowWanted {
-        texts: &texts,
+        texts,
         repertoire,
-        first: arguments.first,
-        form: form_of(arguments.json),
+        first,
+        form,
     };
-    how_to_type::<T>(
-        alloc,
-        &read.names.lines,
-        &read.table.input(),
-        &paths,
-        wanted,
-    )
+    let table = read.table.input();
+    how_to_type::<T>(alloc, &read.names.lines, &table, paths, wanted)
 }
 
 /// The bytes, if they are there.
-fn bytes_of(bytes: &Option<Vec<u8>>) -> Option<&[u8]> {
+fn bytes_of(bytes: &Option<Vec<u8>>) -> Option<&[u8]>
+    ensures { option_copied result ≡ option_map (λ held. held.items) bytes.now }
+{
     match bytes {
         Some(bytes) => Some(bytes),
         None => None,
     }
 }
 
-/// The sequences of the table, or the keys that can follow.
-fn list_answer<T: ComposeTable>(
-    alloc: Global,
-    read: &TableRead<'_>,
-    arguments: &ListArguments<'_>,
-) -> Result<Answer, Refusal> {
-    let form = form_of(arguments.json);
-    if arguments.next {
-        let (header, table) = (&read.names.lines, read.table.input());
-        return list_next::<T>(alloc, header, &table, &arguments.prefix, form);
-    }
-    sequences_answer::<T>(alloc, read, arguments, form)
-}
-
-/// The sequences of the table.
-fn sequences_answer<T: ComposeTable>(
-    alloc: Global,
-    read: &TableRead<'_>,
-    arguments: &ListArguments<'_>,
-    form: ListForm,
-) -> Result<Answer, Refusal> {
-    let asked = match arguments.text {
-        Some(text) => Some(wanted_text(alloc, text)?),
-        None => None,
-    };
-    let paths = read.table.path_texts(alloc)?;
-    let order = order_of(arguments.sort);
-    let wanted = wanted_list(&arguments.prefix, text_of(&asked), order, form);
-    let (header, table) = (&read.names.lines, read.table.input());
-    list_table::<T>(alloc, header, &table, &paths, wanted)
-}
-
-/// The text, if it is there.
-fn text_of(text: &Option<String>) -> Option<&str> {
-    match text {
-        Some(text) => Some(text),
-        None => None,
-    }
-}
-
-/// Which sequences are asked for.
-fn wanted_list<'a>(
-    prefix: &'a [&'a str],
-    text: Option<&'a str>,
-    order: ListOrder,
-    form: ListForm,
-) -> ListWanted<'a> {
-    ListWanted {
-        prefix,
-        text,
-        order,
-        form,
-    }
-}
-
-/// The form in which sequences are printed.
-fn form_of(json: bool) -> ListForm {
-    if json {
-        ListForm::Json
-    } else {
-        ListForm::Lines
-    }
-}
-
-/// The order in which they are printed.
-fn order_of(sort: ListSort) -> ListOrder {
-    match sort {
-        ListSort::Keys => ListOrder::Keys,
-        ListSort::Text => ListOrder::Text,
-        ListSort::File => ListOrder::File,
-    }
-}
-
 /// The texts that these words stand for.
-fn wanted_texts(alloc: Global, texts: &[&str]) -> Result<Vec<String>, AllocError> {
-    let mut wanted = Vec::new(alloc);
-    for text in texts {
-        wanted.push(wanted_text(alloc, text)?)?;
+fn wanted_texts(alloc: Global, words: &[&str]) -> Result<Vec<String>, AllocError>
+    ensures { IfOk result
+        (λ texts. map string_bytes texts.items
+        ≡ map wanted_words.wanted_text (map (λ word. word.now) words.now)) }
+{
+    let mut texts = Vec::new(alloc);
+    for word in words {
+        texts.push(wanted_text(alloc, word)?)?;
     }
-    Ok(wanted)
+    Ok(texts)
 }
 
 /// These texts.
-fn borrowed(alloc: Global, texts: &[String]) -> Result<Vec<&str>, AllocError> {
-    let mut borrowed = Vec::new(alloc);
+fn borrowed(alloc: Global, texts: &[String]) -> Result<Vec<&str>, AllocError>
+    ensures { IfOk result
+        (λ lent. map (λ text. text.now) lent.items ≡ map string_bytes texts.now) }
+{
+    let mut lent = Vec::new(alloc);
     for text in texts {
-        borrowed.push(text.as_str())?;
+        lent.push(text.as_str())?;
     }
-    Ok(borrowed)
+    Ok(lent)
 }
 
-/// The outcome of the sequences that were found: no if some text has none.
+/// The outcome of `how`, once it is answered.
 fn how_outcome<T: ComposeTable>(
     alloc: Global,
     read: TableRead<'_>,
     arguments: &HowArguments<'_>,
-    texts: &[&str],
+    words: &[&str],
     answered: Result<Ways, Refusal>,
-) -> Result<Outcome, AllocError> {
+) -> Result<Outcome, AllocError>
+    ensures { IfOk result
+        (λ outcome. IsHowOutcome read.entry
+        (unwrap_or (option_copied arguments.now.repertoire) [])
+        (map (λ word. word.now) words.now) answered outcome) }
+{
     let repertoire = arguments.repertoire.unwrap_or("");
     match answered {
-        Ok(Ways { lines, found }) => {
-            let errors = missing_lines(alloc, texts, &found)?;
-            let answer = if errors.is_empty() {
-                Answer::Yes(lines)
-            } else {
-                Answer::No(lines)
-            };
-            let outcome = read.outcome::<T>(alloc, &[], repertoire, Ok(answer))?;
-            Ok(Outcome { errors, ..outcome })
-        }
+        Ok(ways) => ways_outcome::<T>(alloc, read, repertoire, words, ways),
         Err(refusal) => read.outcome::<T>(alloc, &[], repertoire, Err(refusal)),
     }
 }
 
-/// A line for each text that no sequence gives.
-fn missing_lines(alloc: Global, texts: &[&str], found: &[bool]) -> Result<String, AllocError> {
+/// The outcome of the sequences that were found: no where some text has none.
+fn ways_outcome<T: ComposeTable>(
+    alloc: Global,
+    read: TableRead<'_>,
+    repertoire: &str,
+    words: &[&str],
+    ways: Ways,
+) -> Result<Outcome, AllocError>
+    ensures { IfOk result
+        (λ outcome. IsWaysOutcome read.entry repertoire.now (map (λ word. word.now) words.now) ways
+        outcome) }
+{
+    let errors = missing_lines(alloc, words, &ways.found)?;
+    let answer = answer_of(ways);
+    let outcome = read.outcome::<T>(alloc, &[], repertoire, Ok(answer))?;
+    Ok(with_errors(outcome, errors))
+}
+
+/// The lines as an answer: yes where each text is found.
+fn answer_of(ways: Ways) -> Answer
+    ensures { result ≡ how_words.answer_by (list_all (λ is_found. is_found) ways.found.items) ways.lines }
+{
+    if are_found(&ways.found) {
+        Answer::Yes(ways.lines)
+    } else {
+        Answer::No(ways.lines)
+    }
+}
+
+/// Whether each text is found.
+fn are_found(found: &[bool]) -> bool
+    ensures { result ≡ list_all (λ is_found. is_found) found.now }
+{
+    found.iter().all(|is_found| *is_found)
+}
+
+/// The same outcome, with these errors.
+fn with_errors(outcome: Outcome, errors: String) -> Outcome
+    ensures { HasErrors (string_bytes errors) outcome result }
+{
+    Outcome { errors, ..outcome }
+}
+
+/// A line for each word whose text no sequence gives.
+fn missing_lines(alloc: Global, words: &[&str], found: &[bool]) -> Result<String, AllocError>
+    ensures { IfOk result
+        (λ lines. string_bytes lines
+        ≡ how_words.missing_lines (map (λ word. word.now) words.now) found.now) }
+{
     let mut lines = String::new(alloc);
-    for (index, text) in texts.iter().enumerate() {
-        if found.get(index) != Some(&true) {
-            let text = Shown(text);
-            writeln!(lines, "no sequence gives {text}")?;
-        }
+    for index in 0..words.len() {
+        let Some(is_found) = found.get(index) else {
+            return Ok(lines);
+        };
+        push_missing(&mut lines, words[index], *is_found)?;
     }
     Ok(lines)
+}
+
+/// Appends the line of a word whose text no sequence gives.
+fn push_missing(lines: &mut String, word: &str, is_found: bool) -> Result<(), AllocError>
+    ensures { OnOk result
+        (string_bytes lines.new
+        ≡ string_bytes lines.old ++ how_words.missing_line is_found word.now) }
+{
+    if !is_found {
+        let word = Shown(word);
+        writeln!(lines, "no sequence gives {word}")?;
+    }
+    Ok(())
 }

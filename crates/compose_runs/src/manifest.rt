@@ -1,5 +1,6 @@
 //! `manifest`: the sources of a Compose file on the system.
-ghost use Rattle.std.specs.Prelude.{◌≡◌, ◌++◌, ◌∷◌, [], IfOk, string_bytes, codes};
+ghost use Rattle.std.specs.Prelude.{◌≡◌, ◌++◌, ◌∷◌, [], IfOk, IfErr, string_bytes, codes};
+ghost use Rattle.compose_runs.specs.Faults.{FailsManifestRun};
 ghost use Rattle.compose_runs.specs.Manifest.{IsManifestRun, IsManifestOutcome, IsWrittenManifest, PrintsRefusal};
 
 use crate::environment::{Environment, PlaceArguments};
@@ -24,6 +25,8 @@ pub fn run_manifest<F: Folder>(
     ensures kept { files.new.holds ≡ files.old.holds }
     ensures outcome { IfOk result
         (λ outcome. IsManifestRun files.old.holds environment.now arguments.now outcome) }
+    ensures fault { IfErr result
+        (λ fault. FailsManifestRun files.old.holds environment.now arguments.now fault) }
 {
     let places = environment.places(PlaceArguments {
         system: arguments.system,

@@ -1,9 +1,8 @@
 //! What a command on one Compose file reads.
-ghost use Rattle.std.specs.Prelude.{◌≡◌, ◌||◌, ◌++◌, Ok, map, option_copied, IfOk, IfErr, string_bytes};
+ghost use Rattle.std.specs.Prelude.{◌≡◌, ◌||◌, ◌++◌, None, Ok, map, option_copied, IfOk, IfErr, string_bytes};
 ghost use Rattle.compose_runs.specs.Environment as said;
 ghost use Rattle.compose_runs.specs.Environment.{GivesPlaces};
-ghost use Rattle.compose_input.specs.declared.fault.Fault.TheVariants.{NoMemory};
-ghost use Rattle.compose_runs.specs.Faults.{WhereGiven};
+ghost use Rattle.compose_runs.specs.Faults.{FailsChosen};
 ghost use Rattle.compose_runs.specs.OneTable as words;
 ghost use Rattle.compose_runs.specs.OneTable.{table_places, rule_unless};
 ghost use Rattle.compose_runs.specs.Own as own;
@@ -160,7 +159,7 @@ pub(crate) fn file_or_own<F: Folder>(
         (λ file. IsChosen files.old.holds environment.now places.entry (option_copied given.entry)
         file) }
     ensures fault { IfErr result
-        (λ fault. WhereGiven (option_copied given.entry) (λ _. fault ≡ NoMemory)) }
+        (λ fault. FailsChosen environment.now places.entry (option_copied given.entry) fault) }
 {
     match given {
         Some(path) => Ok(ChosenFile {
@@ -195,6 +194,7 @@ fn user_file<F: Folder>(
     ensures kept { files.new.holds ≡ files.old.holds }
     ensures own { IfOk result
         (λ path. IsOwnFile files.old.holds environment.now places.entry (string_bytes path)) }
+    ensures fault { IfErr result (λ fault. FailsChosen environment.now places.entry None fault) }
 {
     let paths = own_paths(alloc, environment, places)?;
     if let Some(path) = first_file(files, alloc, &paths)? {
@@ -212,9 +212,10 @@ fn own_paths(
     environment: &Environment,
     places: Places<'_>,
 ) -> Result<Vec<String>, Fault>
-    ensures { IfOk result
+    ensures are { IfOk result
         (λ paths. own.own_paths environment.now places.entry
         ≡ Ok (map string_bytes paths.items)) }
+    ensures fault { IfErr result (λ fault. FailsChosen environment.now places.entry None fault) }
 {
     let compose_file = environment.xcomposefile.text()?;
     let config = environment.xdg_config_home.text()?;

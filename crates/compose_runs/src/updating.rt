@@ -1,5 +1,8 @@
 //! `update`: what is read, and what is then done with the table in use.
-ghost use Rattle.std.specs.Prelude.{◌≡◌};
+ghost use Rattle.std.specs.Prelude.{◌≡◌, Some, map, option_map, option_copied, IfOk, IfErr};
+ghost use Rattle.compose_runs.specs.Faults.{FailsAccepted};
+ghost use Rattle.compose_runs.specs.Updating.{FailsStored, IsRepertoire, IsUpdateDone, IsUpdateOf, IsUpdateRefusal, IsUpdateRun, update_given};
+ghost use Rattle.compose_update.specs.Update.{given_update};
 
 use crate::environment::{Environment, PlaceArguments};
 use compose_answer::{Ended, Refusal};
@@ -41,6 +44,9 @@ pub enum UpdateRun {
 }
 
 impl UpdateFiles {
+    ghost use Rattle.compose_runs.specs.Faults.{FailsUpdateRead};
+    ghost use Rattle.compose_runs.specs.Updating.{AreUpdateFiles};
+
     /// Reads the Compose file as it lies on the system, and the repertoire. At the cost of `find_files`.
     pub fn read<F: Folder>(
         alloc: Global,
@@ -49,6 +55,10 @@ impl UpdateFiles {
         arguments: &UpdateArguments<'_>,
     ) -> Result<UpdateFiles, Fault>
         ensures kept { files.new.holds ≡ files.old.holds }
+        ensures read { IfOk result
+            (λ read. AreUpdateFiles files.old.holds environment.now arguments.now read) }
+        ensures fault { IfErr result
+            (λ fault. FailsUpdateRead files.old.holds environment.now arguments.now fault) }
     {
         let places = environment.places(PlaceArguments {
             system: arguments.system,
@@ -74,6 +84,10 @@ fn read_repertoire<F: Folder>(
     path: Option<&str>,
 ) -> Result<Vec<u8>, Fault>
     ensures kept { files.new.holds ≡ files.old.holds }
+    ensures read { IfOk result
+        (λ bytes. IsRepertoire files.old.holds (option_copied path.entry) bytes.items) }
+    ensures fault { IfErr result
+        (λ fault. FailsAccepted files.old.holds (option_copied path.entry) fault) }
 {
     match path {
         Some(path) => read_text(files, alloc, path),
@@ -88,10 +102,31 @@ pub fn run_update<T: ComposeTable>(
     verbose: bool,
     fresh: &[&str],
     stored: Option<&[u8]>,
-) -> Result<UpdateRun, Fault> {
-    let Some(stored) = stored else {
-        return Ok(update_of::<T>(alloc, files, verbose, fresh, None)?);
-    };
+) -> Result<UpdateRun, Fault>
+    ensures run { IfOk result
+        (λ run. IsUpdateRun verbose files.now (map (λ name. name.now) fresh.now)
+        (option_copied stored.entry) run) }
+    ensures fault { IfErr result (λ fault. FailsStored (option_copied stored.entry) fault) }
+{
+    match stored {
+        Some(stored) => update_stored::<T>(alloc, files, verbose, fresh, stored),
+        None => Ok(update_of::<T>(alloc, files, verbose, fresh, None)?),
+    }
+}
+
+/// The same, where these bytes are stored.
+fn update_stored<T: ComposeTable>(
+    alloc: Global,
+    files: &UpdateFiles,
+    verbose: bool,
+    fresh: &[&str],
+    stored: &[u8],
+) -> Result<UpdateRun, Fault>
+    ensures run { IfOk result
+        (λ run. IsUpdateRun verbose files.now (map (λ name. name.now) fresh.now)
+        (Some stored.now) run) }
+    ensures fault { IfErr result (λ fault. FailsStored (Some stored.now) fault) }
+{
     match read_bundle(alloc, stored) {
         Ok(bundle) => {
             let current = Some(&bundle.sources);
@@ -109,7 +144,11 @@ fn update_of<T: ComposeTable>(
     verbose: bool,
     fresh: &[&str],
     current: Option<&Sources>,
-) -> Result<UpdateRun, AllocError> {
+) -> Result<UpdateRun, AllocError>
+    ensures { IfOk result
+        (λ run. IsUpdateOf verbose files.now (map (λ name. name.now) fresh.now)
+        (option_map (λ sources. sources.now) current.entry) run) }
+{
     let input = UpdateInput {
         header: &files.names.lines,
         fresh,
@@ -118,17 +157,20 @@ fn update_of<T: ComposeTable>(
         repertoire: &files.repertoire,
     };
     let decided = decide_update::<T>(alloc, &input);
-    shown::<T>(alloc, files, verbose, fresh, decided)
+    update_done::<T>(alloc, files, verbose, fresh, decided)
 }
 
 /// The run of an update that is decided so.
-fn shown<T: ComposeTable>(
+fn update_done<T: ComposeTable>(
     alloc: Global,
     files: &UpdateFiles,
     verbose: bool,
     fresh: &[&str],
     decided: Result<Update, UpdateFault>,
-) -> Result<UpdateRun, AllocError> {
+) -> Result<UpdateRun, AllocError>
+    ensures { IfOk result
+        (λ run. IsUpdateDone verbose files.now (map (λ name. name.now) fresh.now) decided run) }
+{
     match decided {
         Ok(
             Update::Replaced {
@@ -149,7 +191,8 @@ fn shown<T: ComposeTable>(
         }
         Err(UpdateFault::TooLarge) => {
             let line = String::from_str(alloc, "refused: update: 1 TooLarge\n")?;
-            Ok(UpdateRun::Refused(Outcome::of_errors(alloc, line, Ended::Refused)))
+            let outcome = Outcome::of_errors(alloc, line, Ended::Refused);
+            Ok(UpdateRun::Refused(outcome))
         }
     }
 }
@@ -161,7 +204,11 @@ fn refused_outcome<T: ComposeTable>(
     verbose: bool,
     fresh: &[&str],
     refusal: Refusal,
-) -> Result<Outcome, AllocError> {
+) -> Result<Outcome, AllocError>
+    ensures { IfOk result
+        (λ outcome. IsUpdateRefusal verbose files.now (map (λ name. name.now) fresh.now) refusal
+        outcome) }
+{
     let tables = [GivenTable::of(&files.new), GivenTable::of(&files.new)];
     let given = Given::of(&files.names, fresh, &tables);
     outcome_of::<T>(alloc, verbose, &given, Err(refusal))

@@ -1,9 +1,6 @@
-use Rattle.std.proofs.Common.{rules, ◌≡◌, refl, inl, map, option_copied}
+use Rattle.std.proofs.Common.{rules, ◌≡◌, refl, inl, map}
 use Rattle.std.specs.Prelude.{Err}
-use Rattle.compose_input.specs.declared.fault.Fault.TheVariants.{NoMemory}
-use Rattle.compose_runs.specs.Faults.{FailsFile, FailsTableRead}
-use Rattle.compose_runs.specs.OneTable.{table_places}
-use Rattle.compose_runs.proofs.Chosen.{of_every}
+use Rattle.compose_runs.specs.Faults.{FailsTableRead}
 use Rattle.compose_runs.proofs.Failing.{fails, memory}
 use Rattle.compose_runs.proofs.typing.run_type_file.Goals as goal
 
@@ -19,5 +16,4 @@ returns-in_err-read-clause-fault g c =
 pub returns-in_err-type_file_outcome-clause-fault : goal.returns-in_err-type_file_outcome-clause-fault
 returns-in_err-type_file_outcome-clause-fault g c =
     let folder = c.args.files.now.holds in let environment = c.args.environment.now in let names = map (λ name. name.now) c.args.names.now in let arguments = c.args.arguments.now in
-    memory (FailsTableRead folder environment names arguments) c.from_residual-in_err-type_file_outcome.result c.from_residual-in_err-type_file_outcome.ensures.1
-    (of_every (option_copied arguments.file) (λ path. FailsFile folder environment names (table_places arguments) path NoMemory) (λ path. inl refl))
+    memory (FailsTableRead folder environment names arguments) c.from_residual-in_err-type_file_outcome.result c.from_residual-in_err-type_file_outcome.ensures.1 (inl refl)

@@ -1,0 +1,38 @@
+use Rattle.std.proofs.Common.{rules, ◌≡◌, refl, inl, inr, map, subst}
+use Rattle.std.specs.Prelude.{Err, option_copied, option_map}
+use Rattle.compose_input.specs.declared.fault.Fault.TheVariants.{NoMemory}
+use Rattle.compose_runs.proofs.Failing.{fails}
+use Rattle.compose_runs.specs.Faults.{FailsAccepted, FailsHow}
+use Rattle.compose_runs.specs.HowTo.{IsGivenText}
+use Rattle.compose_runs.proofs.looking_up.run_how.Goals as goal
+
+pub returns-clause-outcome : goal.returns-clause-outcome
+returns-clause-outcome g c =
+    let bytes = option_map (λ held. held.items) c.in_ok-repertoire.repertoire in
+    record {
+      read = c.in_ok-read.read;
+      is_read = c.in_ok-read.ensures.read;
+      repertoire = bytes;
+      is_repertoire = subst (λ f. IsGivenText f (option_copied c.args.arguments.now.repertoire) bytes) c.in_ok-read.ensures.kept c.in_ok-repertoire.ensures.read;
+      answered = c.how_answer-answered.result;
+      is = c.how_answer-answered.ensures;
+      printed = c.in_ok-how_outcome.ensures;
+    }
+
+pub returns-in_err-read-clause-fault : goal.returns-in_err-read-clause-fault
+returns-in_err-read-clause-fault g c =
+    let fault = c.in_err-read.field-0.0 in
+    let is : c.from_residual.result ≡ Err fault = search rules in
+    fails (FailsHow c.args.files.now.holds c.args.environment.now (map (λ name. name.now) c.args.names.now) c.args.arguments.now) c.from_residual.result fault is (inr (inl c.in_err-read.ensures.fault))
+
+pub returns-in_err-repertoire-clause-fault : goal.returns-in_err-repertoire-clause-fault
+returns-in_err-repertoire-clause-fault g c =
+    let fault = c.in_err-repertoire.field-0.0 in let path = option_copied c.args.arguments.now.repertoire in
+    let is : c.from_residual-in_err-repertoire.result ≡ Err fault = search rules in
+    fails (FailsHow c.args.files.now.holds c.args.environment.now (map (λ name. name.now) c.args.names.now) c.args.arguments.now) c.from_residual-in_err-repertoire.result fault is
+    (inr (inr ((c.in_ok-read.read, c.in_ok-read.ensures.read), subst (λ f. FailsAccepted f path fault) c.in_ok-read.ensures.kept c.in_err-repertoire.ensures.fault)))
+
+pub returns-in_err-how_outcome-clause-fault : goal.returns-in_err-how_outcome-clause-fault
+returns-in_err-how_outcome-clause-fault g c =
+    let is : c.from_residual-in_err-how_outcome.result ≡ Err NoMemory = search rules in
+    fails (FailsHow c.args.files.now.holds c.args.environment.now (map (λ name. name.now) c.args.names.now) c.args.arguments.now) c.from_residual-in_err-how_outcome.result NoMemory is (inl refl)

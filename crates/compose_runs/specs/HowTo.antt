@@ -1,0 +1,82 @@
+-- What `how` prints (this project's profile).
+use Rattle.std.specs.Prelude.{◌≡◌, ℕ, Bool, true, false, List, [], ◌∷◌, ◌++◌, map, unwrap_or, Option, Some, None, option_copied, Result, Ok, Err, string_bytes, codes}
+use Rattle.std.specs.List.{list_all}
+use Rattle.std.specs.declared.string.String.{String}
+use Rattle.std.specs.declared.alloc.Global.{Global}
+use Rattle.compose_folder.specs.Content.{Entry, File, IsHeld}
+use Rattle.compose_shown.specs.Shown.{shown_text}
+use Rattle.compose_answer.specs.Refused.{Gives}
+use Rattle.compose_answer.specs.declared.answer.Answer.{Answer}
+use Rattle.compose_answer.specs.declared.answer.Answer.TheVariants.{Yes, No}
+use Rattle.compose_answer.specs.declared.refusal.Refusal.{Refusal}
+use Rattle.compose_arguments.specs.declared.how_arguments.HowArguments.{HowArguments}
+use Rattle.compose_input.specs.Tables.{sources_of}
+use Rattle.compose_listing.specs.Answers.{AreWays, how_parts}
+use Rattle.compose_listing.specs.Wanted.{wanted_text}
+use Rattle.compose_listing.specs.declared.how.Ways.{Ways}
+use Rattle.compose_report.specs.declared.outcome.Outcome.{Outcome}
+use Rattle.compose_runs.specs.Listing.{form_of}
+use Rattle.compose_runs.specs.OneTable.{IsTableRead, IsTableOutcome}
+use Rattle.compose_runs.specs.declared.environment.Environment.{Environment}
+use Rattle.compose_runs.specs.declared.one_table.TableRead.{TableRead}
+
+-- ---- what is answered
+
+-- the bytes of the repertoire, if its path is given
+abbrev pub IsGivenText : Option (List Entry) → Option (List ℕ) → Option (List ℕ) → Type 0
+IsGivenText folder (Some path) (Some bytes) = IsHeld folder path (File bytes)
+IsGivenText folder (Some path) None = ⊥
+IsGivenText folder None bytes = bytes ≡ None
+
+-- the ways to type the texts that these words stand for, of the table that was read, by this repertoire if there is one
+abbrev pub AnswersHow : TableRead → HowArguments → Option (List ℕ) → List (List ℕ) → Result Ways Refusal → Type 0
+AnswersHow read arguments repertoire words answered =
+    Gives (AreWays read.table.sources (map string_bytes read.table.paths.items) (map wanted_text words) arguments.first (form_of arguments.json)) answered
+    (how_parts read.names.lines.items (sources_of read.table) repertoire)
+
+-- ---- what is printed
+
+-- of a word for whose text no sequence is found (code 10 ends the line)
+abbrev pub missing_line : Bool → List ℕ → List ℕ
+missing_line true word = []
+missing_line false word = codes "no sequence gives " ++ (shown_text word ++ 10 ∷ [])
+
+-- of each of these words in turn
+abbrev pub missing_lines : List (List ℕ) → List Bool → List ℕ
+missing_lines [] found = []
+missing_lines (word ∷ words) [] = []
+missing_lines (word ∷ words) (is_found ∷ found) = missing_line is_found word ++ missing_lines words found
+
+-- yes where each text is found
+abbrev pub answer_by : Bool → String Global → Answer
+answer_by true = Yes
+answer_by false = No
+
+-- the same outcome, with these errors
+pub record HasErrors (said : List ℕ) (before outcome : Outcome) : Type 0 where
+  pub notes : outcome.notes ≡ before.notes
+  pub output : outcome.output ≡ before.output
+  pub errors : string_bytes outcome.errors ≡ said
+  pub file : outcome.file ≡ before.file
+  pub ended : outcome.ended ≡ before.ended
+
+-- the lines of the sequences, and on standard error a line for each text that has none
+pub record IsWaysOutcome (read : TableRead) (repertoire : List ℕ) (words : List (List ℕ)) (ways : Ways) (outcome : Outcome) : Type 0 where
+  pub shown : Outcome
+  pub is_shown : IsTableOutcome read [] repertoire (Ok (answer_by (list_all (λ is_found. is_found) ways.found.items) ways.lines)) shown
+  pub errors : HasErrors (missing_lines words ways.found.items) shown outcome
+
+-- the same, or why nothing is answered; the repertoire is at this path
+abbrev pub IsHowOutcome : TableRead → List ℕ → List (List ℕ) → Result Ways Refusal → Outcome → Type 0
+IsHowOutcome read repertoire words (Ok ways) outcome = IsWaysOutcome read repertoire words ways outcome
+IsHowOutcome read repertoire words (Err refusal) outcome = IsTableOutcome read [] repertoire (Err refusal) outcome
+
+-- the same on the files that the folder has, in this environment, below the notes on where they lie
+pub record IsHowRun (folder : Option (List Entry)) (environment : Environment) (names : List (List ℕ)) (arguments : HowArguments) (words : List (List ℕ)) (outcome : Outcome) : Type 0 where
+  pub read : TableRead
+  pub is_read : IsTableRead folder environment names arguments.table read
+  pub repertoire : Option (List ℕ)
+  pub is_repertoire : IsGivenText folder (option_copied arguments.repertoire) repertoire
+  pub answered : Result Ways Refusal
+  pub is : AnswersHow read arguments repertoire words answered
+  pub printed : IsHowOutcome read (unwrap_or (option_copied arguments.repertoire) []) words answered outcome

@@ -1,0 +1,105 @@
+-- What `update` reads, and what it then does with the table in use (this project's profile).
+use Rattle.std.specs.Prelude.{◌≡◌, ℕ, Bool, List, [], ◌∷◌, map, Option, Some, None, option_copied, Result, Ok, Err, string_bytes, codes}
+use Rattle.compose_folder.specs.Content.{Entry, File, IsHeld}
+use Rattle.compose_model.specs.declared.Rule.TheVariants.{Longest}
+use Rattle.compose_read.specs.Lines.{Source}
+use Rattle.compose_bundle.specs.Bundle.{Bundle, IsBundle}
+use Rattle.compose_answer.specs.declared.answer.Ended.TheVariants as ends
+use Rattle.compose_answer.specs.declared.refusal.Refusal.{Refusal}
+use Rattle.compose_arguments.specs.declared.update_arguments.UpdateArguments.{UpdateArguments}
+use Rattle.compose_details.specs.Given.{IsGiven, parts_of}
+use Rattle.compose_details.specs.declared.given.Given.{Given}
+use Rattle.compose_input.specs.Names.{AreNames}
+use Rattle.compose_input.specs.Tables.{IsFoundOnSystem}
+use Rattle.compose_input.specs.declared.fault.Fault.{Fault}
+use Rattle.compose_input.specs.declared.fault.Fault.TheVariants as faults
+use Rattle.compose_input.specs.declared.places.Places.{Places}
+use Rattle.compose_report.specs.Outcomes.{IsReported, PrintsOutput, PrintsErrors}
+use Rattle.compose_report.specs.declared.outcome.Outcome.{Outcome}
+use Rattle.compose_update.specs.Update.{GivenUpdate, Updates}
+use Rattle.compose_update.specs.declared.deciding.Update.{Update}
+use Rattle.compose_update.specs.declared.deciding.Update.TheVariants as updates
+use Rattle.compose_update.specs.declared.deciding.UpdateFault.{UpdateFault}
+use Rattle.compose_update.specs.declared.deciding.UpdateFault.TheVariants.{Input, TooLarge}
+use Rattle.compose_runs.specs.Environment.{IsPlaced}
+use Rattle.compose_runs.specs.declared.environment.Environment.{Environment}
+use Rattle.compose_runs.specs.declared.environment.PlaceArguments.{PlaceArguments}
+use Rattle.compose_runs.specs.declared.updating.UpdateFiles.{UpdateFiles}
+use Rattle.compose_runs.specs.declared.updating.UpdateRun.{UpdateRun}
+use Rattle.compose_runs.specs.declared.updating.UpdateRun.TheVariants.{Replaced, Refused}
+
+-- ---- what is read
+
+abbrev pub update_places : UpdateArguments → PlaceArguments
+update_places arguments = record { system = arguments.system; locale = arguments.locale; root = None }
+
+-- the names that are built in
+abbrev pub builtin : List (List ℕ)
+builtin = codes "builtin" ∷ []
+
+-- the bytes of the repertoire; nothing where no path is given
+abbrev pub IsRepertoire : Option (List Entry) → Option (List ℕ) → List ℕ → Type 0
+IsRepertoire folder None bytes = bytes ≡ []
+IsRepertoire folder (Some path) bytes = IsHeld folder path (File bytes)
+
+-- the built-in names, the Compose file as it lies on the system, of whose overlapping sequences the longest counts, and the repertoire
+pub record AreUpdateFiles (folder : Option (List Entry)) (environment : Environment) (arguments : UpdateArguments) (files : UpdateFiles) : Type 0 where
+  pub places : Places
+  pub are_places : IsPlaced environment (update_places arguments) places
+  pub are_names : AreNames folder builtin files.names
+  pub is_new : IsFoundOnSystem folder places arguments.file.now Longest files.new
+  pub is_repertoire : IsRepertoire folder (option_copied arguments.repertoire) files.repertoire.items
+
+-- ---- what is decided
+
+-- the sources of the table in use: those of the bundle that is stored
+abbrev pub IsCurrent : Option (List ℕ) → Option (List Source) → Type 0
+IsCurrent None current = current ≡ None
+IsCurrent (Some bytes) current = (bundle : Bundle) × IsBundle bytes bundle × (current ≡ Some bundle.sources)
+
+abbrev pub update_given : UpdateFiles → List (List ℕ) → Option (List Source) → GivenUpdate
+update_given files fresh current = record {
+  header = files.names.lines.items;
+  fresh = fresh;
+  current = current;
+  new = files.new.sources;
+  repertoire = files.repertoire.items;
+}
+
+-- ---- what is then done
+
+-- everything stays as it is, and this is said of the outcome
+abbrev pub IsRefusedAs : (Outcome → Type 0) → UpdateRun → Type 0
+IsRefusedAs Prints (Refused outcome) = Prints outcome
+IsRefusedAs Prints (Replaced stored certificate) = ⊥
+
+-- a part is refused; the new table stands for both, since the one in use was read when it was taken into use
+pub record IsUpdateRefusal (verbose : Bool) (files : UpdateFiles) (fresh : List (List ℕ)) (refusal : Refusal) (outcome : Outcome) : Type 0 where
+  pub given : Given
+  pub parts : IsGiven (parts_of files.names fresh (files.new ∷ files.new ∷ [])) given
+  pub is : IsReported verbose given (Err refusal) outcome
+
+-- the bytes that are stored and the certificate are those of the decision; else the lines that `make` prints, or why nothing is decided
+abbrev pub IsUpdateDone : Bool → UpdateFiles → List (List ℕ) → Result Update UpdateFault → UpdateRun → Type 0
+IsUpdateDone verbose files fresh (Ok (updates.Replaced stored certificate)) run = run ≡ Replaced stored certificate
+IsUpdateDone verbose files fresh (Ok (updates.Refused text)) run = IsRefusedAs (PrintsOutput (string_bytes text) ends.No) run
+IsUpdateDone verbose files fresh (Err (Input refusal)) run = IsRefusedAs (IsUpdateRefusal verbose files fresh refusal) run
+IsUpdateDone verbose files fresh (Err TooLarge) run = IsRefusedAs (PrintsErrors (codes "refused: update: 1 TooLarge\n") ends.Refused) run
+
+-- what is decided of the new table and of the one in use is done
+pub record IsUpdateOf (verbose : Bool) (files : UpdateFiles) (fresh : List (List ℕ)) (current : Option (List Source)) (run : UpdateRun) : Type 0 where
+  pub decided : Result Update UpdateFault
+  pub is : Updates (update_given files fresh current) decided
+  pub done : IsUpdateDone verbose files fresh decided run
+
+-- the same, where these bytes are stored of the table in use
+pub record IsUpdateRun (verbose : Bool) (files : UpdateFiles) (fresh : List (List ℕ)) (stored : Option (List ℕ)) (run : UpdateRun) : Type 0 where
+  pub current : Option (List Source)
+  pub is_current : IsCurrent stored current
+  pub is : IsUpdateOf verbose files fresh current run
+
+-- what is stored is no bundle: the fault says that the state is refused, and why, in words of which nothing is said; or memory ran out
+abbrev pub FailsStored : Option (List ℕ) → Fault → Type 0
+FailsStored stored faults.NoMemory = Unit {0}
+FailsStored (Some bytes) (faults.Refused part why) = ((bundle : Bundle) → ¬ (IsBundle bytes bundle)) × (part.now ≡ codes "state")
+FailsStored stored fault = ⊥
