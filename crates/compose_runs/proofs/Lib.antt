@@ -3,3 +3,4 @@ pub mod Given
 pub mod Lent
 pub mod Slashes
 pub mod Variables
+pub mod Zipped

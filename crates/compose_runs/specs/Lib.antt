@@ -12,3 +12,4 @@ pub mod DiffFiles
 pub mod Differing
 pub mod Faults
 pub mod OneTable
+pub mod Linting
