@@ -1,5 +1,5 @@
 -- A blank at the end of a line says nothing in a list.
-use Rattle.std.proofs.Common.{◌≡◌, ◌∙◌, ℕ, ◌+◌, ◌-◌, ◌≤◌, Bool, true, false, cond, List, [], ◌∷◌, ◌++◌, length, take, drop, reverse, refl, sym, ap, ap₂, arith}
+use Rattle.std.proofs.Common.{◌≡◌, ◌∙◌, ℕ, suc, ◌+◌, ◌-◌, ◌≤◌, Bool, true, false, cond, List, [], ◌∷◌, ◌++◌, length, take, drop, reverse, refl, sym, ap, ap₂, arith}
 use Rattle.std.specs.List.{prefix_len, suffix_len}
 use Rattle.std.specs.Str.Lossy.{utf8_lossy}
 use Rattle.std.proofs.lemmas.List.{take-append-le, length-append, reverse-append}
@@ -18,10 +18,15 @@ last_more line b blank =
     ∙ ap (λ n. take n (line ++ b ∷ [])) (omega arith)
     ∙ take-append-le (length line - suffix_len is_blank line) line (b ∷ []) (omega arith)
 
+-- past the first
+step : (n x : ℕ) (line : List ℕ) → drop (1 + n) (x ∷ line) ≡ drop n line
+step n x line = let next : 1 + n ≡ suc n = omega arith in ap (λ k. drop k (x ∷ line)) next
+
 first_of : (t : Bool) (x b : ℕ) (line : List ℕ) → is_blank x ≡ t → is_blank b ≡ true → without_blanks (line ++ b ∷ []) ≡ without_blanks line → without_blanks (x ∷ line ++ b ∷ []) ≡ without_blanks (x ∷ line)
 first_of true x b line e blank rest =
-    ap (λ t. without_last_blanks (drop (cond t (1 + prefix_len is_blank (line ++ b ∷ [])) 0) (x ∷ line ++ b ∷ []))) e ∙ rest
-    ∙ sym (ap (λ t. without_last_blanks (drop (cond t (1 + prefix_len is_blank line) 0) (x ∷ line))) e)
+    ap (λ t. without_last_blanks (drop (cond t (1 + prefix_len is_blank (line ++ b ∷ [])) 0) (x ∷ line ++ b ∷ []))) e
+    ∙ ap without_last_blanks (step (prefix_len is_blank (line ++ b ∷ [])) x (line ++ b ∷ [])) ∙ rest
+    ∙ sym (ap (λ t. without_last_blanks (drop (cond t (1 + prefix_len is_blank line) 0) (x ∷ line))) e ∙ ap without_last_blanks (step (prefix_len is_blank line) x line))
 first_of false x b line e blank rest =
     ap (λ t. without_last_blanks (drop (cond t (1 + prefix_len is_blank (line ++ b ∷ [])) 0) (x ∷ line ++ b ∷ []))) e ∙ last_more (x ∷ line) b blank
     ∙ sym (ap (λ t. without_last_blanks (drop (cond t (1 + prefix_len is_blank line) 0) (x ∷ line))) e)

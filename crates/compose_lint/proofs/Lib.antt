@@ -14,3 +14,4 @@ pub mod NothingAccepted
 pub mod ByNames
 pub mod Leaving
 pub mod Blanks
+pub mod Chained

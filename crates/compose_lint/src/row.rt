@@ -102,11 +102,23 @@ pub(crate) fn with_faults<'a>(
 {
     let mut faulty = Vec::new(alloc);
     for table in tables {
-        let faults = first_faults(alloc, names, table.sources)?;
-        let table = *table;
-        faulty.push(FaultyTable { table, faults })?;
+        let one = faulty_table(alloc, names, *table)?;
+        faulty.push(one)?;
     }
     Ok(faulty)
+}
+
+/// The table with its first faults.
+fn faulty_table<'a>(
+    alloc: Global,
+    names: &Names,
+    table: LintTable<'a>,
+) -> Result<FaultyTable<'a>, AllocError>
+    ensures { IfOk result
+        (λ faulty. faulty ≡ words.with_faults names.now (table_given table.entry)) }
+{
+    let faults = first_faults(alloc, names, table.sources)?;
+    Ok(FaultyTable { table, faults })
 }
 
 /// The first faults of a table.
