@@ -1,6 +1,6 @@
 //! `lint`: what is wrong in Compose files.
 ghost use Rattle.std.specs.Prelude.{◌≡◌, ◌++◌, ◌∷◌, [], map, IfOk, Some, option_copied, string_bytes, codes};
-ghost use Rattle.compose_lint.specs.Answers.{AnswersLint, table_given};
+ghost use Rattle.compose_lint.specs.Answers.{AnswersLint, asked, table_given};
 ghost use Rattle.compose_runs.specs.DiffFiles.{IsAccepted};
 ghost use Rattle.compose_runs.specs.Environment.{GivesPlaces};
 ghost use Rattle.compose_runs.specs.Environment as said;
@@ -207,15 +207,30 @@ fn lint_answer(
 {
     let pathed = with_paths(alloc, &files.tables)?;
     let tables = tables_in(alloc, &pathed)?;
-    let input = LintInput {
+    lint_tables(alloc, &input_of(files, arguments, &tables))
+}
+
+/// What `lint` is asked on these tables.
+fn input_of<'a>(
+    files: &'a LintFiles<'_>,
+    arguments: &'a LintArguments<'_>,
+    tables: &'a [LintTable<'a>],
+) -> LintInput<'a>
+    ensures { asked result
+        ≡ record (lint_asked files.now arguments.now) { tables = map table_given tables.now } }
+{
+    let (readers, form) = (
+        readers_of(&arguments.readers),
+        form_of(arguments.write_accept, arguments.json),
+    );
+    LintInput {
         header: &files.names.lines,
-        tables: &tables,
-        readers: readers_of(&arguments.readers),
+        tables,
+        readers,
         is_all: arguments.all,
         accepted: &files.accepted,
-        form: form_of(arguments.write_accept, arguments.json),
-    };
-    lint_tables(alloc, &input)
+        form,
+    }
 }
 
 /// The sources of a table, and the paths of their files.
@@ -241,7 +256,7 @@ impl<'a> PathedTable<'a> {
     ghost use Rattle.compose_lint.specs.Answers.{table_given};
 
     /// The table as it is given to `lint`.
-    fn given(&'a self) -> LintTable<'a>
+    fn given<'b>(&'b self) -> LintTable<'b>
         ensures { table_given result ≡ self.now }
     {
         LintTable {
@@ -276,7 +291,7 @@ fn with_own_paths(alloc: Global, read: &ReadTable) -> Result<PathedTable<'_>, Al
 /// The tables as they are given to `lint`.
 fn tables_in<'a>(
     alloc: Global,
-    pathed: &'a [PathedTable<'a>],
+    pathed: &'a [PathedTable<'_>],
 ) -> Result<Vec<LintTable<'a>>, AllocError>
     ensures { IfOk result (λ given. map table_given given.items ≡ pathed.now) }
 {
