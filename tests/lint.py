@@ -1,9 +1,11 @@
 #!/usr/bin/env python3
-"""lint.py PROGRAM [COUNT]: what `lint --all` finds in random tables, against a second reading of their lines.
+"""lint.py PROGRAM [COUNT]: what `lint --all` finds in random tables, as lines, as JSON and as a list that accepts it, against a second
+reading of their lines, and what is left of it where some of it is accepted.
 
 A table is a file of some lines with few keysyms, texts and comments, and includes of two other such files; sequences come again, some go on
 after others, some lines are faulty, and some include a file again. What is to be found is worked out here from the lines as lists. COUNT
 tables are tried, 300 if none is given. The last line is `N passed, M failed`."""
+import json
 import os
 import random
 import subprocess
@@ -15,6 +17,8 @@ from collections import Counter
 from harness import Results
 
 SEED = 51
+# Of so many tables one is tried with lists of accepted findings and as JSON.
+OTHERS = 5
 # The keysyms of these tables, and how they are written.
 WRITTEN = {0x61: ["a", "U0061"], 0x62: ["b"], 0xfe51: ["dead_acute"], 0xff20: ["Multi_key"]}
 TEXTS = ["x", "y", "\u00e9", "e\u0301", "\u0445\u0301\u0301"]
@@ -24,6 +28,9 @@ COMMENTS = [None, "EX", "WHY", "E WITH ACUTE"]
 INCLUDES = {"own": ["other", "third"], "other": ["third"], "third": []}
 LONGER = "defines a longer sequence that begins with this one, and the longer one is typed"
 MISPLACED = "comment: the comment stands most often beside another text, and the text beside another comment"
+STALE = "no finding in these tables is told by the line"
+BAD = 'expected the word of a kind, ": " and a line of a Compose file'
+KINDS = ["fault", "overridden", "repeated", "prefix", "keysym", "mark", "form", "comment", "redundant", "libX11", "libxkbcommon", "gtk3", "gtk4"]
 SAME = "is included, and gives the sequence the same text"
 
 
@@ -111,13 +118,90 @@ def found_in_all(files, name, line):
 
 
 def found(files):
-    """What is to be printed."""
+    """What is to be found: the file, the line, its number, and what follows the place."""
     for name, number, line in placed(files):
         if line.is_faulty:
-            yield f'{name}:{number}:1: fault: no keysym has the name "nosuch"'
+            yield name, number, line, 'fault: no keysym has the name "nosuch"'
         if line.keysyms:
             for what in [*found_in_file(files[name], number, line), *found_in_all(files, name, line)]:
-                yield f"{name}:{number}:1: {what}"
+                yield name, number, line, what
+
+
+def listed(one):
+    """The line of a list that accepts a finding."""
+    _, _, line, what = one
+    return what.split(":")[0] + ": " + line.written.strip(" \t\r")
+
+
+def as_line(one):
+    """The line of a finding."""
+    name, number, _, what = one
+    return f"{name}:{number}:1: {what}"
+
+
+def as_object(one):
+    """The object of a finding."""
+    name, number, _, what = one
+    kind, message = what.split(": ", 1)
+    words, other = message.split(" "), None
+    if kind in ("overridden", "repeated"):
+        other = {"file": name, "line": int(words[1])}
+    elif kind in ("prefix", "redundant"):
+        path, at = words[0].split(":")
+        other = {"file": path, "line": int(at)}
+    return {"file": name, "line": number, "column": 1, "kind": kind, "message": message, "other": other, "reader": None}
+
+
+def counts(wanted, left):
+    """The object that counts."""
+    words = [one[3].split(":")[0] for one in left]
+    return {"counts": {**{kind: words.count(kind) for kind in KINDS}, "accepted": len(wanted) - len(left)}}
+
+
+def run_in(folder, program, *options):
+    """What `lint` answers there: its status, its lines, and what it prints to standard error."""
+    command = [program, "lint", "--all", "--reader", "gtk4", *options]
+    ran = subprocess.run(command, cwd=folder, capture_output=True, encoding="utf-8", check=False)
+    return ran.returncode, ran.stdout.splitlines(), ran.stderr
+
+
+def written(folder, name, lines):
+    """Writes a file there."""
+    with open(os.path.join(folder, name), "w", encoding="utf-8") as file:
+        file.write("".join(line + "\n" for line in lines))
+
+
+def plain_answers(program, folder, wanted):
+    """What is printed on the table that lies there with these findings, and what it is to be."""
+    yield "lines", run_in(folder, program, "own"), (1 if wanted else 0, list(map(as_line, wanted)), "")
+
+
+def answers(chance, program, folder, wanted):
+    """The other answers, and what each is to be."""
+    status = 1 if wanted else 0
+    every = list(dict.fromkeys(map(listed, wanted)))
+    accepted = [line for line in every if chance.random() < 0.5]
+    chance.shuffle(accepted)
+    left = [one for one in wanted if listed(one) not in accepted]
+    written(folder, "list", ["# what is meant", "", *accepted])
+    written(folder, "all", every)
+    written(folder, "stale", [*accepted, 'mark: <a> : "nowhere"', 'form: <a> : "nowhere"'])
+    written(folder, "bad", [*accepted, "", 'marks: <a> : "nowhere"'])
+    yield "list", run_in(folder, program, "--write-accept", "own"), (status, every, "")
+    yield "all accepted", run_in(folder, program, "--accept", "all", "own"), (0, [], "")
+    yield "some accepted", run_in(folder, program, "--accept", "list", "own"), (1 if left else 0, list(map(as_line, left)), "")
+    rest = list(dict.fromkeys(map(listed, left)))
+    yield "rest", run_in(folder, program, "--accept", "list", "--write-accept", "own"), (1 if left else 0, rest, "")
+    twice = run_in(folder, program, "--accept", "list", "own", "own")
+    yield "two tables", twice, (1 if left else 0, list(map(as_line, left)) * 2, "")
+    stale = f"refused: accept: 1 Stale line={len(accepted) + 1}\ncomposecheck: stale:{len(accepted) + 1}:1: {STALE}\n"
+    yield "stale", run_in(folder, program, "--accept", "stale", "own"), (2, [], stale)
+    bad = f"refused: accept: 2 BadLine line={len(accepted) + 2}\ncomposecheck: bad:{len(accepted) + 2}:1: {BAD}\n"
+    yield "bad line", run_in(folder, program, "--accept", "bad", "own"), (2, [], bad)
+    status, lines, errors = run_in(folder, program, "--format", "json", "--accept", "list", "own")
+    objects = [*map(as_object, left), counts(wanted, left)]
+    yield "json", (status, list(map(json.loads, lines)), errors), (1 if left else 0, objects, "")
+    yield "order of members", [list(json.loads(line)) for line in lines], list(map(list, objects))
 
 
 def main():
@@ -129,11 +213,12 @@ def main():
         wanted = list(found(files))
         with tempfile.TemporaryDirectory() as folder:
             for name, lines in files.items():
-                with open(os.path.join(folder, name), "w", encoding="utf-8") as file:
-                    file.write("".join(line.written + "\n" for line in lines))
-            ran = subprocess.run([program, "lint", "--all", "--reader", "gtk4", "own"], cwd=folder, capture_output=True, encoding="utf-8", check=False)
-        is_right = (ran.returncode, ran.stdout.splitlines(), ran.stderr) == (1 if wanted else 0, wanted, "")
-        results.expect(f"table {number}: {[(name, [line.written for line in lines]) for name, lines in files.items()]}", is_right or ran.stdout, True)
+                written(folder, name, [line.written for line in lines])
+            others = answers(chance, program, folder, wanted) if number % OTHERS == 0 else []
+            for what, answer, right in [*plain_answers(program, folder, wanted), *others]:
+                if answer != right:
+                    print(f"table {number}: {[(name, [line.written for line in lines]) for name, lines in files.items()]}")
+                results.expect(f"{what} of table {number}", answer, right)
     return results.end()
 
 

@@ -26,7 +26,7 @@ _composecheck() {
         diff) options="--verbose --names --fresh --overlap --accept --write-accept --no-fold --lost --format --color --system --locale --root --help" ;;
         how) options="--names --from --repertoire --first --format --overlap --system --locale --root --help" ;;
         list) options="--names --prefix --text --next --sort --format --overlap --system --locale --root --help" ;;
-        lint) options="--names --reader --all --system --locale --verbose --help" ;;
+        lint) options="--names --reader --all --accept --write-accept --format --system --locale --root --verbose --help" ;;
         update) options="--fresh --repertoire --state --socket --system --locale --verbose --help" ;;
         manifest) options="--system --locale --root --verbose --help" ;;
         serve) options="--names --fresh --state --at-once --unsent --idle --mode --replace --unlink --verbose --help" ;;

@@ -427,6 +427,7 @@ static LINT: CommandRow = CommandRow {
         NAMES,
         SYSTEM,
         LOCALE,
+        ROOT,
         OptionRow {
             name: "reader",
             letter: None,
@@ -442,12 +443,34 @@ static LINT: CommandRow = CommandRow {
             takes: Takes::Nothing,
             help: "Print the lines too that say again what an included file says",
         },
+        OptionRow {
+            name: "accept",
+            letter: None,
+            takes: Takes::Value("FILE"),
+            help: "Leave out the findings that FILE lists; refuse a line of it that accepts none",
+        },
+        OptionRow {
+            name: "write-accept",
+            letter: None,
+            takes: Takes::Nothing,
+            help: "Print the list that accepts the findings, in place of the findings",
+        },
+        OptionRow {
+            name: "format",
+            letter: None,
+            takes: Takes::OneOf {
+                name: "FORMAT",
+                values: &["text", "json"],
+                default: "text",
+            },
+            help: "Lines for people, or json: an object for each finding",
+        },
     ],
     options_of_files: &[],
     arguments: &[ArgumentRow {
         name: "FILE",
-        given: Given::Some,
-        help: "The Compose files",
+        given: Given::Any,
+        help: "The Compose files; without one, that which libxkbcommon takes for the user",
     }],
 };
 

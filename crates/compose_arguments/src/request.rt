@@ -168,7 +168,7 @@ fn request_of<'a>(
         "diff" => diff_request(alloc, given),
         "how" => how_request(alloc, given),
         "list" => Ok(Some(Request::List(list_arguments(alloc, given)?))),
-        "lint" => Ok(lint_arguments(alloc, given)?.map(Request::Lint)),
+        "lint" => Ok(Some(Request::Lint(lint_arguments(alloc, given)?))),
         "make" => make_request(alloc, given),
         "serve" => serve_request(alloc, given),
         "session" => session_request(alloc, given),

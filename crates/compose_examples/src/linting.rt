@@ -1,7 +1,7 @@
 //! What is found in the lines of worked tables.
 use crate::helpers::{expect_text, two_sources};
 use compose_answer::Answer;
-use compose_lint::{LintInput, Readers, lint_table};
+use compose_lint::{LintForm, LintInput, LintTable, Readers, lint_tables};
 use std::alloc::Global;
 use std::test::Fail;
 
@@ -45,14 +45,19 @@ const ALL: Readers = Readers {
 /// What is answered on a row.
 fn answered(alloc: Global, row: &LintRow) -> Result<Option<Answer>, Fail> {
     let sources = two_sources(alloc, row.root.as_bytes(), row.included)?;
-    let input = LintInput {
-        header: &[],
+    let table = LintTable {
         sources: &sources,
         paths: &["r", "%L"],
+    };
+    let input = LintInput {
+        header: &[],
+        tables: &[table],
         readers: ALL,
         is_all: true,
+        accepted: &[],
+        form: LintForm::Lines,
     };
-    Ok(lint_table(alloc, &input).ok())
+    Ok(lint_tables(alloc, &input).ok())
 }
 
 /// What is printed of an answer that tells findings or none.

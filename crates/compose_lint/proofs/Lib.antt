@@ -7,3 +7,11 @@ pub mod PrefixOnes
 pub mod Tests
 pub mod Leading
 pub mod MoreVisits
+pub mod Among
+pub mod LineBytes
+pub mod AcceptAgain
+pub mod NothingAccepted
+pub mod ByNames
+pub mod Leaving
+pub mod Blanks
+pub mod Chained

@@ -1,46 +1,96 @@
--- What `lint` answers on the names, the sources and the paths of their files that it is given.
-use Rattle.std.specs.Prelude.{◌≡◌, ◌≢◌, Bool, List, [], ℕ, take, slice_get, Result, Ok, Err, string_bytes, ⊤}
+-- What `lint` answers on the names, the tables and the list of accepted findings that it is given (this project's profile).
+use Rattle.std.specs.Prelude.{◌≡◌, ◌≢◌, Bool, ℕ, List, [], map, Result, Ok, Err, string_bytes, ⊤}
 use Rattle.keysym_core.specs.Names.{KeysymNames}
-use Rattle.keysym_core.specs.declared.fault.NameFault.{NameFault}
-use Rattle.std.specs.Option.{option_map_or}
-use Rattle.compose_read.specs.Lines.{Source}
-use Rattle.compose_read.specs.Faults.{faults_of}
-use Rattle.compose_read.specs.declared.ReadFault.{ReadFault}
-use Rattle.compose_lint.specs.Findings.{findings}
-use Rattle.compose_lint.specs.declared.reader.Readers.{Readers}
+use Rattle.keysym_core.specs.Header.{names_of}
 use Rattle.compose_answer.specs.declared.answer.Answer.{Answer}
 use Rattle.compose_answer.specs.declared.answer.Answer.TheVariants.{Yes, No, Invalid, FreshNotAllowed}
 use Rattle.compose_answer.specs.declared.refusal.Refusal.{Refusal}
-use Rattle.compose_answer.specs.declared.refusal.Refusal.TheVariants.{Names, NoMemory}
-use Rattle.compose_lint.specs.Report.{findings_text}
-use Rattle.compose_lint.specs.declared.finding.Finding.{Finding}
+use Rattle.compose_answer.specs.declared.refusal.Refusal.TheVariants.{Names, NoMemory as RefusalNoMemory}
+use Rattle.compose_diff.specs.Accepted.{Line}
+use Rattle.compose_diff.specs.declared.accepted.AcceptFault.{AcceptFault}
+use Rattle.compose_diff.specs.declared.accepted.AcceptFault.TheVariants.{Stale, BadLine, NoMemory}
+use Rattle.compose_lint.specs.Rows.{Table, Row, rows_in}
+use Rattle.compose_lint.specs.Report.{rows_text}
+use Rattle.compose_lint.specs.Accepted.{accepted_of, left_of, accept_lines}
+use Rattle.compose_lint.specs.Json.{json_answer}
+use Rattle.compose_lint.specs.declared.asking.LintFault.{LintFault}
+use Rattle.compose_lint.specs.declared.asking.LintFault.TheVariants.{Input, Accept}
+use Rattle.compose_lint.specs.declared.asking.LintForm.{LintForm}
+use Rattle.compose_lint.specs.declared.asking.LintForm.TheVariants.{Lines, Json, AcceptList}
+use Rattle.compose_lint.specs.declared.asking.LintInput.{LintInput}
+use Rattle.compose_lint.specs.declared.asking.LintTable.{LintTable}
+use Rattle.compose_lint.specs.declared.reader.Readers.{Readers}
 
--- nothing where nothing is found, or else a line for each finding
-abbrev pub Tells : (List Finding → List ℕ) → List Finding → Answer → Type 0
-Tells text_of findings (Yes text) = (findings ≡ []) × (string_bytes text ≡ [])
-Tells text_of findings (No text) = (findings ≢ []) × (string_bytes text ≡ text_of findings)
-Tells text_of findings (Invalid fault) = ⊥
-Tells text_of findings (FreshNotAllowed keysym) = ⊥
+-- ---- what is asked
 
--- the name of the first source, from which a table is read; nothing where there is none
-abbrev pub root_of : List Source → List ℕ
-root_of sources = option_map_or (λ (s : Source). s.name) (slice_get sources 0) []
+abbrev pub table_given : LintTable → Table
+table_given t = record { sources = t.sources.now; paths = map (λ path. path.now) t.paths.now }
 
-abbrev pub max_faults : ℕ
-max_faults = 1000
+pub record Asked : Type 0 where
+  pub header : List ℕ
+  pub tables : List Table
+  pub readers : Readers
+  pub is_all : Bool
+  pub accepted : List ℕ
+  pub form : LintForm
 
--- the first of the faults of the table
-abbrev pub first_faults : KeysymNames → List Source → List ReadFault
-first_faults names sources = take max_faults (faults_of names sources (root_of sources))
+abbrev pub asked : LintInput → Asked
+asked input = record {
+  header = input.header.now;
+  tables = map table_given input.tables.now;
+  readers = input.readers;
+  is_all = input.is_all;
+  accepted = input.accepted.now;
+  form = input.form;
+}
 
--- the answer by these names
-abbrev pub IsLinted : Readers → Bool → List Source → List (List ℕ) → KeysymNames → Answer → Type 0
-IsLinted readers is_all sources paths names answer = Tells (findings_text sources (first_faults names sources) paths) (findings names readers is_all (first_faults names sources) sources) answer
+-- ---- the answer
 
--- the answer by the names of the header, or that they are refused; memory may be refused too
-abbrev pub LintGives : (KeysymNames → Answer → Type 0) → Result KeysymNames NameFault → Result Answer Refusal → Type 0
-LintGives IsAnswer (Ok names) (Ok answer) = IsAnswer names answer
-LintGives IsAnswer (Err fault) (Ok answer) = ⊥
-LintGives IsAnswer said (Err (Names fault)) = said ≡ Err fault
-LintGives IsAnswer said (Err NoMemory) = ⊤
-LintGives IsAnswer said (Err refusal) = ⊥
+-- what is printed of all findings, some of which are left
+abbrev pub form_text : LintForm → List Row → List Row → List ℕ
+form_text Lines rows left = rows_text left
+form_text Json rows left = json_answer rows left
+form_text AcceptList rows left = accept_lines left
+
+-- yes where no finding is left
+abbrev pub Tells : LintForm → List Row → List Row → Answer → Type 0
+Tells form rows left (Yes text) = (left ≡ []) × (string_bytes text ≡ form_text form rows left)
+Tells form rows left (No text) = (left ≢ []) × (string_bytes text ≡ form_text form rows left)
+Tells form rows left (Invalid fault) = ⊥
+Tells form rows left (FreshNotAllowed keysym) = ⊥
+
+abbrev pub rows_asked : Asked → KeysymNames → List Row
+rows_asked asked names = rows_in names asked.readers asked.is_all asked.tables
+
+-- of these findings those are left that no line accepts
+pub record IsLinted (asked : Asked) (rows : List Row) (answer : Answer) : Type 0 where
+  pub lines : List Line
+  pub left : List Row
+  pub read : accepted_of asked.accepted ≡ Ok lines
+  pub leaves : left_of lines rows ≡ Ok left
+  pub tells : Tells asked.form rows left answer
+
+-- this line is the first that accepts none of these findings
+pub record IsStale (asked : Asked) (rows : List Row) (line : ℕ) : Type 0 where
+  pub lines : List Line
+  pub read : accepted_of asked.accepted ≡ Ok lines
+  pub stale : left_of lines rows ≡ Err (Stale line)
+
+-- the answer on these findings, or what is refused first: a line that is not in the form, or one that accepts none of them; memory may be refused too
+abbrev pub AnswersOn : Asked → List Row → Result Answer LintFault → Type 0
+AnswersOn asked rows (Ok answer) = IsLinted asked rows answer
+AnswersOn asked rows (Err (Accept (BadLine n))) = accepted_of asked.accepted ≡ Err (BadLine n)
+AnswersOn asked rows (Err (Accept (Stale n))) = IsStale asked rows n
+AnswersOn asked rows (Err (Accept NoMemory)) = ⊥
+AnswersOn asked rows (Err (Input RefusalNoMemory)) = ⊤
+AnswersOn asked rows (Err (Input refusal)) = ⊥
+
+-- the same on what these names find in the tables
+abbrev pub AnswersBy : Asked → KeysymNames → Result Answer LintFault → Type 0
+AnswersBy asked names answered = AnswersOn asked (rows_asked asked names) answered
+
+-- the answer by the names of the header, or that they are refused
+abbrev pub AnswersLint : Asked → Result Answer LintFault → Type 0
+AnswersLint asked (Err (Input (Names fault))) = names_of asked.header ≡ Err fault
+AnswersLint asked (Err (Input RefusalNoMemory)) = ⊤
+AnswersLint asked answered = (names : KeysymNames) × (names_of asked.header ≡ Ok names) × AnswersBy asked names answered

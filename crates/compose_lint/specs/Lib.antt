@@ -10,5 +10,9 @@ pub mod Commonest
 pub mod Comments
 pub mod Findings
 pub mod Lost
+pub mod Rows
 pub mod Report
+pub mod Accepted
+pub mod Json
+pub mod Raised
 pub mod Answers

@@ -3,12 +3,9 @@ use Rattle.std.specs.Prelude.{ℕ, List, [], ◌∷◌, ◌++◌, flat_map, slic
 use Rattle.std.specs.Fmt.{decimal}
 use Rattle.std.specs.Option.{option_map_or}
 use Rattle.compose_shown.specs.Shown.{shown_text}
-use Rattle.compose_read.specs.Lines.{Source}
-use Rattle.compose_read.specs.declared.ReadFault.{ReadFault}
 use Rattle.compose_messages.specs.Places.{position_of}
 use Rattle.compose_messages.specs.Messages.{read_said}
-use Rattle.compose_messages.specs.declared.position.Position.{Position}
-use Rattle.compose_lint.specs.declared.finding.Finding.{Finding}
+use Rattle.compose_lint.specs.Rows.{Row}
 use Rattle.compose_lint.specs.declared.finding.Kind.{Kind}
 use Rattle.compose_lint.specs.declared.finding.LinePlace.{LinePlace}
 use Rattle.compose_lint.specs.declared.finding.Kind.TheVariants.{Fault, Overridden, Repeated, Prefix, Keysym, Mark, Form, Comment, Redundant, Reader}
@@ -36,65 +33,79 @@ class_said DigitName = codes "the line is skipped, as the name of its result beg
 class_said NoString = codes "the line is skipped, as it has no string"
 class_said LetterEscape = codes "of the escapes \\n, \\r and \\t the letter is typed"
 
-abbrev pub kind_said : Kind → List ℕ
-kind_said (Fault index) = codes "fault"
-kind_said (Overridden line) = codes "overridden: line " ++ decimal line ++ codes " gives the sequence another text, which counts"
-kind_said (Repeated line) = codes "repeated: line " ++ decimal line ++ codes " gives the sequence the same text again"
-kind_said (Prefix place) = codes "prefix"
-kind_said Keysym = codes "keysym: the keysym after the string has another character"
-kind_said Mark = codes "mark: the text has one combining mark twice in a row"
-kind_said Form = codes "form: the text is not in normal form C"
-kind_said Comment = codes "comment: the comment stands most often beside another text, and the text beside another comment"
-kind_said (Redundant place) = codes "redundant"
-kind_said (Reader reader class) = reader_word reader ++ codes ": " ++ class_said class
+abbrev pub kind_word : Kind → List ℕ
+kind_word (Fault index) = codes "fault"
+kind_word (Overridden line) = codes "overridden"
+kind_word (Repeated line) = codes "repeated"
+kind_word (Prefix place) = codes "prefix"
+kind_word Keysym = codes "keysym"
+kind_word Mark = codes "mark"
+kind_word Form = codes "form"
+kind_word Comment = codes "comment"
+kind_word (Redundant place) = codes "redundant"
+kind_word (Reader reader class) = reader_word reader
 
 -- the path of the source with this index; nothing where there is none
 abbrev pub path_of : List (List ℕ) → ℕ → List ℕ
 path_of paths source = unwrap_or (slice_get paths source) []
 
--- `PATH:LINE:1: KIND: SENTENCE`, and a newline (code 10)
-abbrev pub kind_line : List (List ℕ) → Finding → List ℕ
-kind_line paths f = shown_text (path_of paths f.source) ++ codes ":" ++ decimal f.line ++ codes ":1: " ++ kind_said f.kind ++ 10 ∷ []
+-- ---- the sentence
 
--- `PATH:LINE`
-abbrev pub place_text : List (List ℕ) → LinePlace → List ℕ
-place_text paths place = shown_text (path_of paths place.source) ++ codes ":" ++ decimal place.line
+-- of a number of a line
+abbrev pub line_sentence : ℕ → List ℕ → List ℕ
+line_sentence line sentence = codes "line " ++ (decimal line ++ sentence)
 
--- the column 1 and the word of a kind
-abbrev pub kind_text : List ℕ → List ℕ
-kind_text word = codes ":1: " ++ (word ++ codes ": ")
+-- of a line of any file, as `PATH:LINE`
+abbrev pub place_sentence : List (List ℕ) → LinePlace → List ℕ → List ℕ
+place_sentence paths place sentence = shown_text (path_of paths place.source) ++ (codes ":" ++ (decimal place.line ++ sentence))
 
--- a sentence behind a place, and a newline (code 10)
-abbrev pub sentence_text : List ℕ → List ℕ
-sentence_text sentence = codes " " ++ (sentence ++ 10 ∷ [])
+-- of a fault what is said of it
+abbrev pub fault_sentence : Row → ℕ → List ℕ
+fault_sentence row index = option_map_or (read_said row.sources) (slice_get row.faults index) []
 
--- the same of this kind, with the place of another line and what is said of it
-abbrev pub beside_line : List ℕ → List ℕ → List (List ℕ) → Finding → LinePlace → List ℕ
-beside_line word sentence paths f place =
-    place_text paths (record { source = f.source; line = f.line }) ++ (kind_text word ++ (place_text paths place ++ sentence_text sentence))
+-- of a kind that names no other line
+abbrev pub own_sentence : Kind → List ℕ
+own_sentence Keysym = codes "the keysym after the string has another character"
+own_sentence Mark = codes "the text has one combining mark twice in a row"
+own_sentence Form = codes "the text is not in normal form C"
+own_sentence Comment = codes "the comment stands most often beside another text, and the text beside another comment"
+own_sentence (Reader reader class) = class_said class
+own_sentence kind = []
 
-abbrev pub prefix_line : List (List ℕ) → Finding → LinePlace → List ℕ
-prefix_line paths f place = beside_line (codes "prefix") (codes "defines a longer sequence that begins with this one, and the longer one is typed") paths f place
+abbrev pub kind_sentence : Row → Kind → List ℕ
+kind_sentence row (Fault index) = fault_sentence row index
+kind_sentence row (Overridden line) = line_sentence line (codes " gives the sequence another text, which counts")
+kind_sentence row (Repeated line) = line_sentence line (codes " gives the sequence the same text again")
+kind_sentence row (Prefix place) = place_sentence row.paths place (codes " defines a longer sequence that begins with this one, and the longer one is typed")
+kind_sentence row (Redundant place) = place_sentence row.paths place (codes " is included, and gives the sequence the same text")
+kind_sentence row kind = own_sentence kind
 
-abbrev pub redundant_line : List (List ℕ) → Finding → LinePlace → List ℕ
-redundant_line paths f place = beside_line (codes "redundant") (codes "is included, and gives the sequence the same text") paths f place
+abbrev pub sentence_of : Row → List ℕ
+sentence_of row = kind_sentence row row.finding.kind
 
--- the same of a fault, with its column and what is said of it
-abbrev pub placed_line : List Source → List (List ℕ) → ReadFault → ℕ × Position → List ℕ
-placed_line sources paths fault at =
-    shown_text (path_of paths at.0) ++ codes ":" ++ decimal at.1.line ++ codes ":" ++ decimal at.1.column ++ codes ": fault: " ++ read_said sources fault ++ 10 ∷ []
+-- ---- the place
 
-abbrev pub fault_line : List Source → List (List ℕ) → ReadFault → List ℕ
-fault_line sources paths fault = option_map_or (placed_line sources paths fault) (position_of sources fault) []
+abbrev pub fault_column : Row → ℕ → ℕ
+fault_column row index = option_map_or (λ fault. option_map_or (λ at. at.1.column) (position_of row.sources fault) 1) (slice_get row.faults index) 1
 
-abbrev pub line_of_kind : List Source → List ReadFault → List (List ℕ) → Finding → Kind → List ℕ
-line_of_kind sources faults paths f (Fault index) = option_map_or (fault_line sources paths) (slice_get faults index) []
-line_of_kind sources faults paths f (Prefix place) = prefix_line paths f place
-line_of_kind sources faults paths f (Redundant place) = redundant_line paths f place
-line_of_kind sources faults paths f kind = kind_line paths f
+-- of a fault its own, and else 1
+abbrev pub kind_column : Row → Kind → ℕ
+kind_column row (Fault index) = fault_column row index
+kind_column row kind = 1
 
-abbrev pub finding_line : List Source → List ReadFault → List (List ℕ) → Finding → List ℕ
-finding_line sources faults paths f = line_of_kind sources faults paths f f.kind
+abbrev pub column_of : Row → ℕ
+column_of row = kind_column row row.finding.kind
 
-abbrev pub findings_text : List Source → List ReadFault → List (List ℕ) → List Finding → List ℕ
-findings_text sources faults paths findings = flat_map (finding_line sources faults paths) findings
+-- ---- the line
+
+-- `PATH:LINE:COLUMN: KIND: `
+abbrev pub row_head : Row → List ℕ
+row_head row =
+    shown_text (path_of row.paths row.finding.source) ++ (codes ":" ++ (decimal row.finding.line ++ (codes ":" ++ (decimal (column_of row) ++ (codes ": " ++ (kind_word row.finding.kind ++ codes ": "))))))
+
+-- the same, the sentence, and a newline (code 10)
+abbrev pub row_line : Row → List ℕ
+row_line row = row_head row ++ (sentence_of row ++ 10 ∷ [])
+
+abbrev pub rows_text : List Row → List ℕ
+rows_text rows = flat_map row_line rows

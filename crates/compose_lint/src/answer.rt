@@ -1,119 +1,80 @@
-//! What `lint` answers on the files that it is given.
-ghost use Rattle.std.specs.Prelude.{◌≡◌, map, IfOk};
-ghost use Rattle.keysym_core.specs.Header.{names_of};
-ghost use Rattle.compose_lint.specs.Answers.{IsLinted, LintGives, Tells, first_faults, root_of};
-ghost use Rattle.compose_lint.specs.Report.{findings_text};
+//! What `lint` answers on the tables that it is given.
+ghost use Rattle.std.specs.Prelude.{◌≡◌, IfOk, string_bytes};
+ghost use Rattle.compose_lint.specs.Answers as words;
+ghost use Rattle.compose_lint.specs.Answers.{AnswersBy, AnswersLint, asked};
 
-use crate::finding::Finding;
-use crate::lint::find_findings;
-use crate::reader::Readers;
-use crate::report::{FoundIn, findings_text};
+use crate::accepted::{accept_text, left_by};
+use crate::asking::{LintFault, LintForm, LintInput};
+use crate::json::json_answer;
+use crate::report::rows_text;
+use crate::row::{Row, rows_in, with_faults};
 use compose_answer::{Answer, Refusal};
-use compose_read::{ReadFault, Sources, read_faults};
 use keysym_core::{NameFault, Names};
 use std::alloc::{AllocError, Global};
 
-/// How many faults are looked at.
-const MOST_FAULTS: usize = 1000;
-
-/// What `lint` is given: the names of keysyms as a header, the sources of a table, the path of the
-/// file of each, in their order, the readers that are asked for, and whether what included files
-/// say too is asked for.
-#[derive(Clone, Copy)]
-pub struct LintInput<'a> {
-    pub header: &'a [u8],
-    pub sources: &'a Sources,
-    pub paths: &'a [&'a str],
-    pub readers: Readers,
-    pub is_all: bool,
-}
-
-/// A line for each finding, `PATH:LINE:COLUMN: KIND: SENTENCE`, by source and by line, with the
-/// answer no; the answer yes without a line where there is none.
+/// What is found in the tables, in their order, and is not accepted: no, with a line for each, `PATH:LINE:COLUMN: KIND: SENTENCE`, as JSON,
+/// or as the list that accepts it; yes where there is none. At the cost of `find_findings` for each table, and O(bytes).
 ///
 /// # Errors
-/// `Names` where the header is refused, and `NoMemory`.
-pub fn lint_table(alloc: Global, input: &LintInput<'_>) -> Result<Answer, Refusal>
-    ensures { LintGives
-        (IsLinted input.entry.now.readers input.entry.now.is_all input.entry.now.sources.now
-        (map (λ path. path.now) input.entry.now.paths.now))
-        (names_of input.entry.now.header.now) result }
+/// `Names` where the header is refused, then `BadLine` where a line of the list of accepted findings doesn't begin with the word of a kind,
+/// then `Stale` where a line of it accepts no finding of these tables; and `NoMemory`.
+pub fn lint_tables(alloc: Global, input: &LintInput<'_>) -> Result<Answer, LintFault>
+    ensures { AnswersLint (asked input.entry.now) result }
 {
-    let names = match Names::read(alloc, input.header) {
-        Ok(names) => names,
-        Err(NameFault::NoMemory) => return Err(Refusal::NoMemory),
-        Err(fault) => return Err(Refusal::Names(fault)),
-    };
-    Ok(answer_by(alloc, &names, input)?)
+    match Names::read(alloc, input.header) {
+        Ok(names) => answer_by(alloc, &names, input),
+        Err(NameFault::NoMemory) => Err(LintFault::Input(Refusal::NoMemory)),
+        Err(fault) => Err(LintFault::Input(Refusal::Names(fault))),
+    }
 }
 
 /// The answer by these names.
-fn answer_by(alloc: Global, names: &Names, input: &LintInput<'_>) -> Result<Answer, AllocError>
-    ensures { IfOk result
-        (IsLinted input.entry.now.readers input.entry.now.is_all input.entry.now.sources.now
-        (map (λ path. path.now) input.entry.now.paths.now) names.now) }
+fn answer_by(alloc: Global, names: &Names, input: &LintInput<'_>) -> Result<Answer, LintFault>
+    ensures { AnswersBy (asked input.entry.now) names.now result }
 {
-    let faults = first_faults(alloc, names, input.sources)?;
-    answer_with(alloc, names, input, &faults)
+    let tables = with_faults(alloc, names, input.tables)?;
+    let rows = rows_in(alloc, names, input.readers, input.is_all, &tables)?;
+    answer_on(alloc, input, &rows)
 }
 
-/// The first faults of the table.
-fn first_faults(
-    alloc: Global,
-    names: &Names,
-    sources: &Sources,
-) -> Result<Vec<ReadFault>, AllocError>
-    ensures { IfOk result (λ faults. faults.items ≡ first_faults names.now sources.now) }
+/// What is answered on these findings.
+fn answer_on(alloc: Global, input: &LintInput<'_>, rows: &[Row<'_>]) -> Result<Answer, LintFault>
+    ensures { words.AnswersOn (asked input.entry.now) rows.now result }
 {
-    let faults = read_faults(alloc, names, sources, root_of(sources), MOST_FAULTS)?;
-    Ok(faults)
-}
-
-/// The answer by these names, with the first faults of the table.
-fn answer_with(
-    alloc: Global,
-    names: &Names,
-    input: &LintInput<'_>,
-    faults: &[ReadFault],
-) -> Result<Answer, AllocError>
-    requires { faults.now ≡ first_faults names.now input.now.sources.now }
-    ensures { IfOk result
-        (IsLinted input.entry.now.readers input.entry.now.is_all input.entry.now.sources.now
-        (map (λ path. path.now) input.entry.now.paths.now) names.now) }
-{
-    let found = find_findings(
-        alloc,
-        names,
-        input.sources,
-        input.readers,
-        input.is_all,
-        faults,
-    )?;
-    let found_in = FoundIn {
-        sources: input.sources,
-        paths: input.paths,
-        faults,
-    };
-    answer_of(alloc, found_in, &found)
-}
-
-/// The answer with the lines of these findings.
-fn answer_of(alloc: Global, found_in: FoundIn<'_>, found: &[Finding]) -> Result<Answer, AllocError>
-    ensures { IfOk result
-        (Tells
-        (findings_text found_in.entry.sources.now found_in.entry.faults.now
-        (map (λ path. path.now) found_in.entry.paths.now))
-        found.now) }
-{
-    if found.is_empty() {
-        return Ok(Answer::Yes(String::new(alloc)));
+    match left_by(alloc, input.accepted, rows) {
+        Ok(left) => Ok(answer_of(alloc, input.form, rows, &left)?),
+        Err(fault) => Err(LintFault::from(fault)),
     }
-    Ok(Answer::No(findings_text(alloc, found_in, found)?))
 }
 
-/// The name of the first source, from which the table is read; nothing where there is none.
-fn root_of(sources: &Sources) -> &str
-    ensures { result.now ≡ root_of sources.now }
+/// What is answered where these of all findings are left.
+fn answer_of(
+    alloc: Global,
+    form: LintForm,
+    rows: &[Row<'_>],
+    left: &[Row<'_>],
+) -> Result<Answer, AllocError>
+    ensures { IfOk result (words.Tells form rows.now left.now) }
 {
-    sources.name(0).unwrap_or("")
+    let text = form_text(alloc, form, rows, left)?;
+    if left.is_empty() {
+        return Ok(Answer::Yes(text));
+    }
+    Ok(Answer::No(text))
+}
+
+/// What is printed where these of all findings are left.
+fn form_text(
+    alloc: Global,
+    form: LintForm,
+    rows: &[Row<'_>],
+    left: &[Row<'_>],
+) -> Result<String, AllocError>
+    ensures { IfOk result (λ text. string_bytes text ≡ words.form_text form rows.now left.now) }
+{
+    match form {
+        LintForm::Lines => rows_text(alloc, left),
+        LintForm::Json => json_answer(alloc, rows, left),
+        LintForm::AcceptList => accept_text(alloc, left),
+    }
 }

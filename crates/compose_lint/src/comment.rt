@@ -22,7 +22,7 @@ fn behind_string<'a>(line: &'a [u8], raw: &str) -> &'a [u8]
 }
 
 /// The bytes behind so many.
-fn behind(bytes: &[u8], count: usize) -> &[u8]
+pub(crate) fn behind(bytes: &[u8], count: usize) -> &[u8]
     ensures { result.now ≡ drop count bytes.now }
 {
     match bytes.get(count..) {

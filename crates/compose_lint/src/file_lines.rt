@@ -127,7 +127,7 @@ fn is_spaced(first: u8, second: u8) -> bool
 }
 
 /// Whether the byte is a blank.
-fn is_blank(byte: u8) -> bool
+pub(crate) fn is_blank(byte: u8) -> bool
     ensures { result ≡ is_blank byte }
 {
     matches!(byte, b' ' | b'\t' | b'\r')

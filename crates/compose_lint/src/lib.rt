@@ -1,7 +1,14 @@
 //! What is wrong in a table, and which readers of Compose files don't take it.
 #![tactic(auto)]
 
+ghost use Rattle.std.specs.Prelude.{◌≡◌, ℕ, List, [], ◌∷◌, ◌++◌, IsTrue};
+ghost use Rattle.compose_text.specs.Bytes.{is_blank};
+ghost use Rattle.compose_lint.specs.Accepted.{AcceptsAll, accept_lines, listed_line};
+ghost use Rattle.compose_lint.specs.Rows.{Row};
+
+mod accepted;
 mod answer;
+mod asking;
 mod classes;
 mod comment;
 mod comments;
@@ -12,19 +19,34 @@ mod faults;
 mod file_lines;
 mod finding;
 mod included;
+mod json;
 mod kinds;
 mod lines;
 mod lint;
+mod listed;
 mod longer;
 mod lost;
 mod production;
 mod reader;
 mod report;
+mod row;
 mod source_lines;
 mod texts;
 
-pub use answer::{LintInput, lint_table};
+pub use answer::lint_tables;
+pub use asking::{LintFault, LintForm, LintInput, LintTable};
 pub use finding::{Finding, Kind, LinePlace};
 pub use lint::find_findings;
 pub use lost::lost_count;
 pub use reader::{Class, Reader, Readers};
+
+/// The list that accepts findings, as [`lint_tables`] writes it, is read again and accepts them: no line of it is stale, and no finding is left.
+pub fn law_accept_text()
+    ensures { (rows : List Row) → AcceptsAll (accept_lines rows) rows }
+{}
+
+/// A blank at the end of a line, a carriage return too, says nothing in a list of accepted findings.
+pub fn law_blank_at_end()
+    ensures { (line : List ℕ) (b : ℕ) → IsTrue (is_blank b)
+        → listed_line (line ++ b ∷ []) ≡ listed_line line }
+{}

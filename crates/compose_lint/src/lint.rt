@@ -41,7 +41,7 @@ pub fn find_findings(
 }
 
 /// What is found in the lines of these files.
-fn findings_of(
+pub(crate) fn findings_of(
     alloc: Global,
     names: &Names,
     readers: Readers,

@@ -101,7 +101,7 @@ pub(crate) fn read_names<'n, F: Folder>(
 }
 
 /// The list of the changes that are meant; an empty one where no path is given.
-fn read_accepted<F: Folder>(
+pub(crate) fn read_accepted<F: Folder>(
     files: &mut ReadOnce<F>,
     alloc: Global,
     path: Option<&str>,

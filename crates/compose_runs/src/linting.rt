@@ -1,87 +1,399 @@
 //! `lint`: what is wrong in Compose files.
-ghost use Rattle.std.specs.Prelude.{◌≡◌};
+ghost use Rattle.std.specs.Prelude.{◌≡◌, ◌++◌, ◌∷◌, [], map, IfOk, Some, option_copied, string_bytes, codes};
+ghost use Rattle.compose_lint.specs.Answers.{AnswersLint, asked, table_given};
+ghost use Rattle.compose_runs.specs.DiffFiles.{IsAccepted};
+ghost use Rattle.compose_runs.specs.Environment.{GivesPlaces};
+ghost use Rattle.compose_runs.specs.Environment as said;
+ghost use Rattle.compose_runs.specs.Linting as words;
+ghost use Rattle.compose_runs.specs.Linting.{AreReadTables, IsLintAcceptRefusal, IsLintOutcome, IsLintPrinted, IsLintRun, IsReadTable, asked_files, lint_asked, lint_places};
 
-use crate::differing::read_names;
+use crate::differing::{read_accepted, read_names};
 use crate::environment::{Environment, PlaceArguments};
-use compose_answer::{Answer, Ended, Refusal};
+use crate::one_table::{ChosenFile, file_or_own};
+use compose_answer::{Answer, Ended};
 use compose_arguments::LintArguments;
+use compose_diff::AcceptFault;
 use compose_folder::{Folder, ReadOnce};
-use compose_input::{Fault, NameFiles, TableFiles};
-use compose_lint::{LintInput, Readers, lint_table};
+use compose_input::{Fault, NameFiles, Places, TableFiles};
+use compose_lint::{LintFault, LintForm, LintInput, LintTable, Readers, lint_tables};
+use compose_messages::{FileMessage, Message, Position};
 use compose_model::Rule;
+use compose_read::Sources;
 use compose_report::{Outcome, outcome_with};
 use std::alloc::{AllocError, Global};
+use std::marker::Model;
 
-/// The outcome of `lint`: what is found in each of the files, in their order. The run ends as the worst of them does. At the cost of `find_files` and
-/// of `lint_table` for each file.
+/// The outcome of `lint`: what is found in the tables of the Compose files, in their order, and is not accepted. The files of names are read first,
+/// then those of each table, and the list of the findings that are accepted. At the cost of `find_files` for each table and of `lint_tables`.
 pub fn run_lint<F: Folder>(
     alloc: Global,
     files: &mut ReadOnce<F>,
     environment: &Environment,
     names: &[&str],
     arguments: &LintArguments<'_>,
-) -> Result<Outcome, Fault> {
-    let names = read_names(files, alloc, names)?;
-    let places = environment.places(PlaceArguments {
+) -> Result<Outcome, Fault>
+    ensures kept { files.new.holds ≡ files.old.holds }
+    ensures outcome { IfOk result
+        (λ outcome. IsLintRun files.old.holds environment.now (map (λ name. name.now) names.now)
+        arguments.now outcome) }
+{
+    let read = LintFiles::read(files, alloc, environment, names, arguments)?;
+    Ok(lint_outcome(alloc, &read, arguments)?)
+}
+
+/// The Compose file of a table, with the line that notes it if it was not given, and the files of the table.
+#[derive(Drop)]
+struct ReadTable {
+    file: ChosenFile,
+    table: TableFiles,
+}
+
+/// What `lint` reads.
+#[derive(Drop)]
+struct LintFiles<'n> {
+    names: NameFiles<'n>,
+    tables: Vec<ReadTable>,
+    accepted: Vec<u8>,
+}
+
+impl<'n> LintFiles<'n> {
+    ghost use Rattle.compose_runs.specs.Linting.{AreLintFiles};
+
+    /// Reads the files of names, each table as it lies on the system, and the list of the findings that are accepted.
+    fn read<F: Folder>(
+        files: &mut ReadOnce<F>,
+        alloc: Global,
+        environment: &Environment,
+        names: &[&'n str],
+        arguments: &LintArguments<'_>,
+    ) -> Result<LintFiles<'n>, Fault>
+        ensures kept { files.new.holds ≡ files.old.holds }
+        ensures read { IfOk result
+            (λ read. AreLintFiles files.old.holds environment.now
+            (map (λ name. name.now) names.now) arguments.now read) }
+    {
+        let names = read_names(files, alloc, names)?;
+        let places = places_of(environment, arguments)?;
+        let tables = read_tables(alloc, files, environment, places, &arguments.files)?;
+        let accepted = read_accepted(files, alloc, arguments.accept)?;
+        Ok(LintFiles {
+            names,
+            tables,
+            accepted,
+        })
+    }
+}
+
+/// Where tables lie: as the arguments say, or else the environment.
+fn places_of<'a>(
+    environment: &'a Environment,
+    arguments: &LintArguments<'a>,
+) -> Result<Places<'a>, Fault>
+    ensures { GivesPlaces (lint_places arguments.now) result (said.places_of environment.now) }
+{
+    environment.places(PlaceArguments {
         system: arguments.system,
         locale: arguments.locale,
-        root: None,
-    })?;
-    let readers = readers_of(&arguments.readers);
-    let mut outcome = Outcome::of_output(alloc, String::new(alloc), Ended::Yes);
-    for file in &arguments.files {
-        let table = TableFiles::found(files, alloc, places, file, Rule::Longest)?;
-        let answered = lint_answer(alloc, &names, &table, readers, arguments.all);
-        add_outcome(
-            &mut outcome,
-            outcome_with(alloc, &[], answered, String::new(alloc))?,
-        )?;
-    }
-    Ok(outcome)
+        root: arguments.root,
+    })
 }
 
-/// What is answered on the files of a table.
+/// The tables of the Compose files at these paths, in their order; if there is none, that of the user's own file.
+fn read_tables<F: Folder>(
+    alloc: Global,
+    files: &mut ReadOnce<F>,
+    environment: &Environment,
+    places: Places<'_>,
+    paths: &[&str],
+) -> Result<Vec<ReadTable>, Fault>
+    ensures kept { files.new.holds ≡ files.old.holds }
+    ensures read { IfOk result
+        (λ read. AreReadTables files.old.holds environment.now places.entry
+        (asked_files (map (λ path. path.now) paths.now)) read.items) }
+{
+    if paths.is_empty() {
+        return own_table(alloc, files, environment, places);
+    }
+    given_tables(alloc, files, environment, places, paths)
+}
+
+/// The table of the user's own file.
+fn own_table<F: Folder>(
+    alloc: Global,
+    files: &mut ReadOnce<F>,
+    environment: &Environment,
+    places: Places<'_>,
+) -> Result<Vec<ReadTable>, Fault>
+    ensures kept { files.new.holds ≡ files.old.holds }
+    ensures read { IfOk result
+        (λ read. AreReadTables files.old.holds environment.now places.entry (asked_files [])
+        read.items) }
+{
+    let mut read = Vec::new(alloc);
+    read.push(read_table(alloc, files, environment, places, None)?)?;
+    Ok(read)
+}
+
+/// The tables of the Compose files at these paths, in their order.
+fn given_tables<F: Folder>(
+    alloc: Global,
+    files: &mut ReadOnce<F>,
+    environment: &Environment,
+    places: Places<'_>,
+    paths: &[&str],
+) -> Result<Vec<ReadTable>, Fault>
+    ensures kept { files.new.holds ≡ files.old.holds }
+    ensures read { IfOk result
+        (λ read. AreReadTables files.old.holds environment.now places.entry
+        (map (λ path. Some path.now) paths.now) read.items) }
+{
+    let mut read = Vec::new(alloc);
+    for path in paths {
+        let table = read_table(alloc, files, environment, places, Some(path))?;
+        read.push(table)?;
+    }
+    Ok(read)
+}
+
+/// The table of the Compose file that is given, or else of the user's own.
+fn read_table<F: Folder>(
+    alloc: Global,
+    files: &mut ReadOnce<F>,
+    environment: &Environment,
+    places: Places<'_>,
+    given: Option<&str>,
+) -> Result<ReadTable, Fault>
+    ensures kept { files.new.holds ≡ files.old.holds }
+    ensures read { IfOk result
+        (λ read. IsReadTable files.old.holds environment.now places.entry
+        (option_copied given.entry) read) }
+{
+    let file = file_or_own(alloc, files, environment, places, given)?;
+    let table = TableFiles::found(files, alloc, places, &file.path, Rule::Longest)?;
+    Ok(ReadTable { file, table })
+}
+
+/// The outcome of `lint`, once the files are read.
+fn lint_outcome(
+    alloc: Global,
+    files: &LintFiles<'_>,
+    arguments: &LintArguments<'_>,
+) -> Result<Outcome, AllocError>
+    ensures { IfOk result (λ outcome. IsLintOutcome files.now arguments.now outcome) }
+{
+    let answered = lint_answer(alloc, files, arguments);
+    let printed = printed_outcome(alloc, arguments.accept, answered)?;
+    Ok(printed.with_notes(notes_of(alloc, &files.tables)?))
+}
+
+/// The lines that note the files that were not given.
+fn notes_of(alloc: Global, tables: &[ReadTable]) -> Result<String, AllocError>
+    ensures { IfOk result (λ notes. string_bytes notes ≡ words.notes_in tables.now) }
+{
+    let mut notes = String::new(alloc);
+    for read in tables {
+        notes.push_str(&read.file.note)?;
+    }
+    Ok(notes)
+}
+
+/// What is answered on these files.
 fn lint_answer(
     alloc: Global,
-    names: &NameFiles<'_>,
-    table: &TableFiles,
-    readers: Readers,
-    is_all: bool,
-) -> Result<Answer, Refusal> {
-    let paths = table.path_texts(alloc)?;
-    let input = LintInput {
-        header: &names.lines,
-        sources: &table.sources,
-        paths: &paths,
-        readers,
-        is_all,
-    };
-    lint_table(alloc, &input)
+    files: &LintFiles<'_>,
+    arguments: &LintArguments<'_>,
+) -> Result<Answer, LintFault>
+    ensures { AnswersLint (lint_asked files.now arguments.now) result }
+{
+    let pathed = with_paths(alloc, &files.tables)?;
+    let tables = tables_in(alloc, &pathed)?;
+    lint_tables(alloc, &input_of(files, arguments, &tables))
 }
 
-/// Adds what is printed of a further file.
-fn add_outcome(outcome: &mut Outcome, more: Outcome) -> Result<(), AllocError> {
-    outcome.output.push_str(&more.output)?;
-    outcome.errors.push_str(&more.errors)?;
-    outcome.ended = worse(outcome.ended, more.ended);
-    Ok(())
+/// What `lint` is asked on these tables.
+fn input_of<'a>(
+    files: &'a LintFiles<'_>,
+    arguments: &'a LintArguments<'_>,
+    tables: &'a [LintTable<'a>],
+) -> LintInput<'a>
+    ensures { asked result
+        ≡ record (lint_asked files.now arguments.now) { tables = map table_given tables.now } }
+{
+    let (readers, form) = (
+        readers_of(&arguments.readers),
+        form_of(arguments.write_accept, arguments.json),
+    );
+    LintInput {
+        header: &files.names.lines,
+        tables,
+        readers,
+        is_all: arguments.all,
+        accepted: &files.accepted,
+        form,
+    }
+}
+
+/// The sources of a table, and the paths of their files.
+#[derive(Drop)]
+struct PathedTable<'a> {
+    sources: &'a Sources,
+    paths: Vec<&'a str>,
+}
+
+impl<'a> Model for PathedTable<'a> {
+    ghost use Rattle.std.specs.Prelude.{map};
+    ghost use Rattle.compose_lint.specs.Rows.{Table};
+
+    ghost Value = { Table };
+
+    ghost view = { λ t. record {
+      sources = t.sources.now;
+      paths = map (λ path. path.now) t.paths.items;
+    } };
+}
+
+impl<'a> PathedTable<'a> {
+    ghost use Rattle.compose_lint.specs.Answers.{table_given};
+
+    /// The table as it is given to `lint`.
+    fn given<'b>(&'b self) -> LintTable<'b>
+        ensures { table_given result ≡ self.now }
+    {
+        LintTable {
+            sources: self.sources,
+            paths: &self.paths,
+        }
+    }
+}
+
+/// The tables with the paths of their files.
+fn with_paths(alloc: Global, tables: &[ReadTable]) -> Result<Vec<PathedTable<'_>>, AllocError>
+    ensures { IfOk result (λ pathed. pathed.items ≡ map words.table_of tables.now) }
+{
+    let mut pathed = Vec::new(alloc);
+    for read in tables {
+        pathed.push(with_own_paths(alloc, read)?)?;
+    }
+    Ok(pathed)
+}
+
+/// A table with the paths of its files.
+fn with_own_paths(alloc: Global, read: &ReadTable) -> Result<PathedTable<'_>, AllocError>
+    ensures { IfOk result (λ pathed. pathed ≡ words.table_of read.now) }
+{
+    let paths = read.table.path_texts(alloc)?;
+    Ok(PathedTable {
+        sources: &read.table.sources,
+        paths,
+    })
+}
+
+/// The tables as they are given to `lint`.
+fn tables_in<'a>(
+    alloc: Global,
+    pathed: &'a [PathedTable<'_>],
+) -> Result<Vec<LintTable<'a>>, AllocError>
+    ensures { IfOk result (λ given. map table_given given.items ≡ pathed.now) }
+{
+    let mut given = Vec::new(alloc);
+    for table in pathed {
+        given.push(table.given())?;
+    }
+    Ok(given)
+}
+
+/// How findings are printed.
+fn form_of(write_accept: bool, json: bool) -> LintForm
+    ensures { result ≡ words.form_of write_accept json }
+{
+    match (write_accept, json) {
+        (true, _) => LintForm::AcceptList,
+        (false, true) => LintForm::Json,
+        (false, false) => LintForm::Lines,
+    }
 }
 
 /// The readers of these words; libX11 and libxkbcommon if there is none.
-fn readers_of(words: &[&str]) -> Readers {
-    let is_usual = words.is_empty();
+fn readers_of(given: &[&str]) -> Readers
+    ensures { result ≡ words.readers_of (map (λ word. word.now) given.now) }
+{
+    let is_usual = given.is_empty();
     Readers {
-        libx11: is_usual || words.contains(&"libX11"),
-        libxkbcommon: is_usual || words.contains(&"libxkbcommon"),
-        gtk3: words.contains(&"gtk3"),
-        gtk4: words.contains(&"gtk4"),
+        libx11: is_usual || given.contains(&"libX11"),
+        libxkbcommon: is_usual || given.contains(&"libxkbcommon"),
+        gtk3: given.contains(&"gtk3"),
+        gtk4: given.contains(&"gtk4"),
     }
 }
 
-/// The end with the greater status.
-fn worse(one: Ended, other: Ended) -> Ended {
-    if other.status() > one.status() {
-        return other;
+/// The outcome of what is answered, or refused, without notes.
+fn printed_outcome(
+    alloc: Global,
+    accept: Option<&str>,
+    answered: Result<Answer, LintFault>,
+) -> Result<Outcome, AllocError>
+    ensures { IfOk result
+        (λ outcome. IsLintPrinted (option_copied accept.entry) answered outcome) }
+{
+    match answered {
+        Ok(answer) => outcome_with(alloc, &[], Ok(answer), String::new(alloc)),
+        Err(LintFault::Input(refusal)) => {
+            outcome_with(alloc, &[], Err(refusal), String::new(alloc))
+        }
+        Err(LintFault::Accept(fault)) => accept_outcome(alloc, accept, &fault),
     }
-    one
+}
+
+/// The outcome where the list of the findings that are accepted is refused.
+fn accept_outcome(
+    alloc: Global,
+    path: Option<&str>,
+    fault: &AcceptFault,
+) -> Result<Outcome, AllocError>
+    ensures { IfOk result
+        (λ outcome. IsLintAcceptRefusal (option_copied path.entry) fault.now outcome) }
+{
+    let own = format!(in alloc; "{fault}")?;
+    let lines = accept_lines(alloc, &own, path.unwrap_or(""), fault)?;
+    Ok(Outcome::of_errors(alloc, lines, Ended::Refused))
+}
+
+/// The line of the refusal, by what the fault is printed as, and below it the line of the list.
+fn accept_lines(
+    alloc: Global,
+    own: &str,
+    path: &str,
+    fault: &AcceptFault,
+) -> Result<String, AllocError>
+    ensures { IfOk result
+        (λ lines. string_bytes lines
+        ≡ (codes "refused: accept: " ++ (own.now ++ 10 ∷ []))
+        ++ words.lint_accept_details path.now fault.now) }
+{
+    let mut lines = format!(in alloc; "refused: accept: {own}\n")?;
+    lines.push_str(&accept_details(alloc, path, fault)?)?;
+    Ok(lines)
+}
+
+/// What is wrong with which line of the list of the findings that are accepted.
+fn accept_details(alloc: Global, path: &str, fault: &AcceptFault) -> Result<String, AllocError>
+    ensures { IfOk result
+        (λ lines. string_bytes lines ≡ words.lint_accept_details path.now fault.now) }
+{
+    let (line, words) = match fault {
+        AcceptFault::Stale { line } => (*line, "no finding in these tables is told by the line"),
+        AcceptFault::BadLine { line } => {
+            (
+                *line,
+                "expected the word of a kind, \": \" and a line of a Compose file",
+            )
+        }
+        AcceptFault::NoMemory => return Ok(String::new(alloc)),
+    };
+    let message = FileMessage {
+        path,
+        position: Some(Position { line, column: 1 }),
+        message: Message::Plain(words),
+    };
+    format!(in alloc; "{message}\n")
 }

@@ -1,0 +1,55 @@
+-- The bytes of a line are those that the lines of its file have.
+use Rattle.std.proofs.Common.{◌≡◌, ◌∙◌, ℕ, zero, suc, ◌+◌, ◌-◌, Bool, List, [], ◌∷◌, map, refl, sym, ap, get_or, arith}
+use Rattle.std.specs.Prelude.{Option, Some, None, slice_get}
+use Rattle.std.specs.Option.{option_map, option_map_or}
+use Rattle.keysym_core.specs.Names.{KeysymNames}
+use Rattle.compose_read.specs.Lines.{Source, Visit, numbered, source_lines, own_lines}
+use Rattle.compose_read.specs.declared.ReadFault.{ReadFault}
+use Rattle.compose_messages.specs.Places.{line_at}
+use Rattle.compose_lint.specs.Lines.{LintLine, SourceLines, lint_line, lines_in, lint_source, sources_from, all_sources}
+use Rattle.compose_lint.specs.Rows.{Table, bytes_in, row_in, row_of}
+use Rattle.compose_lint.specs.declared.finding.Finding.{Finding}
+
+abbrev nothing : Source
+nothing = record { name = []; bytes = [] }
+
+-- the line with this index
+numbered_at : (names : KeysymNames) (sources : List Source) (source depth n : ℕ) (lines : List (List ℕ)) (i : ℕ)
+    → option_map_or (λ (l : LintLine). l.bytes) (slice_get (map (lint_line names sources) (numbered source depth n lines)) i) [] ≡ get_or lines i []
+numbered_at names sources source depth n [] i = refl
+numbered_at names sources source depth n (line ∷ lines) zero = refl
+numbered_at names sources source depth n (line ∷ lines) (suc i) = numbered_at names sources source depth (1 + n) lines i
+
+abbrev line_bytes : Option LintLine → List ℕ
+line_bytes l = option_map_or (λ (l : LintLine). l.bytes) l []
+
+-- the file with this index
+file_at : (names : KeysymNames) (sources : List Source) (is_all : Bool) (k : ℕ) (rest : List Source) (i j : ℕ) → j ≡ k + i
+    → slice_get (sources_from names sources is_all k rest) i ≡ option_map (lint_source names sources is_all j) (slice_get rest i)
+file_at names sources is_all k [] i j is = refl
+file_at names sources is_all k (s ∷ rest) zero j is = let same : k ≡ j = omega (arith, is) in ap (λ n. Some (lint_source names sources is_all n s)) same
+file_at names sources is_all k (s ∷ rest) (suc i) j is = file_at names sources is_all (1 + k) rest i j (omega (arith, is))
+
+absent : (xs : List Source) (i : ℕ) → slice_get xs i ≡ None → get_or xs i nothing ≡ nothing
+absent [] i none = refl
+absent (x ∷ xs) zero none = cc
+absent (x ∷ xs) (suc i) none = absent xs i none
+
+-- the bytes of the line in which a finding stands
+pub same_bytes : (names : KeysymNames) (sources : List Source) (is_all : Bool) (f : Finding) → bytes_in (all_sources names sources is_all) f ≡ line_at sources f.source f.line
+same_bytes names sources is_all f =
+    ap (λ o. option_map_or (λ (file : SourceLines). line_bytes (slice_get file.lines (f.line - 1))) o []) (file_at names sources is_all 0 sources f.source f.source (omega arith))
+    ∙ by (slice_get sources f.source) refl
+  where
+    by : (o : Option Source) → slice_get sources f.source ≡ o
+        → option_map_or (λ (file : SourceLines). line_bytes (slice_get file.lines (f.line - 1))) (option_map (lint_source names sources is_all f.source) o) [] ≡ line_at sources f.source f.line
+    by None none = sym (ap (λ (s : Source). get_or (source_lines s.bytes) (f.line - 1) []) (absent sources f.source none))
+    by (Some s) some = numbered_at names sources f.source 0 1 (source_lines (get_or sources f.source nothing).bytes) (f.line - 1)
+
+-- findings with what their table says of them
+pub same_rows : (names : KeysymNames) (is_all : Bool) (t : Table) (faults : List ReadFault) (found : List Finding) → map (row_in t faults (all_sources names t.sources is_all)) found ≡ map (row_of t faults) found
+same_rows names is_all t faults [] = refl
+same_rows names is_all t faults (f ∷ found) =
+    ap (λ bytes. record { sources = t.sources; paths = t.paths; faults = faults; finding = f; bytes = bytes } ∷ map (row_in t faults (all_sources names t.sources is_all)) found)
+    (same_bytes names t.sources is_all f)
+    ∙ ap (λ rows. row_of t faults f ∷ rows) (same_rows names is_all t faults found)

@@ -1,0 +1,70 @@
+-- What is found in tables: each finding, with what its table says of it.
+use Rattle.std.specs.Prelude.{ℕ, ◌-◌, Bool, List, [], take, map, flat_map, slice_get}
+use Rattle.std.specs.Option.{option_map_or}
+use Rattle.keysym_core.specs.Names.{KeysymNames}
+use Rattle.compose_read.specs.Lines.{Source}
+use Rattle.compose_read.specs.Faults.{faults_of}
+use Rattle.compose_read.specs.declared.ReadFault.{ReadFault}
+use Rattle.compose_messages.specs.Places.{line_at}
+use Rattle.compose_lint.specs.Findings.{findings}
+use Rattle.compose_lint.specs.Lines.{LintLine, SourceLines}
+use Rattle.compose_lint.specs.declared.finding.Finding.{Finding}
+use Rattle.compose_lint.specs.declared.reader.Readers.{Readers}
+
+-- a table: its sources, and the path of the file of each
+pub record Table : Type 0 where
+  pub sources : List Source
+  pub paths : List (List ℕ)
+
+-- a finding, the sources, the paths and the first faults of its table, and the bytes of the line in which it stands
+pub record Row : Type 0 where
+  pub sources : List Source
+  pub paths : List (List ℕ)
+  pub faults : List ReadFault
+  pub finding : Finding
+  pub bytes : List ℕ
+
+-- the name of the first source, from which a table is read; nothing where there is none
+abbrev pub root_of : List Source → List ℕ
+root_of sources = option_map_or (λ (s : Source). s.name) (slice_get sources 0) []
+
+abbrev pub max_faults : ℕ
+max_faults = 1000
+
+-- the first of the faults of the table
+abbrev pub first_faults : KeysymNames → List Source → List ReadFault
+first_faults names sources = take max_faults (faults_of names sources (root_of sources))
+
+abbrev pub row_of : Table → List ReadFault → Finding → Row
+row_of t faults f = record { sources = t.sources; paths = t.paths; faults = faults; finding = f; bytes = line_at t.sources f.source f.line }
+
+-- what is found in the lines of a table, in order, where these are the faults that are read
+abbrev pub rows_by : KeysymNames → Readers → Bool → Table → List ReadFault → List Row
+rows_by names readers is_all t faults = map (row_of t faults) (findings names readers is_all faults t.sources)
+
+abbrev pub table_rows : KeysymNames → Readers → Bool → Table → List Row
+table_rows names readers is_all t = rows_by names readers is_all t (first_faults names t.sources)
+
+-- what is found in the tables, in their order
+abbrev pub rows_in : KeysymNames → Readers → Bool → List Table → List Row
+rows_in names readers is_all tables = flat_map (table_rows names readers is_all) tables
+
+-- ---- in words for private functions
+
+-- a table, and its first faults
+pub record FaultyTable : Type 0 where
+  pub table : Table
+  pub faults : List ReadFault
+
+abbrev pub with_faults : KeysymNames → Table → FaultyTable
+with_faults names t = record { table = t; faults = first_faults names t.sources }
+
+abbrev pub faulty_rows : KeysymNames → Readers → Bool → FaultyTable → List Row
+faulty_rows names readers is_all t = rows_by names readers is_all t.table t.faults
+
+-- the bytes of the line of these files in which the finding stands
+abbrev pub bytes_in : List SourceLines → Finding → List ℕ
+bytes_in files f = option_map_or (λ (file : SourceLines). option_map_or (λ (l : LintLine). l.bytes) (slice_get file.lines (f.line - 1)) []) (slice_get files f.source) []
+
+abbrev pub row_in : Table → List ReadFault → List SourceLines → Finding → Row
+row_in t faults files f = record { sources = t.sources; paths = t.paths; faults = faults; finding = f; bytes = bytes_in files f }

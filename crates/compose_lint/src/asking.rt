@@ -1,0 +1,91 @@
+//! What `lint` is asked, and why it has no answer.
+use crate::reader::Readers;
+use compose_answer::Refusal;
+use compose_diff::AcceptFault;
+use compose_read::Sources;
+use std::alloc::{AllocError, AllocFailed};
+use thiserror::Error;
+
+/// How findings are printed.
+#[derive(Clone, Copy, Debug, PartialEq, Eq)]
+pub enum LintForm {
+    /// A line for each, `PATH:LINE:COLUMN: KIND: SENTENCE`.
+    Lines,
+    /// A JSON object for each, and one that counts.
+    Json,
+    /// The list that accepts them.
+    AcceptList,
+}
+
+/// A table: its sources, and the path of the file of each, in their order.
+#[derive(Clone, Copy)]
+pub struct LintTable<'a> {
+    pub sources: &'a Sources,
+    pub paths: &'a [&'a str],
+}
+
+/// What `lint` is asked.
+#[derive(Clone, Copy)]
+pub struct LintInput<'a> {
+    /// The names of keysyms as a header.
+    pub header: &'a [u8],
+    /// The tables.
+    pub tables: &'a [LintTable<'a>],
+    /// The readers that are asked for.
+    pub readers: Readers,
+    /// Whether what included files say too is asked for.
+    pub is_all: bool,
+    /// The list of the findings that are accepted.
+    pub accepted: &'a [u8],
+    /// How the others are printed.
+    pub form: LintForm,
+}
+
+/// Why `lint` has no answer.
+#[derive(Debug, PartialEq, Eq, Drop, Error)]
+pub enum LintFault {
+    /// The names are refused, or memory was refused.
+    #[error("{0}")]
+    Input(Refusal),
+    /// The list of the findings that are accepted is refused.
+    #[error("refused: accept: {0}")]
+    Accept(AcceptFault),
+}
+
+impl From<AcceptFault> for LintFault {
+    ghost use Rattle.std.specs.Prelude.{◌≡◌};
+    ghost use Rattle.compose_lint.specs.Raised.{accept_raised};
+
+    ghost from_gives = { λ fault e. e ≡ accept_raised fault };
+
+    fn from(fault: AcceptFault) -> LintFault {
+        match fault {
+            AcceptFault::NoMemory => LintFault::Input(Refusal::NoMemory),
+            fault => LintFault::Accept(fault),
+        }
+    }
+}
+
+impl From<AllocError> for LintFault {
+    ghost use Rattle.std.specs.Prelude.{◌≡◌};
+    ghost use Rattle.compose_answer.specs.declared.refusal.Refusal.TheVariants.{NoMemory};
+    ghost use Rattle.compose_lint.specs.declared.asking.LintFault.TheVariants.{Input};
+
+    ghost from_gives = { λ _ e. e ≡ Input NoMemory };
+
+    fn from(_error: AllocError) -> LintFault {
+        LintFault::Input(Refusal::NoMemory)
+    }
+}
+
+impl<T: Drop> From<AllocFailed<T>> for LintFault {
+    ghost use Rattle.std.specs.Prelude.{◌≡◌};
+    ghost use Rattle.compose_answer.specs.declared.refusal.Refusal.TheVariants.{NoMemory};
+    ghost use Rattle.compose_lint.specs.declared.asking.LintFault.TheVariants.{Input};
+
+    ghost from_gives = { λ _ e. e ≡ Input NoMemory };
+
+    fn from(_error: AllocFailed<T>) -> LintFault {
+        LintFault::Input(Refusal::NoMemory)
+    }
+}
