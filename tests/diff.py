@@ -68,8 +68,9 @@ def is_prefix_free(sequences):
 class Table:
     """A random Compose file: the definition of each sequence that counts, and where it stands."""
 
-    def __init__(self, name):
-        self.name, self.lines, self.overlaps = name, [], 0
+    def __init__(self, name, ways):
+        """Each keysym is written in one of its first so many ways."""
+        self.name, self.ways, self.lines, self.overlaps = name, ways, [], 0
         self.texts, self.places, self.keys = {}, {}, {}
 
     def define(self, chance, sequence, text):
@@ -78,7 +79,7 @@ class Table:
             return
         if chance.random() < 0.2:
             self.lines.append(chance.choice(["", "# a comment"]))
-        written = [chance.choice(WRITTEN[key]) for key in sequence]
+        written = [chance.choice(WRITTEN[key][: self.ways]) for key in sequence]
         quoted = text.replace("\\", "\\\\").replace('"', '\\"')
         self.lines.append(" ".join(f"<{it}>" for it in written) + f' : "{quoted}"')
         self.texts[sequence], self.places[sequence], self.keys[sequence] = text, len(self.lines), written
@@ -95,22 +96,24 @@ class Table:
             file.write("".join(line + "\n" for line in self.lines))
 
 
-def random_sequence(chance, keys):
-    return "".join(chance.choice(keys) for _ in range(chance.choice([1, 1, 2, 2, 3])))
+def random_sequence(chance, keys, lengths):
+    return "".join(chance.choice(keys) for _ in range(chance.choice(lengths)))
 
 
 def random_pair(chance):
-    """An old and a new table, and the keysyms that are fresh."""
+    """An old and a new table, and the keysyms that are fresh. One of five pairs has more and longer sequences, so that some share a line."""
     fresh = chance.sample("abDE", chance.choice([0, 0, 0, 1]))
     known = [it for it in "abDE" if it not in fresh]
-    old, new = Table("old"), Table("new")
-    for _ in range(chance.randint(0, 7)):
-        old.define(chance, random_sequence(chance, known), chance.choice(TEXTS))
+    lengths, most_old, most_new, ways = chance.choice([([1, 1, 2, 2, 3], 7, 4, 3)] * 4 + [([2, 3, 3, 3, 3], 40, 40, 1)])
+    old, new = Table("old", ways), Table("new", ways)
+    for _ in range(chance.randint(0, most_old)):
+        old.define(chance, random_sequence(chance, known, lengths), chance.choice(TEXTS))
+    stays = chance.choice([0.8, 0.8, 0.4, 0])
     for sequence, text in old.texts.items():
-        if chance.random() < 0.8:
+        if chance.random() < stays:
             new.define(chance, sequence, text if chance.random() < 0.8 else chance.choice(TEXTS))
-    for _ in range(chance.randint(0, 4)):
-        new.define(chance, random_sequence(chance, "abDE"), chance.choice(TEXTS))
+    for _ in range(chance.randint(0, most_new)):
+        new.define(chance, random_sequence(chance, "abDE", lengths), chance.choice(TEXTS))
     old.settle()
     new.settle()
     return old, new, fresh
@@ -191,6 +194,42 @@ def rows_in_order(rows):
     return [row for group in GROUPS for row in sorted((it for it in rows if it["change"] == group), key=line)]
 
 
+def common(row, is_gone):
+    """What a row has in common with those that share its line: the word and the first two keys as they are written, or the first of two. None where
+    it has a line of its own."""
+    keys = row["keys"]
+    if row["change"] == "removed" and is_gone:
+        return "removed with its file"
+    if row["change"] not in ("removed", "added") or len(keys) < 2:
+        return None
+    return (row["change"], *(keys[:2] if len(keys) > 2 else keys[:1]))
+
+
+def line_of_group(group, is_gone):
+    """The line of some rows, the first of which has the place."""
+    first, count = group[0], len(group)
+    if first["change"] == "removed" and is_gone:
+        return f"removed: all {count} sequences of old, from which the new table has none"
+    if count == 1:
+        return line_of(first)
+    side = "old" if first["change"] == "removed" else "new"
+    keys = [f"<{it}>" for it in common(first, is_gone)[1:]]
+    texts = [quoted(it[side]) for it in group[:3]]
+    return " ".join([f"{first['change']}:", *keys, "..", f"{count} sequences", *texts, "..", f"{side}:{first[f'{side}_line']}"])
+
+
+def folded_lines(rows, shown):
+    """The lines of the rows that are shown of all rows: each group in one, where its first row stands."""
+    ordered = rows_in_order(shown)
+    of_old = sum(1 for it in rows if it["old_line"] is not None)
+    is_gone = of_old > 1 and sum(1 for it in ordered if it["change"] == "removed") == of_old
+    groups = {}
+    for number, row in enumerate(ordered):
+        what = common(row, is_gone)
+        groups.setdefault(number if what is None else what, []).append(row)
+    return [line_of_group(group, is_gone) for group in groups.values()]
+
+
 def is_lost(row):
     """Whether no sequence of the new table gives the old text of a lost sequence."""
     return row["change"] in LOSSES and row["now"] is None
@@ -255,7 +294,11 @@ class Trial:
             self.expect(f"{number}: status", 1 if losses else 0, ran.returncode)
             ran = self.run(folder, "--no-fold", *options)
             self.expect(f"{number}: lines", [*map(line_of, rows_in_order(rows)), *overlaps, counts_of(rows)], ran.stdout.splitlines())
+            ran = self.run(folder, *options)
+            self.expect(f"{number}: folded lines", [*folded_lines(rows, rows), *overlaps, counts_of(rows)], ran.stdout.splitlines())
             lost = [it for it in rows if is_lost(it)]
+            ran = self.run(folder, "--lost", *options)
+            self.expect(f"{number}: folded lost ones", [*folded_lines(rows, lost), *overlaps, counts_of(rows)], ran.stdout.splitlines())
             ran = self.run(folder, "--no-fold", "--lost", *options)
             self.expect(f"{number}: lost ones", [*map(line_of, rows_in_order(lost)), *overlaps, counts_of(rows)], ran.stdout.splitlines())
             self.expect(f"{number}: status with --lost", 1 if losses else 0, ran.returncode)
@@ -266,6 +309,8 @@ class Trial:
             ran = self.run(folder, "--no-fold", "--accept", "accepted", *options)
             others = [it for it in rows if it not in losses]
             self.expect(f"{number}: all accepted", ([*map(line_of, rows_in_order(others)), *overlaps, counts_of(others, len(losses))], 0), (ran.stdout.splitlines(), ran.returncode))
+            ran = self.run(folder, "--accept", "accepted", *options)
+            self.expect(f"{number}: all accepted, folded", [*folded_lines(rows, others), *overlaps, counts_of(others, len(losses))], ran.stdout.splitlines())
             with open(os.path.join(folder, "accepted"), "a", encoding="utf-8") as file:
                 file.write('removed: <a> <a> <a> <a> "x"\n')
             ran = self.run(folder, "--accept", "accepted", *options)

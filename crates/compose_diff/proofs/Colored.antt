@@ -19,10 +19,9 @@ use Rattle.compose_diff.specs.declared.counts.Counts.{Counts}
 use Rattle.compose_diff.specs.declared.row.NewSequence.{NewSequence}
 use Rattle.compose_diff.specs.Line.{keys_text, keys_part, text_part, path_part, place_part, places_text, sequence_part, is_loss, typed_part, now_part, longer_part, row_end, row_text, row_line}
 use Rattle.compose_diff.specs.Counts.{counts_of, starts_word, texts_word, counts_line}
-use Rattle.compose_diff.specs.Runs.{fold_keys, runs_by}
-use Rattle.compose_diff.specs.Causes.{cause_line}
-use Rattle.compose_diff.specs.Folds.{texts_part, fold_line, row_lines, run_lines, told, Telling, run, cause, telling_lines, part_tellings, part_lines}
-use Rattle.compose_diff.specs.declared.runs.Division.TheVariants.{Sources}
+use Rattle.compose_diff.specs.Causes.{is_gone, gone_entry, cause_line}
+use Rattle.compose_diff.specs.Groups.{fold_keys, groups}
+use Rattle.compose_diff.specs.Folds.{texts_part, fold_line, row_lines, told, lines_by, group_lines}
 use Rattle.compose_diff.specs.Lost.{shown_rows}
 use Rattle.compose_diff.specs.Overlaps.{overlaps_line}
 use Rattle.compose_diff.specs.declared.overlaps.Overlaps.{Overlaps}
@@ -131,13 +130,6 @@ fold_lined (row ∷ rows) =
     (all_plain (λ r. text_part r.old ++ text_part r.new) (take 3 (row ∷ rows)) (λ r. both_plain (text_part r.old) (text_part r.new) (text_plain r.old) (text_plain r.new)))
     (behind (codes " ..") _ refl (behind (places_text row) (10 ∷ []) (places_plain row) newline)))))))
 
-run_lined : (rows : List DiffRow) → Lined (run_lines rows)
-run_lined rows = by (nat_lt (length rows) 4)
-  where
-    by : (t : Bool) → Lined (if t then row_lines rows else fold_line rows)
-    by true = all_lined row_line rows row_lined
-    by false = fold_lined rows
-
 cause_lined : (entry : Entry) (count : ℕ) → Lined (cause_line entry count)
 cause_lined entry count =
     one_lined (cause_line entry count)
@@ -146,9 +138,17 @@ cause_lined entry count =
     (behind (codes " sequences of ") _ refl
     (behind (shown_text entry.path.now) _ (shown_plain entry.path.now) (record { line = codes ", from which the new table has none"; plain = refl; is = refl })))))
 
-telling_lined : (telling : Telling) → Lined (telling_lines telling)
-telling_lined (run rows) = run_lined rows
-telling_lined (cause entry rows) = cause_lined entry (length rows)
+lined_by : (entry : Option Entry) (rows : List DiffRow) → Lined (lines_by entry rows)
+lined_by (Some entry) rows = cause_lined entry (length rows)
+lined_by None rows = by (nat_lt (length rows) 2)
+  where
+    by : (t : Bool) → Lined (if t then row_lines rows else fold_line rows)
+    by true = all_lined row_line rows row_lined
+    by false = fold_lined rows
+
+group_lined : (gone : ℕ → Bool) (rows : List DiffRow) → Lined (group_lines gone rows)
+group_lined gone [] = none_lined
+group_lined gone (row ∷ rows) = lined_by (gone_entry gone row) (row ∷ rows)
 
 number : (word : List ℕ) → ArePlain word → (n : ℕ) (text : List ℕ) → OneLine text → OneLine (word ++ (decimal n ++ text))
 number word plain n text one = behind word (decimal n ++ text) plain (behind (decimal n) text (decimal_plain n) one)
@@ -182,7 +182,9 @@ counts_lined counts =
     (behind (texts_word counts.lost_texts) _ (texts_plain counts.lost_texts) (record { line = codes " lost"; plain = refl; is = refl })))))))))))
 
 rows_lined : (folds : Bool) (rows shown : List DiffRow) → Lined (lines_text folds rows shown)
-rows_lined true rows shown = all_lined (part_lines rows) (runs_by Sources (told shown)) (λ part. all_lined telling_lines (part_tellings rows part) telling_lined)
+rows_lined true rows shown =
+    let gone = is_gone rows (told shown) in
+    all_lined (group_lines gone) (groups gone (told shown)) (group_lined gone)
 rows_lined false rows shown = all_lined row_line (told shown) row_lined
 
 overlaps_lined : (overlaps : Overlaps) → Lined (overlaps_line overlaps)

@@ -1,20 +1,12 @@
--- Where a source is told as gone, every row of it is removed.
-use Rattle.std.proofs.Common.{◌≡◌, ℕ, suc, ◌+◌, ◌≤◌, Bool, true, false, not, List, [], ◌∷◌, ◌++◌, length, filter, refl, sym, ◌∙◌, ap, subst, arith, eqb-true}
-use Rattle.std.specs.Prelude.{◌==◌, ◌&&◌, nat_lt, Option, Some, None}
-use Rattle.std.specs.List.{list_all}
-use Rattle.std.proofs.lemmas.Bool.{and_parts, and_from, and_left, and_right, or_left, or_right, eq-eqb}
-use Rattle.std.proofs.lemmas.List.{length-append}
-use Rattle.std.proofs.lemmas.List.Elements.{filter-append}
-use Rattle.compose_compare.specs.declared.Change.{Change}
-use Rattle.compose_compare.specs.declared.Change.TheVariants.{Kept, Changed, Waiting, Removed, Added, NewStart}
-use Rattle.compose_diff.specs.declared.row.Entry.{Entry}
+-- Where a source is gone, every row of it is removed.
+use Rattle.std.proofs.Common.{◌≡◌, ℕ, suc, ◌≤◌, Bool, true, false, not, List, [], ◌∷◌, length, filter, refl, sym, ◌∙◌, ap, subst, arith, eqb-true}
+use Rattle.std.specs.Prelude.{◌==◌, ◌&&◌, nat_lt}
+use Rattle.std.proofs.lemmas.Bool.{and_parts, and_from, and_left, and_right, or_left, or_right}
+use Rattle.compose_compare.specs.declared.Change.TheVariants.{Kept, Removed}
 use Rattle.compose_diff.specs.declared.row.DiffRow.{DiffRow}
-use Rattle.compose_diff.specs.declared.runs.Division.TheVariants.{Sources}
 use Rattle.compose_diff.specs.Counts.{is_same}
-use Rattle.compose_diff.specs.Runs.{stands_in, are_of_one_source, are_together, onto_runs, runs_by, all_of}
-use Rattle.compose_diff.specs.Causes.{count_in, gone, gone_from, are_removed}
+use Rattle.compose_diff.specs.Causes.{stands_in, count_in, removed_in, is_gone, are_removed}
 use Rattle.compose_diff.specs.Folds.{told}
-use Rattle.compose_diff.proofs.Concat.{nothing_lost}
 
 -- ---- how many elements pass a test
 
@@ -52,15 +44,6 @@ of_left keep p (x ∷ xs) = by (of_left keep p xs) (keep x) refl
     by : count p (filter keep xs) ≤ count p xs → (t : Bool) → keep x ≡ t → count p (filter keep (x ∷ xs)) ≤ count p (x ∷ xs)
     by fewer true e = subst (λ ys. count p ys ≤ count p (x ∷ xs)) (sym (kept keep x xs e)) (one_more p x (filter keep xs) xs fewer)
     by fewer false e = subst (λ ys. count p ys ≤ count p (x ∷ xs)) (sym (left_out keep x xs e)) (omega (arith, fewer, no_fewer p x xs))
-
-of_both : {X : Type 0} (p : X → Bool) (xs ys : List X) → count p (xs ++ ys) ≡ count p xs + count p ys
-of_both p xs ys = ap length (filter-append p xs ys) ∙ length-append (filter p xs) (filter p ys)
-
-of_all : {X : Type 0} (p : X → Bool) (xs : List X) → list_all p xs ≡ true → count p xs ≡ length xs
-of_all p [] each = refl
-of_all p (x ∷ xs) each =
-    let parts = and_parts (p x) (list_all p xs) each in
-    counted p x xs parts.0 ∙ ap suc (of_all p xs parts.1)
 
 -- ---- rows of a source that are removed
 
@@ -100,105 +83,17 @@ all_removed source (row ∷ rows) many = by (λ m. all_removed source rows m) (i
         and_from _ _ (or_right _ _ (ap not f))
         (more (omega (arith, many, ap length (left_out (in_source source) row rows f), ap length (left_out (is_removed source) row rows (and_right (is_same row.change Removed) _ f)))))
 
--- ---- neighbours of one source
-
-removed_too : (a b : Change) → is_same a b ≡ true → is_same a Removed ≡ true → is_same b Removed ≡ true
-removed_too Kept b same removed = let clash : false ≡ true = removed in cc
-removed_too Changed b same removed = let clash : false ≡ true = removed in cc
-removed_too Waiting b same removed = let clash : false ≡ true = removed in cc
-removed_too Added b same removed = let clash : false ≡ true = removed in cc
-removed_too NewStart b same removed = let clash : false ≡ true = removed in cc
-removed_too Removed Kept same removed = let clash : false ≡ true = same in cc
-removed_too Removed Changed same removed = let clash : false ≡ true = same in cc
-removed_too Removed Waiting same removed = let clash : false ≡ true = same in cc
-removed_too Removed Added same removed = let clash : false ≡ true = same in cc
-removed_too Removed NewStart same removed = let clash : false ≡ true = same in cc
-removed_too Removed Removed same removed = refl
-
-there_too : (source : ℕ) (a b : Option Entry) → are_of_one_source a b ≡ true → stands_in source a ≡ true → stands_in source b ≡ true
-there_too source None b same stands = let clash : false ≡ true = stands in cc
-there_too source (Some entry) b same stands = ap (λ n. stands_in n b) (sym (eqb-true entry.source source stands)) ∙ same
-
-next_too : (source : ℕ) (a b : DiffRow) → are_together Sources a b ≡ true → is_removed source a ≡ true → is_removed source b ≡ true
-next_too source a b together removed =
-    let same = and_parts (is_same a.change b.change) (are_of_one_source a.old b.old) together in
-    let first = and_parts (is_same a.change Removed) (stands_in source a.old) removed in
-    and_from _ _ (removed_too a.change b.change same.0 first.0) (there_too source a.old b.old same.1 first.1)
-
--- where the first row of a run is removed from the source, all rows of it are
-abbrev Led : ℕ → List DiffRow → Type 0
-Led source [] = Unit {0}
-Led source (row ∷ run) = is_removed source row ≡ true → list_all (is_removed source) run ≡ true
-
-abbrev AllLed : ℕ → List (List DiffRow) → Type 0
-AllLed source [] = Unit {0}
-AllLed source (run ∷ runs) = Led source run × AllLed source runs
-
-led_onto : (source : ℕ) (row : DiffRow) (runs : List (List DiffRow)) → AllLed source runs → AllLed source (onto_runs Sources row runs)
-led_onto source row [] led = ((λ removed. refl), tt)
-led_onto source row ([] ∷ runs) led = ((λ removed. refl), led.1)
-led_onto source row ((next ∷ run) ∷ runs) led = by (are_together Sources row next) refl
-  where
-    by : (t : Bool) → are_together Sources row next ≡ t → AllLed source (onto_runs Sources row ((next ∷ run) ∷ runs))
-    by true e =
-        rw e ((λ removed. let after : is_removed source next ≡ true = next_too source row next e removed in and_from (is_removed source next) _ after (led.0 after)), led.1)
-    by false e = rw e ((λ removed. refl), led)
-
-all_led : (source : ℕ) (rows : List DiffRow) → AllLed source (runs_by Sources rows)
-all_led source [] = tt
-all_led source (row ∷ rows) = led_onto source row (runs_by Sources rows) (all_led source rows)
-
-led_at : (source : ℕ) (before : List (List DiffRow)) (part : List DiffRow) (after : List (List DiffRow)) → AllLed source (before ++ part ∷ after) → Led source part
-led_at source [] part after led = led.0
-led_at source (run ∷ before) part after led = led_at source before part after led.1
-
-counted_at : (p : DiffRow → Bool) (before : List (List DiffRow)) (part : List DiffRow) (after : List (List DiffRow)) → count p part ≤ count p (all_of (before ++ part ∷ after))
-counted_at p [] part after = omega (arith, of_both p part (all_of after))
-counted_at p (run ∷ before) part after = omega (arith, of_both p run (all_of (before ++ part ∷ after)), counted_at p before part after)
-
 -- ---- a source that is gone
 
--- what a cause says of its first row and its count
-record IsGone (rows : List DiffRow) (c : Change) (n : ℕ) (old : Option Entry) (entry : Entry) : Type 0 where
-  removed : is_same c Removed ≡ true
-  stands : stands_in entry.source old ≡ true
-  whole : count_in entry.source rows ≡ n
-
-is_gone : (rows : List DiffRow) (c : Change) (n : ℕ) (old : Option Entry) (entry : Entry) → gone rows c n old ≡ Some entry → IsGone rows c n old entry
-is_gone rows c n None entry e = let clash : None ≡ Some entry = e in cc
-is_gone rows c n (Some first) entry e = by (is_same c Removed && nat_lt 1 n && count_in first.source rows == n) refl
-  where
-    at : (o : Option Entry) → o ≡ Some first → o ≡ Some entry → first ≡ entry
-    at o f g = let same : Some first ≡ Some entry = sym f ∙ g in cc
-
-    by : (t : Bool) → (is_same c Removed && nat_lt 1 n && count_in first.source rows == n) ≡ t → IsGone rows c n (Some first) entry
-    by true t =
-        let is : first ≡ entry = at (gone rows c n (Some first)) (rw t refl) e in
-        let outer = and_parts (is_same c Removed && nat_lt 1 n) (count_in first.source rows == n) t in record {
-          removed = (and_parts (is_same c Removed) (nat_lt 1 n) outer.0).0;
-          stands = eq-eqb first.source entry.source (ap (λ (x : Entry). x.source) is);
-          whole = ap (λ (x : Entry). count_in x.source rows) (sym is) ∙ eqb-true (count_in first.source rows) n outer.1;
-        }
-    by false t = let clash : None ≡ Some entry = rw t at e in cc
-
--- the rows of a part that is told as gone are all that the old table has in that source, and all rows of the source are removed
-pub source_is_gone : (keep : DiffRow → Bool) (rows : List DiffRow) (before : List (List DiffRow)) (part : List DiffRow) (after : List (List DiffRow)) (entry : Entry)
-    → runs_by Sources (told (filter keep rows)) ≡ before ++ part ∷ after → gone_from rows part ≡ Some entry → AreRemoved entry.source rows
-source_is_gone keep rows before [] after entry divided e = let clash : None ≡ Some entry = e in cc
-source_is_gone keep rows before (first ∷ part) after entry divided e =
-    let source = entry.source in
-    let is = is_gone rows first.change (length (first ∷ part)) first.old entry e in
-    let removed : is_removed source first ≡ true = and_from _ _ is.removed is.stands in
-    let led = led_at source before (first ∷ part) after (subst (AllLed source) divided (all_led source (told (filter keep rows)))) in
-    let all : count (is_removed source) (first ∷ part) ≡ length (first ∷ part) = of_all (is_removed source) (first ∷ part) (and_from (is_removed source first) _ removed (led removed)) in
-    let among : all_of (before ++ (first ∷ part) ∷ after) ≡ told (filter keep rows) = ap all_of (sym divided) ∙ nothing_lost Sources (told (filter keep rows)) in
+-- all rows of a source that is gone among the rows that are left are removed
+pub source_is_gone : (keep : DiffRow → Bool) (rows : List DiffRow) (source : ℕ) → is_gone rows (told (filter keep rows)) source ≡ true → AreRemoved source rows
+source_is_gone keep rows source e =
+    let parts = and_parts (nat_lt 1 (count_in source rows)) (removed_in source (told (filter keep rows)) == count_in source rows) e in
+    let whole = eqb-true (removed_in source (told (filter keep rows))) (count_in source rows) parts.1 in
     all_removed source rows
     (omega (
       arith,
-      is.whole,
-      all,
-      counted_at (is_removed source) before (first ∷ part) after,
-      ap (count (is_removed source)) among,
+      whole,
       of_left (λ row. not (is_same row.change Kept)) (is_removed source) (filter keep rows),
       of_left keep (is_removed source) rows,
     ))

@@ -1,28 +1,41 @@
 -- A source of the old table of which the new one has nothing, as a missing include, told in one line (this project's profile).
-use Rattle.std.specs.Prelude.{ℕ, Bool, not, ◌==◌, ◌&&◌, ◌||◌, nat_lt, if◌then◌else◌, List, [], ◌∷◌, ◌++◌, length, filter, Option, Some, None, codes}
+use Rattle.std.specs.Prelude.{ℕ, Bool, false, not, ◌==◌, ◌&&◌, ◌||◌, nat_lt, nat_eq, unwrap_or, if◌then◌else◌, List, ◌++◌, length, filter, Option, Some, None, codes}
 use Rattle.std.specs.List.{list_all}
 use Rattle.std.specs.Fmt.{decimal}
+use Rattle.indexmap.specs.IndexMap.{IndexMap, get}
 use Rattle.compose_shown.specs.Shown.{shown_text}
 use Rattle.compose_compare.specs.declared.Change.{Change}
 use Rattle.compose_compare.specs.declared.Change.TheVariants.{Removed}
 use Rattle.compose_diff.specs.declared.row.Entry.{Entry}
 use Rattle.compose_diff.specs.declared.row.DiffRow.{DiffRow}
+use Rattle.compose_diff.specs.declared.cause.Gone.{Gone}
 use Rattle.compose_diff.specs.Counts.{is_same}
-use Rattle.compose_diff.specs.Runs.{stands_in}
+
+-- a table has it in this source
+abbrev pub stands_in : ℕ → Option Entry → Bool
+stands_in source None = false
+stands_in source (Some entry) = entry.source == source
 
 -- how many of the rows the old table has in this source
 abbrev pub count_in : ℕ → List DiffRow → ℕ
 count_in source rows = length (filter (λ row. stands_in source row.old) rows)
 
--- the source is gone where so many rows, two or more, are removed, and no more of the rows stand in it
-abbrev pub gone : List DiffRow → Change → ℕ → Option Entry → Option Entry
-gone rows c count None = None
-gone rows c count (Some entry) = if is_same c Removed && nat_lt 1 count && count_in entry.source rows == count then Some entry else None
+-- how many of these are removed
+abbrev pub removed_in : ℕ → List DiffRow → ℕ
+removed_in source rows = length (filter (λ row. is_same row.change Removed && stands_in source row.old) rows)
 
--- what the old table has for the first of a part, whose rows it has in one source, and to which the same happens, if that source is gone
-abbrev pub gone_from : List DiffRow → List DiffRow → Option Entry
-gone_from rows [] = None
-gone_from rows (first ∷ part) = gone rows first.change (length (first ∷ part)) first.old
+-- the old table has two rows or more in this source, and as many of those that are shown are removed from it
+abbrev pub is_gone : List DiffRow → List DiffRow → ℕ → Bool
+is_gone rows shown source = nat_lt 1 (count_in source rows) && removed_in source shown == count_in source rows
+
+-- what the old table has, where it is removed with its source
+abbrev pub gone_with : (ℕ → Bool) → Change → Option Entry → Option Entry
+gone_with gone c None = None
+gone_with gone c (Some entry) = if is_same c Removed && gone entry.source then Some entry else None
+
+-- the same of a row
+abbrev pub gone_entry : (ℕ → Bool) → DiffRow → Option Entry
+gone_entry gone row = gone_with gone row.change row.old
 
 -- how many they are, and the path of the source
 abbrev pub cause_line : Entry → ℕ → List ℕ
@@ -31,3 +44,24 @@ cause_line entry count = codes "removed: all " ++ (decimal count ++ (codes " seq
 -- each of the rows that the old table has in this source is removed
 abbrev pub are_removed : ℕ → List DiffRow → Bool
 are_removed source rows = list_all (λ row. is_same row.change Removed || not (stands_in source row.old)) rows
+
+-- ---- counts by source
+
+-- the row is counted for this source: all that the old table has in it, or the removed ones alone
+abbrev pub is_counted : Bool → ℕ → DiffRow → Bool
+is_counted removed_alone source row = (not removed_alone || is_same row.change Removed) && stands_in source row.old
+
+abbrev pub counted_in : Bool → ℕ → List DiffRow → ℕ
+counted_in removed_alone source rows = length (filter (is_counted removed_alone source) rows)
+
+abbrev pub is_source : ℕ → Option ℕ → Bool
+is_source source None = false
+is_source source (Some other) = other == source
+
+-- how many were counted for a source
+abbrev pub count_at : {S : Type 0} → IndexMap ℕ ℕ S → ℕ → ℕ
+count_at counts source = unwrap_or (get nat_eq counts source) 0
+
+-- the source is gone by these counts
+abbrev pub has_gone : Gone → ℕ → Bool
+has_gone gone source = nat_lt 1 (count_at gone.all source) && count_at gone.removed source == count_at gone.all source

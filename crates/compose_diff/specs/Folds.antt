@@ -1,14 +1,13 @@
--- Told rows as lines, long runs of alike ones as one line each, and a source that is gone as one line (this project's profile).
-use Rattle.std.specs.Prelude.{ℕ, not, nat_lt, if◌then◌else◌, List, [], ◌∷◌, ◌++◌, length, take, map, filter, flat_map, Option, Some, None, codes}
+-- Told rows as lines, one for those that fold together, and one for a source that is gone (this project's profile).
+use Rattle.std.specs.Prelude.{ℕ, Bool, not, nat_lt, if◌then◌else◌, List, [], ◌∷◌, ◌++◌, length, take, filter, flat_map, Option, Some, None, codes}
 use Rattle.std.specs.Fmt.{decimal}
 use Rattle.compose_compare.specs.declared.Change.TheVariants.{Kept}
 use Rattle.compose_diff.specs.declared.row.Entry.{Entry}
 use Rattle.compose_diff.specs.declared.row.DiffRow.{DiffRow}
-use Rattle.compose_diff.specs.declared.runs.Division.TheVariants.{Sources, Keys}
 use Rattle.compose_diff.specs.Line.{keys_text, text_part, places_text, row_line}
 use Rattle.compose_diff.specs.Counts.{is_same}
-use Rattle.compose_diff.specs.Runs.{fold_keys, runs_by}
-use Rattle.compose_diff.specs.Causes.{gone_from, cause_line}
+use Rattle.compose_diff.specs.Causes.{is_gone, gone_entry, cause_line}
+use Rattle.compose_diff.specs.Groups.{fold_keys, groups}
 
 -- ---- lines
 
@@ -27,10 +26,6 @@ fold_line (row ∷ rows) =
 abbrev pub row_lines : List DiffRow → List ℕ
 row_lines rows = flat_map row_line rows
 
--- four rows or more are one line, fewer a line each
-abbrev pub run_lines : List DiffRow → List ℕ
-run_lines run = if nat_lt (length run) 4 then row_lines run else fold_line run
-
 -- all but the kept ones are told
 abbrev pub told : List DiffRow → List DiffRow
 told rows = filter (λ row. not (is_same row.change Kept)) rows
@@ -39,44 +34,21 @@ told rows = filter (λ row. not (is_same row.change Kept)) rows
 abbrev pub diff_lines : List DiffRow → List ℕ
 diff_lines rows = row_lines (told rows)
 
--- the lines of the runs of rows that are folded together
-abbrev pub runs_lines : List DiffRow → List ℕ
-runs_lines rows = flat_map run_lines (runs_by Keys rows)
+-- ---- folded
 
--- ---- what is told together
+-- the rows of a source that is gone are one line, and so are rows that fold together; a row alone has its own line
+abbrev pub lines_by : Option Entry → List DiffRow → List ℕ
+lines_by (Some entry) rows = cause_line entry (length rows)
+lines_by None rows = if nat_lt (length rows) 2 then row_lines rows else fold_line rows
 
--- a run of rows, or the rows of a source that is gone
-pub data Telling : Type 0 where
-  run : List DiffRow → Telling
-  cause : Entry → List DiffRow → Telling
+abbrev pub group_lines : (ℕ → Bool) → List DiffRow → List ℕ
+group_lines gone [] = []
+group_lines gone (row ∷ rows) = lines_by (gone_entry gone row) (row ∷ rows)
 
-abbrev pub telling_rows : Telling → List DiffRow
-telling_rows (run rows) = rows
-telling_rows (cause entry rows) = rows
+-- a line for each group, which stands where the first row of the group does
+abbrev pub groups_lines : (ℕ → Bool) → List DiffRow → List ℕ
+groups_lines gone rows = flat_map (group_lines gone) (groups gone rows)
 
-abbrev pub telling_lines : Telling → List ℕ
-telling_lines (run rows) = run_lines rows
-telling_lines (cause entry rows) = cause_line entry (length rows)
-
--- neighbours of one source: all together where it is gone, else in runs
-abbrev pub tellings_by : Option Entry → List DiffRow → List Telling
-tellings_by (Some entry) part = cause entry part ∷ []
-tellings_by None part = map run (runs_by Keys part)
-
--- the first list has the rows of all sources, the accepted ones too
-abbrev pub part_tellings : List DiffRow → List DiffRow → List Telling
-part_tellings rows part = tellings_by (gone_from rows part) part
-
-abbrev pub part_lines : List DiffRow → List DiffRow → List ℕ
-part_lines rows part = flat_map telling_lines (part_tellings rows part)
-
-abbrev pub parts_lines : List DiffRow → List DiffRow → List ℕ
-parts_lines rows left = flat_map (part_lines rows) (runs_by Sources left)
-
--- the rows that are told somewhere
-abbrev pub parts_rows : List DiffRow → List DiffRow → List DiffRow
-parts_rows rows left = flat_map (λ part. flat_map telling_rows (part_tellings rows part)) (runs_by Sources left)
-
--- the lines of the rows that are left
+-- the lines of the rows that are left of all rows, the accepted ones among these
 abbrev pub folded_lines : List DiffRow → List DiffRow → List ℕ
-folded_lines rows left = parts_lines rows (told left)
+folded_lines rows left = groups_lines (is_gone rows (told left)) (told left)

@@ -3,7 +3,8 @@ pub mod Json
 pub mod Accepted
 pub mod Colors
 pub mod Counts
-pub mod Runs
+pub mod Groups
+pub mod Members
 pub mod Causes
 pub mod Folds
 pub mod Order

@@ -1,37 +1,99 @@
 //! A source of the old table of which the new one has nothing, told in one line.
-ghost use Rattle.std.specs.Prelude.{◌≡◌, ◌++◌, OnOk, string_bytes};
+ghost use Rattle.std.specs.Prelude.{◌≡◌, ℕ, ◌++◌, IfOk, OnOk, string_bytes};
 ghost use Rattle.compose_diff.specs.Causes as words;
 
 use crate::row::{DiffRow, Entry};
-use crate::runs::stands_in;
 use compose_compare::Change;
 use compose_shown::Shown;
-use std::alloc::AllocError;
+use indexmap::IndexMap;
+use std::alloc::{AllocError, Global};
 use std::fmt::Write;
 
-/// What the old table has for the first row of a part, where the part is all of two rows or more that the old table has in that source,
-/// and all of them are removed. `rows` are the rows of all sources.
-pub(crate) fn gone_from<'r>(rows: &[DiffRow], part: &[DiffRow<'r>]) -> Option<Entry<'r>>
-    ensures { result ≡ words.gone_from rows.now part.now }
-{
-    let first = part.first()?;
-    let entry = first.old?;
-    if first.change == Change::Removed
-        && part.len() > 1
-        && count_in(entry.source, rows) == part.len()
+/// How many rows the old table has in each source, by the index of the source.
+type Counts = IndexMap<usize, usize>;
+
+/// Of which sources of the old table all rows are removed: how many rows each has, and how many of them are shown and removed.
+#[derive(Drop)]
+pub(crate) struct Gone {
+    all: Counts,
+    removed: Counts,
+}
+
+impl Gone {
+    ghost use Rattle.std.specs.Prelude.{◌≡◌};
+    ghost use Rattle.compose_diff.specs.Causes as words;
+
+    /// Whether the old table has two rows or more in this source, and as many are removed from it.
+    fn has(&self, source: usize) -> bool
+        ensures { result ≡ words.has_gone self.now source }
     {
+        let count = count_at(&self.all, source);
+        count > 1 && count_at(&self.removed, source) == count
+    }
+}
+
+/// The sources that are gone where some of all rows are shown. O(rows).
+pub(crate) fn gone_sources(
+    alloc: Global,
+    rows: &[DiffRow],
+    shown: &[DiffRow],
+) -> Result<Gone, AllocError>
+    ensures { IfOk result
+        (λ gone. (source : ℕ) → words.has_gone gone source ≡ words.is_gone rows.now shown.now source) }
+{
+    let all = count_by_source(alloc, rows, false)?;
+    let removed = count_by_source(alloc, shown, true)?;
+    Ok(Gone { all, removed })
+}
+
+/// How many rows, or removed ones, the old table has in each source.
+fn count_by_source(
+    alloc: Global,
+    rows: &[DiffRow],
+    removed_alone: bool,
+) -> Result<Counts, AllocError>
+    ensures { IfOk result
+        (λ counts. (source : ℕ)
+        → words.count_at counts source ≡ words.counted_in removed_alone source rows.now) }
+{
+    let mut counts = IndexMap::new(alloc);
+    for row in rows {
+        if let Some(source) = counted_source(row, removed_alone) {
+            let count = count_at(&counts, source);
+            counts.insert(source, count + 1)?;
+        }
+    }
+    Ok(counts)
+}
+
+/// How many were counted for a source.
+fn count_at(counts: &Counts, source: usize) -> usize
+    ensures { result ≡ words.count_at counts.now source }
+{
+    counts.get(&source).copied().unwrap_or(0)
+}
+
+/// The source in which the old table has the row, if the row is counted.
+fn counted_source(row: &DiffRow, removed_alone: bool) -> Option<usize>
+    ensures { (source : ℕ)
+        → words.is_source source result ≡ words.is_counted removed_alone source row.now }
+{
+    let entry = row.old?;
+    if removed_alone && row.change != Change::Removed {
+        return None;
+    }
+    Some(entry.source)
+}
+
+/// What the old table has for a removed row whose source is gone.
+pub(crate) fn gone_entry<'r>(gone: &Gone, row: &DiffRow<'r>) -> Option<Entry<'r>>
+    ensures { result ≡ words.gone_entry (words.has_gone gone.now) row.now }
+{
+    let entry = row.old?;
+    if row.change == Change::Removed && gone.has(entry.source) {
         return Some(entry);
     }
     None
-}
-
-/// How many of the rows the old table has in this source.
-fn count_in(source: usize, rows: &[DiffRow]) -> usize
-    ensures { result ≡ words.count_in source rows.now }
-{
-    rows.iter()
-        .filter(|row| stands_in(source, &row.old))
-        .count()
 }
 
 /// Appends the line of so many removed sequences, all of one source, to the text.

@@ -1,11 +1,13 @@
-//! Told rows as lines, long runs of alike ones as one line each, and a source that is gone as one line.
-ghost use Rattle.std.specs.Prelude.{◌≡◌, ◌<◌, ◌≤◌, ◌++◌, length, drop, IfOk, OnOk, string_bytes};
+//! Told rows as lines, one for those that fold together, and one for a source that is gone.
+ghost use Rattle.std.specs.Prelude.{◌≡◌, ◌≤◌, ◌++◌, length, take, IfOk, OnOk, None, string_bytes};
+ghost use Rattle.compose_diff.specs.Causes.{has_gone};
+ghost use Rattle.compose_diff.specs.Members.{Key, view, members_at, group_in, after};
 ghost use Rattle.compose_diff.specs.Folds as words;
 
-use crate::cause::{gone_from, push_cause};
+use crate::cause::{Gone, gone_entry, gone_sources, push_cause};
+use crate::groups::{Groups, common, fold_keys, group_rows, take_group};
 use crate::line::{push_keys, push_places, push_quoted, push_row_line};
 use crate::row::DiffRow;
-use crate::runs::{Division, fold_keys, run_length};
 use compose_compare::Change;
 use std::alloc::{AllocError, Global};
 use std::fmt::Write;
@@ -20,19 +22,20 @@ pub fn diff_text(alloc: Global, rows: &[DiffRow]) -> Result<String, AllocError>
     Ok(text)
 }
 
-/// The same of the rows that are left of all rows, but rows that stand together are told together:
+/// The same of the rows that are left of all rows, but rows that belong together are one line, which stands where the first of them does:
 ///
 /// - Two removed rows or more are one line, which names the source, where they are all rows that the old table has in it.
-/// - Else four rows or more, all removed or all added, that begin with the same two keys (or the same one, where they have two), are one
-///   line: their count, the texts of the first three and the place of the first. Removed ones are all of one source.
+/// - Else rows that are all removed or all added, and that begin with the same two keys (or the same one, where they have two), are one
+///   line: their count, the texts of the first three and the place of the first.
 ///
-/// O(bytes + rows × sources of the removed rows) where those are in the order of their sources.
+/// O(bytes of the rows): what they have in common, and how many rows a source has, is looked up in hash maps.
 pub fn folded_text(alloc: Global, rows: &[DiffRow], left: &[DiffRow]) -> Result<String, AllocError>
     ensures { IfOk result (λ text. string_bytes text ≡ words.folded_lines rows.now left.now) }
 {
     let told = told(alloc, left)?;
+    let gone = gone_sources(alloc, rows, &told)?;
     let mut text = String::new(alloc);
-    push_parts(alloc, &mut text, rows, &told)?;
+    push_groups(alloc, &mut text, &gone, &told)?;
     Ok(text)
 }
 
@@ -60,109 +63,102 @@ fn push_rows(alloc: Global, text: &mut String, rows: &[DiffRow]) -> Result<(), A
     Ok(())
 }
 
-/// Appends the lines of each part of the rows that are left to the text.
-fn push_parts(
+/// Appends the lines of each group of rows to the text.
+fn push_groups(
     alloc: Global,
     text: &mut String,
-    rows: &[DiffRow],
-    left: &[DiffRow],
+    gone: &Gone,
+    shown: &[DiffRow],
 ) -> Result<(), AllocError>
     ensures { OnOk result
-        (string_bytes text.new ≡ string_bytes text.old ++ words.parts_lines rows.now left.now) }
+        (string_bytes text.new
+        ≡ string_bytes text.old ++ words.groups_lines (has_gone gone.now) shown.now) }
 {
-    let mut from = 0;
-    while from < left.len() {
-        from += push_first_part(alloc, text, rows, &left[from..])?;
+    let mut groups = group_rows(alloc, gone, shown)?;
+    for row in shown {
+        push_group_of(alloc, text, gone, &mut groups, row)?;
     }
     Ok(())
 }
 
-/// Appends the lines of the first part of the rows that are left to the text; how many rows it has.
-fn push_first_part(
+/// Appends the lines of the group of a row to the text, and takes the group out: nothing where that was done before.
+fn push_group_of<'r>(
     alloc: Global,
     text: &mut String,
-    rows: &[DiffRow],
-    left: &[DiffRow],
-) -> Result<usize, AllocError>
-    requires { 0 < length left.now }
-    ensures some { IfOk result (λ count. 0 < count) }
-    ensures within { IfOk result (λ count. count ≤ length left.now) }
-    ensures lines { IfOk result
-        (λ count. string_bytes text.new ++ words.parts_lines rows.now (drop count left.now)
-        ≡ string_bytes text.old ++ words.parts_lines rows.now left.now) }
+    gone: &Gone,
+    groups: &mut Groups<'r>,
+    row: &DiffRow<'r>,
+) -> Result<(), AllocError>
+    ensures lines { OnOk result
+        (string_bytes text.new
+        ≡ string_bytes text.old
+        ++ words.group_lines (has_gone gone.now) (group_in (has_gone gone.now) groups.old row.now)) }
+    ensures others { OnOk result
+        ((other : Key)
+        → members_at groups.new (view other)
+        ≡ after (has_gone gone.now) row.now (view other) (members_at groups.old (view other))) }
 {
-    let count = run_length(Division::Sources, left);
-    push_part(alloc, text, rows, &left[..count])?;
-    Ok(count)
+    match common(gone, row) {
+        Some(key) => push_group(alloc, text, gone, &take_group(alloc, groups, key)),
+        None => push_row_line(alloc, text, row),
+    }
 }
 
-/// Appends the lines of neighbours of one source to the text.
-fn push_part(
+/// Appends the lines of a group to the text: one, or none of an empty one.
+fn push_group(
     alloc: Global,
     text: &mut String,
+    gone: &Gone,
     rows: &[DiffRow],
-    part: &[DiffRow],
 ) -> Result<(), AllocError>
     ensures { OnOk result
-        (string_bytes text.new ≡ string_bytes text.old ++ words.part_lines rows.now part.now) }
+        (string_bytes text.new
+        ≡ string_bytes text.old ++ words.group_lines (has_gone gone.now) rows.now) }
 {
-    match gone_from(rows, part) {
-        Some(entry) => push_cause(text, &entry, part.len()),
-        None => push_runs(alloc, text, part),
+    let Some(first) = rows.first() else {
+        return Ok(());
+    };
+    match gone_entry(gone, first) {
+        Some(entry) => push_cause(text, &entry, rows.len()),
+        None => push_lines(alloc, text, rows),
     }
 }
 
-/// Appends the lines of each run of rows to the text.
-fn push_runs(alloc: Global, text: &mut String, rows: &[DiffRow]) -> Result<(), AllocError>
+/// Appends the line of a row alone, or that of rows that fold together, to the text.
+fn push_lines(alloc: Global, text: &mut String, rows: &[DiffRow]) -> Result<(), AllocError>
     ensures { OnOk result
-        (string_bytes text.new ≡ string_bytes text.old ++ words.runs_lines rows.now) }
+        (string_bytes text.new ≡ string_bytes text.old ++ words.lines_by None rows.now) }
 {
-    let mut from = 0;
-    while from < rows.len() {
-        from += push_first_run(alloc, text, &rows[from..])?;
+    if rows.len() < 2 {
+        return push_rows(alloc, text, rows);
     }
-    Ok(())
+    push_fold(alloc, text, rows)
 }
 
-/// Appends the lines of the first run of rows to the text; how many rows it has.
-fn push_first_run(alloc: Global, text: &mut String, rows: &[DiffRow]) -> Result<usize, AllocError>
-    requires { 0 < length rows.now }
-    ensures some { IfOk result (λ count. 0 < count) }
-    ensures within { IfOk result (λ count. count ≤ length rows.now) }
-    ensures lines { IfOk result
-        (λ count. string_bytes text.new ++ words.runs_lines (drop count rows.now)
-        ≡ string_bytes text.old ++ words.runs_lines rows.now) }
-{
-    let count = run_length(Division::Keys, rows);
-    push_run(alloc, text, &rows[..count])?;
-    Ok(count)
-}
-
-/// Appends the lines of a run to the text: one of four rows or more.
-fn push_run(alloc: Global, text: &mut String, run: &[DiffRow]) -> Result<(), AllocError>
+/// Appends the one line of rows that fold together to the text.
+fn push_fold(alloc: Global, text: &mut String, rows: &[DiffRow]) -> Result<(), AllocError>
+    requires { 2 ≤ length rows.now }
     ensures { OnOk result
-        (string_bytes text.new ≡ string_bytes text.old ++ words.run_lines run.now) }
+        (string_bytes text.new ≡ string_bytes text.old ++ words.fold_line rows.now) }
 {
-    if run.len() < 4 {
-        return push_rows(alloc, text, run);
-    }
-    push_fold(alloc, text, run)
-}
-
-/// Appends the one line of a run to the text.
-fn push_fold(alloc: Global, text: &mut String, run: &[DiffRow]) -> Result<(), AllocError>
-    requires { 4 ≤ length run.now }
-    ensures { OnOk result
-        (string_bytes text.new ≡ string_bytes text.old ++ words.fold_line run.now) }
-{
-    let first = &run[0];
-    let count = run.len();
+    let first = &rows[0];
+    let count = rows.len();
     push_keys(text, first.change, fold_keys(first))?;
     write!(text, " .. {count} sequences")?;
-    push_texts(alloc, text, &run[..3])?;
+    push_texts(alloc, text, first_three(rows))?;
     text.push_str(" ..")?;
     push_places(text, first)?;
     text.push_str("\n")
+}
+
+/// The first three of the rows, or all.
+fn first_three<'s, 'r>(rows: &'s [DiffRow<'r>]) -> &'s [DiffRow<'r>]
+    ensures { result.now ≡ take 3 rows.now }
+{
+    if rows.len() < 3 {
+        return rows;
+    }
+    &rows[..3]
 }
 
 /// Appends the texts of the rows to the text.

@@ -9,18 +9,16 @@
 //! [`Accepted`] are the changes that are meant, as such lines, and [`accept_text`] writes those that accept all rows.
 #![tactic(auto)]
 
-ghost use Rattle.std.specs.Prelude.{◌≡◌, Bool, List, ◌∷◌, ◌++◌, filter, Some, IsTrue};
+ghost use Rattle.std.specs.Prelude.{◌≡◌, ℕ, Bool, List, ◌∷◌, ◌++◌, filter, IsTrue};
 ghost use Rattle.std.specs.List.{list_all};
+ghost use Rattle.std.specs.List.Sorted.{IsPermutation};
 ghost use Rattle.std.specs.Str.Lines.{lines};
 ghost use Rattle.compose_diff.specs.declared.answer.Printed.{Printed};
 ghost use Rattle.compose_diff.specs.declared.overlaps.Overlaps.{Overlaps};
 ghost use Rattle.compose_diff.specs.declared.row.DiffRow.{DiffRow};
-ghost use Rattle.compose_diff.specs.declared.row.Entry.{Entry};
-ghost use Rattle.compose_diff.specs.declared.runs.Division.{Division};
-ghost use Rattle.compose_diff.specs.Runs.{runs_by, all_of};
-ghost use Rattle.compose_diff.specs.declared.runs.Division.TheVariants.{Sources};
-ghost use Rattle.compose_diff.specs.Causes.{gone_from, are_removed};
-ghost use Rattle.compose_diff.specs.Folds.{told, parts_rows};
+ghost use Rattle.compose_diff.specs.Causes.{is_gone, are_removed};
+ghost use Rattle.compose_diff.specs.Groups.{groups, all_of, IsGroup};
+ghost use Rattle.compose_diff.specs.Folds.{told};
 ghost use Rattle.compose_diff.specs.Accepted.{has_key, accept_lines, AcceptsAll};
 ghost use Rattle.compose_diff.specs.Told.{answer_text};
 ghost use Rattle.compose_diff.specs.Colors.{colored_lines, uncolored};
@@ -31,6 +29,7 @@ mod cause;
 mod color;
 mod counts;
 mod fold;
+mod groups;
 mod json;
 mod json_counts;
 mod line;
@@ -38,7 +37,6 @@ mod lost;
 mod order;
 mod overlaps;
 mod row;
-mod runs;
 
 pub use accepted::{AcceptFault, Accepted, ListLine, accept_text, list_lines};
 pub use answer::{Printed, answer_diff};
@@ -53,23 +51,24 @@ pub use order::sort_rows;
 pub use overlaps::Overlaps;
 pub use row::{DiffRow, Entry, NewSequence};
 
-/// Each row is in one run, and in the order in which it was: a division leaves nothing out and doubles nothing.
-pub fn law_runs()
-    ensures { (division : Division) (rows : List DiffRow) → all_of (runs_by division rows) ≡ rows }
+/// Each group of rows has all that fold together with one row, in the order in which they were, or is a row alone that folds together
+/// with none.
+pub fn law_groups()
+    ensures { (gone : ℕ → Bool) (rows part : List DiffRow) (before after : List (List DiffRow))
+        → groups gone rows ≡ before ++ part ∷ after → IsGroup gone rows part }
 {}
 
-/// Each row that is left is told by its own line, by that of its run or by that of its source, once and in the order in which it was.
+/// Each row that is left is in one group, and so in one line ([`folded_text`]): none is left out or doubled.
 pub fn law_told()
-    ensures { (rows left : List DiffRow) → parts_rows rows left ≡ left }
+    ensures { (rows left : List DiffRow) → IsPermutation left (all_of (groups (is_gone rows left) left)) }
 {}
 
-/// Where, of all rows, some are left, and neighbours among these are told by the line of their source ([`folded_text`]), every one of all
-/// rows that stands in that source is removed.
+/// Where, of all rows, some are left, and a source is gone from these ([`folded_text`]), every one of all rows that stands in that
+/// source is removed.
 pub fn law_gone()
-    ensures { (keep : DiffRow → Bool) (rows part : List DiffRow)
-        (before after : List (List DiffRow)) (entry : Entry)
-        → runs_by Sources (told (filter keep rows)) ≡ before ++ part ∷ after
-        → gone_from rows part ≡ Some entry → IsTrue (are_removed entry.source rows) }
+    ensures { (keep : DiffRow → Bool) (rows : List DiffRow) (source : ℕ)
+        → IsTrue (is_gone rows (told (filter keep rows)) source)
+        → IsTrue (are_removed source rows) }
 {}
 
 /// The list that [`accept_text`] writes for rows whose sequences have keys is read by [`Accepted::read`], and accepts these rows: no line

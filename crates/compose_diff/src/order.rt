@@ -30,7 +30,7 @@ fn rank(row: &DiffRow) -> (u8, usize, usize)
 }
 
 /// The place of a change among the groups.
-fn group(change: Change) -> u8
+pub(crate) fn group(change: Change) -> u8
     ensures { result ≡ words.group change }
 {
     match change {

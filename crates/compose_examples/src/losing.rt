@@ -148,8 +148,18 @@ fn five_rows_are_folded(rt: HostRuntime) -> Result<(), Fail> {
 }
 
 #[test]
-fn three_rows_are_not_folded(rt: HostRuntime) -> Result<(), Fail> {
-    let rows = &run()[1..4];
+fn rows_that_stand_apart_are_folded(rt: HostRuntime) -> Result<(), Fail> {
+    let rows = [run()[1], run()[6], run()[2]];
+    assert_eq!(rt;
+        folded_text(rt.alloc(), &run(), &rows)?.as_str(),
+        "removed: <Multi_key> <parenleft> .. 2 sequences \"①\" \"②\" .. OLD:2\nremoved: <Multi_key> <bar> <5> \"5\" OLD:7 now: none\n"
+    );
+    Ok(())
+}
+
+#[test]
+fn one_row_is_not_folded(rt: HostRuntime) -> Result<(), Fail> {
+    let rows = &run()[1..2];
     assert_eq!(rt;
         folded_text(rt.alloc(), &run(), rows)?.as_str(),
         diff_text(rt.alloc(), rows)?.as_str()

@@ -2,4 +2,4 @@ use Rattle.compose_diff.proofs.Gone.{source_is_gone}
 use Rattle.compose_diff.proofs.law_gone.Goals as goal
 
 pub returns : goal.returns
-returns c keep rows part before after entry = source_is_gone keep rows before part after entry
+returns c = source_is_gone

@@ -1,6 +1,6 @@
 use Rattle.std.proofs.Common.{List, ℕ, Bor, sym, ◌∙◌, ap, map, take, min}
 use Rattle.std.proofs.lemmas.List.{take-map}
-use Rattle.compose_diff.proofs.runs.fold_keys.Goals as goal
+use Rattle.compose_diff.proofs.groups.fold_keys.Goals as goal
 
 pub returns : goal.returns
 returns c =
