@@ -6,4 +6,3 @@ pub mod Missing
 pub mod Slashes
 pub mod Variables
 pub mod WrittenKeys
-pub mod Zipped

@@ -17,4 +17,3 @@ pub mod WrittenKeys
 pub mod Listing
 pub mod HowTo
 pub mod Updating
-pub mod Linting

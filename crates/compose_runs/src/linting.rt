@@ -1,12 +1,4 @@
 //! `lint`: what is wrong in Compose files.
-ghost use Rattle.std.specs.Prelude.{◌≡◌, ◌++◌, ◌∷◌, [], map, IfOk, Some, option_copied, string_bytes, codes};
-ghost use Rattle.compose_lint.specs.Answers.{AnswersLint, asked, table_given};
-ghost use Rattle.compose_runs.specs.DiffFiles.{IsAccepted};
-ghost use Rattle.compose_runs.specs.Environment.{GivesPlaces};
-ghost use Rattle.compose_runs.specs.Environment as said;
-ghost use Rattle.compose_runs.specs.Linting as words;
-ghost use Rattle.compose_runs.specs.Linting.{AreReadTables, IsLintAcceptRefusal, IsLintOutcome, IsLintPrinted, IsLintRun, IsReadTable, asked_files, lint_asked, lint_places};
-
 use crate::differing::{read_accepted, read_names};
 use crate::environment::{Environment, PlaceArguments};
 use crate::one_table::{ChosenFile, file_or_own};
@@ -21,7 +13,6 @@ use compose_model::Rule;
 use compose_read::Sources;
 use compose_report::{Outcome, outcome_with};
 use std::alloc::{AllocError, Global};
-use std::marker::Model;
 
 /// The outcome of `lint`: what is found in the tables of the Compose files, in their order, and is not accepted. The files of names are read first,
 /// then those of each table, and the list of the findings that are accepted. At the cost of `find_files` for each table and of `lint_tables`.
@@ -31,12 +22,7 @@ pub fn run_lint<F: Folder>(
     environment: &Environment,
     names: &[&str],
     arguments: &LintArguments<'_>,
-) -> Result<Outcome, Fault>
-    ensures kept { files.new.holds ≡ files.old.holds }
-    ensures outcome { IfOk result
-        (λ outcome. IsLintRun files.old.holds environment.now (map (λ name. name.now) names.now)
-        arguments.now outcome) }
-{
+) -> Result<Outcome, Fault> {
     let read = LintFiles::read(files, alloc, environment, names, arguments)?;
     Ok(lint_outcome(alloc, &read, arguments)?)
 }
@@ -57,8 +43,6 @@ struct LintFiles<'n> {
 }
 
 impl<'n> LintFiles<'n> {
-    ghost use Rattle.compose_runs.specs.Linting.{AreLintFiles};
-
     /// Reads the files of names, each table as it lies on the system, and the list of the findings that are accepted.
     fn read<F: Folder>(
         files: &mut ReadOnce<F>,
@@ -66,12 +50,7 @@ impl<'n> LintFiles<'n> {
         environment: &Environment,
         names: &[&'n str],
         arguments: &LintArguments<'_>,
-    ) -> Result<LintFiles<'n>, Fault>
-        ensures kept { files.new.holds ≡ files.old.holds }
-        ensures read { IfOk result
-            (λ read. AreLintFiles files.old.holds environment.now
-            (map (λ name. name.now) names.now) arguments.now read) }
-    {
+    ) -> Result<LintFiles<'n>, Fault> {
         let names = read_names(files, alloc, names)?;
         let places = places_of(environment, arguments)?;
         let tables = read_tables(alloc, files, environment, places, &arguments.files)?;
@@ -88,9 +67,7 @@ impl<'n> LintFiles<'n> {
 fn places_of<'a>(
     environment: &'a Environment,
     arguments: &LintArguments<'a>,
-) -> Result<Places<'a>, Fault>
-    ensures { GivesPlaces (lint_places arguments.now) result (said.places_of environment.now) }
-{
+) -> Result<Places<'a>, Fault> {
     environment.places(PlaceArguments {
         system: arguments.system,
         locale: arguments.locale,
@@ -105,12 +82,7 @@ fn read_tables<F: Folder>(
     environment: &Environment,
     places: Places<'_>,
     paths: &[&str],
-) -> Result<Vec<ReadTable>, Fault>
-    ensures kept { files.new.holds ≡ files.old.holds }
-    ensures read { IfOk result
-        (λ read. AreReadTables files.old.holds environment.now places.entry
-        (asked_files (map (λ path. path.now) paths.now)) read.items) }
-{
+) -> Result<Vec<ReadTable>, Fault> {
     if paths.is_empty() {
         return own_table(alloc, files, environment, places);
     }
@@ -123,12 +95,7 @@ fn own_table<F: Folder>(
     files: &mut ReadOnce<F>,
     environment: &Environment,
     places: Places<'_>,
-) -> Result<Vec<ReadTable>, Fault>
-    ensures kept { files.new.holds ≡ files.old.holds }
-    ensures read { IfOk result
-        (λ read. AreReadTables files.old.holds environment.now places.entry (asked_files [])
-        read.items) }
-{
+) -> Result<Vec<ReadTable>, Fault> {
     let mut read = Vec::new(alloc);
     read.push(read_table(alloc, files, environment, places, None)?)?;
     Ok(read)
@@ -141,12 +108,7 @@ fn given_tables<F: Folder>(
     environment: &Environment,
     places: Places<'_>,
     paths: &[&str],
-) -> Result<Vec<ReadTable>, Fault>
-    ensures kept { files.new.holds ≡ files.old.holds }
-    ensures read { IfOk result
-        (λ read. AreReadTables files.old.holds environment.now places.entry
-        (map (λ path. Some path.now) paths.now) read.items) }
-{
+) -> Result<Vec<ReadTable>, Fault> {
     let mut read = Vec::new(alloc);
     for path in paths {
         let table = read_table(alloc, files, environment, places, Some(path))?;
@@ -162,12 +124,7 @@ fn read_table<F: Folder>(
     environment: &Environment,
     places: Places<'_>,
     given: Option<&str>,
-) -> Result<ReadTable, Fault>
-    ensures kept { files.new.holds ≡ files.old.holds }
-    ensures read { IfOk result
-        (λ read. IsReadTable files.old.holds environment.now places.entry
-        (option_copied given.entry) read) }
-{
+) -> Result<ReadTable, Fault> {
     let file = file_or_own(alloc, files, environment, places, given)?;
     let table = TableFiles::found(files, alloc, places, &file.path, Rule::Longest)?;
     Ok(ReadTable { file, table })
@@ -178,18 +135,14 @@ fn lint_outcome(
     alloc: Global,
     files: &LintFiles<'_>,
     arguments: &LintArguments<'_>,
-) -> Result<Outcome, AllocError>
-    ensures { IfOk result (λ outcome. IsLintOutcome files.now arguments.now outcome) }
-{
+) -> Result<Outcome, AllocError> {
     let answered = lint_answer(alloc, files, arguments);
     let printed = printed_outcome(alloc, arguments.accept, answered)?;
     Ok(printed.with_notes(notes_of(alloc, &files.tables)?))
 }
 
 /// The lines that note the files that were not given.
-fn notes_of(alloc: Global, tables: &[ReadTable]) -> Result<String, AllocError>
-    ensures { IfOk result (λ notes. string_bytes notes ≡ words.notes_in tables.now) }
-{
+fn notes_of(alloc: Global, tables: &[ReadTable]) -> Result<String, AllocError> {
     let mut notes = String::new(alloc);
     for read in tables {
         notes.push_str(&read.file.note)?;
@@ -202,9 +155,7 @@ fn lint_answer(
     alloc: Global,
     files: &LintFiles<'_>,
     arguments: &LintArguments<'_>,
-) -> Result<Answer, LintFault>
-    ensures { AnswersLint (lint_asked files.now arguments.now) result }
-{
+) -> Result<Answer, LintFault> {
     let pathed = with_paths(alloc, &files.tables)?;
     let tables = tables_in(alloc, &pathed)?;
     lint_tables(alloc, &input_of(files, arguments, &tables))
@@ -215,10 +166,7 @@ fn input_of<'a>(
     files: &'a LintFiles<'_>,
     arguments: &'a LintArguments<'_>,
     tables: &'a [LintTable<'a>],
-) -> LintInput<'a>
-    ensures { asked result
-        ≡ record (lint_asked files.now arguments.now) { tables = map table_given tables.now } }
-{
+) -> LintInput<'a> {
     let (readers, form) = (
         readers_of(&arguments.readers),
         form_of(arguments.write_accept, arguments.json),
@@ -240,25 +188,9 @@ struct PathedTable<'a> {
     paths: Vec<&'a str>,
 }
 
-impl<'a> Model for PathedTable<'a> {
-    ghost use Rattle.std.specs.Prelude.{map};
-    ghost use Rattle.compose_lint.specs.Rows.{Table};
-
-    ghost Value = { Table };
-
-    ghost view = { λ t. record {
-      sources = t.sources.now;
-      paths = map (λ path. path.now) t.paths.items;
-    } };
-}
-
 impl<'a> PathedTable<'a> {
-    ghost use Rattle.compose_lint.specs.Answers.{table_given};
-
     /// The table as it is given to `lint`.
-    fn given<'b>(&'b self) -> LintTable<'b>
-        ensures { table_given result ≡ self.now }
-    {
+    fn given<'b>(&'b self) -> LintTable<'b> {
         LintTable {
             sources: self.sources,
             paths: &self.paths,
@@ -267,9 +199,7 @@ impl<'a> PathedTable<'a> {
 }
 
 /// The tables with the paths of their files.
-fn with_paths(alloc: Global, tables: &[ReadTable]) -> Result<Vec<PathedTable<'_>>, AllocError>
-    ensures { IfOk result (λ pathed. pathed.items ≡ map words.table_of tables.now) }
-{
+fn with_paths(alloc: Global, tables: &[ReadTable]) -> Result<Vec<PathedTable<'_>>, AllocError> {
     let mut pathed = Vec::new(alloc);
     for read in tables {
         pathed.push(with_own_paths(alloc, read)?)?;
@@ -278,9 +208,7 @@ fn with_paths(alloc: Global, tables: &[ReadTable]) -> Result<Vec<PathedTable<'_>
 }
 
 /// A table with the paths of its files.
-fn with_own_paths(alloc: Global, read: &ReadTable) -> Result<PathedTable<'_>, AllocError>
-    ensures { IfOk result (λ pathed. pathed ≡ words.table_of read.now) }
-{
+fn with_own_paths(alloc: Global, read: &ReadTable) -> Result<PathedTable<'_>, AllocError> {
     let paths = read.table.path_texts(alloc)?;
     Ok(PathedTable {
         sources: &read.table.sources,
@@ -292,9 +220,7 @@ fn with_own_paths(alloc: Global, read: &ReadTable) -> Result<PathedTable<'_>, Al
 fn tables_in<'a>(
     alloc: Global,
     pathed: &'a [PathedTable<'_>],
-) -> Result<Vec<LintTable<'a>>, AllocError>
-    ensures { IfOk result (λ given. map table_given given.items ≡ pathed.now) }
-{
+) -> Result<Vec<LintTable<'a>>, AllocError> {
     let mut given = Vec::new(alloc);
     for table in pathed {
         given.push(table.given())?;
@@ -303,9 +229,7 @@ fn tables_in<'a>(
 }
 
 /// How findings are printed.
-fn form_of(write_accept: bool, json: bool) -> LintForm
-    ensures { result ≡ words.form_of write_accept json }
-{
+fn form_of(write_accept: bool, json: bool) -> LintForm {
     match (write_accept, json) {
         (true, _) => LintForm::AcceptList,
         (false, true) => LintForm::Json,
@@ -314,9 +238,7 @@ fn form_of(write_accept: bool, json: bool) -> LintForm
 }
 
 /// The readers of these words; libX11 and libxkbcommon if there is none.
-fn readers_of(given: &[&str]) -> Readers
-    ensures { result ≡ words.readers_of (map (λ word. word.now) given.now) }
-{
+fn readers_of(given: &[&str]) -> Readers {
     let is_usual = given.is_empty();
     Readers {
         libx11: is_usual || given.contains(&"libX11"),
@@ -331,10 +253,7 @@ fn printed_outcome(
     alloc: Global,
     accept: Option<&str>,
     answered: Result<Answer, LintFault>,
-) -> Result<Outcome, AllocError>
-    ensures { IfOk result
-        (λ outcome. IsLintPrinted (option_copied accept.entry) answered outcome) }
-{
+) -> Result<Outcome, AllocError> {
     match answered {
         Ok(answer) => outcome_with(alloc, &[], Ok(answer), String::new(alloc)),
         Err(LintFault::Input(refusal)) => {
@@ -349,10 +268,7 @@ fn accept_outcome(
     alloc: Global,
     path: Option<&str>,
     fault: &AcceptFault,
-) -> Result<Outcome, AllocError>
-    ensures { IfOk result
-        (λ outcome. IsLintAcceptRefusal (option_copied path.entry) fault.now outcome) }
-{
+) -> Result<Outcome, AllocError> {
     let own = format!(in alloc; "{fault}")?;
     let lines = accept_lines(alloc, &own, path.unwrap_or(""), fault)?;
     Ok(Outcome::of_errors(alloc, lines, Ended::Refused))
@@ -364,22 +280,14 @@ fn accept_lines(
     own: &str,
     path: &str,
     fault: &AcceptFault,
-) -> Result<String, AllocError>
-    ensures { IfOk result
-        (λ lines. string_bytes lines
-        ≡ (codes "refused: accept: " ++ (own.now ++ 10 ∷ []))
-        ++ words.lint_accept_details path.now fault.now) }
-{
+) -> Result<String, AllocError> {
     let mut lines = format!(in alloc; "refused: accept: {own}\n")?;
     lines.push_str(&accept_details(alloc, path, fault)?)?;
     Ok(lines)
 }
 
 /// What is wrong with which line of the list of the findings that are accepted.
-fn accept_details(alloc: Global, path: &str, fault: &AcceptFault) -> Result<String, AllocError>
-    ensures { IfOk result
-        (λ lines. string_bytes lines ≡ words.lint_accept_details path.now fault.now) }
-{
+fn accept_details(alloc: Global, path: &str, fault: &AcceptFault) -> Result<String, AllocError> {
     let (line, words) = match fault {
         AcceptFault::Stale { line } => (*line, "no finding in these tables is told by the line"),
         AcceptFault::BadLine { line } => {
