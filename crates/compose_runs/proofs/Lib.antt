@@ -6,3 +6,4 @@ pub mod Missing
 pub mod Slashes
 pub mod Variables
 pub mod WrittenKeys
+pub mod Zipped

@@ -1,0 +1,15 @@
+use Rattle.std.proofs.Common.{◌∙◌, ◌+◌, [], List, ℕ, Bor, map, take, get_or, sym, subst}
+use Rattle.std.specs.Prelude.{Some}
+use Rattle.compose_runs.specs.Linting.{AreReadTables, IsReadTable}
+use Rattle.compose_runs.proofs.Zipped.{zip_next}
+use Rattle.compose_runs.proofs.linting.given_tables.Goals as goal
+
+pub loop-path-preserved : goal.loop-path-preserved
+loop-path-preserved g c =
+    let folder = c.args.files.now.holds in let environment = c.args.environment.now in let places = c.args.places in let paths = c.args.paths.now in let i = c.loop-path.path-index in
+    let none : Bor (List ℕ) = record { ref_ptr = (0, 0); now = [] } in let table = c.in_ok-table.table in let kept = c.loop-path.invariant.kept in record {
+      kept = c.in_ok-table.ensures.kept ∙ kept;
+      read = subst (λ read. AreReadTables folder environment places (map (λ (p : Bor (List ℕ)). Some p.now) (take (i + 1) paths)) read) (sym c.in_ok-push.ensures.items)
+          (zip_next (IsReadTable folder environment places) (λ (p : Bor (List ℕ)). Some p.now) paths i none c.loop-path.read.items table c.loop-path-test.true c.loop-path.invariant.read
+          (subst (λ f. IsReadTable f environment places (Some (get_or paths i none).now) table) kept c.in_ok-table.ensures.read));
+    }
