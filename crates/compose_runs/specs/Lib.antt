@@ -17,3 +17,7 @@ pub mod WrittenKeys
 pub mod Listing
 pub mod HowTo
 pub mod Updating
+pub mod Serving
+pub mod ServingFaults
+pub mod Turns
+pub mod Clients

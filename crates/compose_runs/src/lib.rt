@@ -11,6 +11,7 @@
 #![tactic(auto)]
 
 mod checking;
+mod client;
 mod differing;
 mod environment;
 mod explaining;
@@ -21,11 +22,15 @@ mod making;
 mod manifest;
 mod one_table;
 mod options;
+mod peer;
+mod serving;
 mod typing;
 mod updating;
 mod written_keys;
 
 pub use checking::{CheckPaths, CheckTexts, run_check, run_check_files};
+pub use checking::{CheckPaths, run_check};
+pub use client::{ClientRequests, load_requests, run_exchange, run_load, run_session};
 pub use differing::run_diff;
 pub use environment::{Environment, Variable};
 pub use explaining::{run_explain, run_explain_files};
@@ -35,4 +40,7 @@ pub use making::{MakeOptions, run_make, run_make_files};
 pub use manifest::run_manifest;
 pub use options::Options;
 pub use typing::{run_type, run_type_file};
+pub use peer::Peer;
+pub use serving::start_service;
+pub use typing::run_type;
 pub use updating::{UpdateFiles, UpdateRun, run_update};
