@@ -3,7 +3,7 @@
 
   - links lead to a file, and to a heading of it,
   - each function, clause and definition that docs/PROVED.md and docs/DEFINITIONS.md name in backquotes stands in the sources of its crate,
-    and each crate has its row in docs/PROVED.md and docs/ARCHITECTURE.md,
+    and each crate has its row in docs/ARCHITECTURE.md, and its section in docs/PROVED.md,
   - each crate, file, target of make and option that a document names exists, and so does each fault of FORMATS, PROTOCOL and the manual,
     under its number, and each limit among the numbers of the crates' sources,
   - README has at most 9,216 bytes, and the version of the program is that of README, CHANGELOG and the manual,
@@ -21,7 +21,7 @@ TOP = os.path.abspath(sys.argv[1]) if len(sys.argv) > 1 else os.path.dirname(os.
 MOST_README = 9216
 MANUALS = ["docs/composecheck.1", "docs/composecheck.5"]
 # Documents that are wrapped, and what they don't say.
-WRAPPED = ["README.md", "CONTRIBUTING.md", "tests/README.md", "docs/GUIDE.md", "docs/GATE.md"]
+WRAPPED = ["README.md", "CONTRIBUTING.md", "tests/README.md", "docs/GUIDE.md", "docs/GATE.md", "docs/PROVED.md"]
 MOST_COLUMNS = 100
 RETIRED = re.compile(r"\b(?:told|tells?|so many|behind|as it stands)\b", re.I)
 # Documents whose numbers with a thousands' comma are limits of the program.
@@ -38,6 +38,7 @@ CITATION = re.compile(r"\bet al\b|\barXiv\b|\bdoi\b|\bthis paper\b|\bthe paper\b
 WORD = re.compile(r"(?:[A-Z]\w*::)?[A-Za-z_][\w'-]*")
 # Words and the crate that has them: `follows` of `check` (`compose_check`), or `serve` of `compose_serve`.
 WORDS = r"((?:`(?!compose_|keysym_core|std`)[\w:]+`(?:, | and )?)+)"
+NAMES = r"(?:`\w+[\w/]*`(?:, )?)+"
 NAMED = re.compile(rf"{WORDS}(?: of {WORDS})? (?:of |\()`(compose_\w+|keysym_core)`")
 FAULT = re.compile(r"\b(\d\d?) ([A-Z][a-z]+(?:[A-Z][a-z0-9]*)+|[A-Z][a-z]+)(?= [a-z]+=|`|:|$)", re.M)
 
@@ -119,12 +120,21 @@ def quoted(text):
     return re.findall(r"`([^`\n]+)`", re.sub(r"^```.*?^```$", "", text, flags=re.M | re.S))
 
 
-def check_rows(results, document, text, crates):
-    """Each word in backquotes of a row of crates stands in one of them, or in another crate that the row names. A row of something else is of
-    the crate that the heading above names."""
+def crate_parts(text):
+    """Yields what a document has of crates: of each row of a table, and of each section whose heading is names in backquotes, the crate of the
+    heading above, these names, and the text."""
     heading = ""
-    for head, first, rest in re.findall(r"^## .*\((?:`(\w+))[/`].*$|^\| ((?:`\w+[\w/]*`(?:, )?)+) \| (.*) \|$", text, re.M):
+    for head, first, rest in re.findall(rf"^## .*\((?:`(\w+))[/`].*$|^\| ({NAMES}) \| (.*) \|$", text, re.M):
         heading = head or heading
+        yield heading, first, rest
+    for first, rest in re.findall(rf"^### ({NAMES})\n(.*?)(?=^#|\Z)", text, re.M | re.S):
+        yield "", first, re.sub(r"\s+", " ", rest)
+
+
+def check_rows(results, document, text, crates):
+    """Each word in backquotes of what a document has of crates stands in one of them, or in another crate that is named there. A row of something
+    else is of the crate that the heading above names."""
+    for heading, first, rest in crate_parts(text):
         own = [it.split("/")[0] for it in quoted(first)]
         own = own if set(own) <= set(crates.names) else [heading]
         for word in quoted(rest):
@@ -156,9 +166,9 @@ def check_crates(results, texts, crates):
             known = word in folders or word in crates.every
             results.expect(document, f"there is no crate {word}", known)
     for document in ("docs/PROVED.md", "docs/ARCHITECTURE.md"):
-        rows = {it for first in re.findall(r"^\| ((?:`\w+`(?:, )?)+) \|", texts[document], re.M) for it in quoted(first)}
+        named = {it for _, first, _ in crate_parts(texts[document]) for it in quoted(first)}
         for crate in crates.names:
-            results.expect(document, f"{crate} has no row", crate in rows)
+            results.expect(document, f"{crate} has no row and no section", crate in named)
 
 
 def names_below(folder):

@@ -78,6 +78,7 @@ EDITS = {
     "wrong_answer": ("    let more: u8 = 1;", "    let more: u8 = 2;", "refused by "),
     "wrong_for_c": ("    let same = a;", "    let same: u8 = 1;", "refused by "),
     "same_meaning": ("    if a < b {", "    if a <= b {", "NOT REFUSED"),
+    "calls_an_edited_one": ("    next(one)", "    one", "refused by "),
     "only_its_callee_is_wrong": ("    let one = next(a);", "    let one = if a == 0 { 1 } else { next(a) };", "NOT REFUSED"),
     "does_not_compile": ("    let less: u8 = 1;", "    let less: u8 = true;", "BAD EDIT"),
     "is_not_there": ("    let none: u8 = 1;", "    let none: u8 = 2;", "BAD EDIT"),
@@ -123,7 +124,7 @@ def tests_of_the_runner():
     for name, (_, _, begin) in EDITS.items():
         said = lines.get(name, "no line")
         yield f"{name}: {said[:60]}", said.startswith(begin)
-    yield f"counts: {counts}", counts == "2 passed, 4 failed"
+    yield f"counts: {counts}", counts == "3 passed, 4 failed"
     yield f"status: {status}", status == 1
 
 
@@ -202,6 +203,9 @@ def tests_of_words():
     edit = lambda function, start: edits.Edit(f"{function}.edit", function, "src/lib.rt", start, start + 3, "x")
     batches = edits.batches_of([edit("a", 0), edit("a", 8), edit("b", 20), edit("c", 22)])
     yield "no batch has two edits of one function, or two that overlap", [[it.function for it in batch] for batch in batches] == [["a", "b"], ["a", "c"]]
+    one, other = edit("a", 0), edit("b", 20)
+    tries = [edits.next_tries([one, other], it) for it in ([], [other], [one, other])] + [edits.next_tries([one], [one])]
+    yield "what a batch does not judge goes on in a smaller one, and the last edit alone", tries == [[], [[other]], [[one], [other]], ["a.edit"]]
     lost = gate.without_a_line({"low": ["a.edit", "b.edit"], "high": []}, ["rt: must-fail low/a.edit: refused by x\n"])
     yield "an edit without a line is found", lost == ["low/b.edit"]
 

@@ -92,6 +92,29 @@ def try_decisions(program, tell):
         tell.check("what is kept is no bundle", (write(os.path.join(folder, "state"), "table", "x"), update(program, folder, "old")[0])[1], 2)
 
 
+def try_meant(program, tell):
+    """A table that changes typing, where the changes are meant."""
+    with tempfile.TemporaryDirectory() as folder:
+        prepare(folder)
+        update(program, folder, "old")
+        line = 'changed: <Multi_key> <apostrophe> <e> "ⓔ" "ê"'
+        write(folder, "none", "")
+        status, out, err = update(program, folder, "other", "--accept", "none")
+        tell.check("a change that is not meant", (status, out.startswith(line + " "), err), (1, True, ""))
+        tell.check("its count", out.splitlines()[-1], "diff: 1 kept, 1 changed, 0 waiting, 0 removed, 0 new starts, 0 added, 0 accepted; 1 text lost")
+        tell.check("the table in use is still kept", list((kept(folder) or {}).values()), [OLD])
+        write(folder, "stale", line.replace("ê", "e") + "\n")
+        status, out, err = update(program, folder, "other", "--accept", "stale")
+        refusal = "refused: accept: 1 Stale line=1\ncomposecheck: stale:1:1: no change of these tables is named by the line\n"
+        tell.check("a line that names no change", (status, out, err), (2, "", refusal))
+        write(folder, "meant", line + "\n")
+        note = "note: typing changes as it is meant to; a running service keeps its table until it starts again\n"
+        tell.check("a change that is meant", update(program, folder, "other", "--accept", "meant"), (0, "stored\n", note))
+        tell.check("its table is kept", list((kept(folder) or {}).values()), [OTHER])
+        tell.check("a table that follows needs no list", update(program, folder, "other", "--accept", "meant"), (0, "stored\n", ""))
+        tell.check("a list that is not there", update(program, folder, "other", "--accept", "nosuch")[0], 2)
+
+
 def try_fresh(program, tell):
     """New starts that are allowed, and includes."""
     with tempfile.TemporaryDirectory() as folder:
@@ -158,7 +181,7 @@ def try_cuts(program, tell):
 def main():
     program = os.path.abspath(sys.argv[1])
     tell = Failures()
-    for part in (try_decisions, try_fresh, try_places, try_cuts):
+    for part in (try_decisions, try_meant, try_fresh, try_places, try_cuts):
         part(program, tell)
     print(f"{tell.passed} passed, {tell.failed} failed")
     return 1 if tell.failed else 0

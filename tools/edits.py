@@ -5,8 +5,8 @@
 
 An edit, crates/CRATE/must-fail/NAME.edit, turns the meaning of one function, and the prover must refuse that very function. Edits of
 different functions of a crate share one check, over what the proof of the crate kept. An edit is refused there only if the check says
-of its own function that a goal of that function is not proved: of a function that only calls a refused one it says something else. What
-no such check can judge is tried alone, by the rule of `rt must-fail`. Afterwards the same functions are checked unedited, or the whole crate
+of its own function that a goal of that function is not proved: of a function that only calls a refused one it says something else, so such
+edits are tried again in a check without the refused ones. What no such check can judge is tried alone, by the rule of `rt must-fail`. Afterwards the same functions are checked unedited, or the whole crate
 where an edit was tried alone, over the same kept work, so that bad kept work cannot refuse anything.
 
 Run it at the top of the repository, with the kit's `rt` on PATH. What is not proved yet is proved first. Each edit has one line:
@@ -140,6 +140,16 @@ def batches_of(edits):
             batches += room
         room[0].append(edit)
     return batches
+
+
+def next_tries(batch, unjudged):
+    """Returns what is tried next of a batch of which some edits are not judged yet: smaller batches, or the file of its only edit, which goes on alone."""
+    if len(batch) == 1:
+        return [it.file for it in unjudged]
+    if len(unjudged) < len(batch):
+        return [unjudged] if unjudged else []
+    middle = len(batch) // 2
+    return [batch[:middle], batch[middle:]]
 
 
 def merged(folder, batch):
@@ -294,7 +304,8 @@ class Trial:
         self.tell(file, passes, "refused alone: " + text.partition(": ")[2] if passes else text)
 
     def together(self, batch):
-        """Tries a batch. It goes on in halves where it cannot be read, and an edit that its function's own line does not refuse goes on alone."""
+        """Tries a batch. It goes on in halves where it cannot be read or judges nothing. The edits that their functions' own lines do not refuse, as where a
+        function calls another one of the batch, go on as a batch of their own, and the last one alone."""
         texts = merged(self.crate.folder, batch)
         with self.copy_of_kept() as kept:
             ran = self.check(kept, texts, [it.function for it in batch], self.answered)
@@ -302,18 +313,13 @@ class Trial:
         lines = ran.stdout.rstrip("\n").split("\n")
         is_read = lines[-1].startswith("only=") and not any(self.rt.unread(it, texts) for it in lines)
         is_read = is_read and not self.rt.rtlib.STALE.search(ran.stdout)
-        if not is_read and len(batch) > 1:
-            middle = len(batch) // 2
-            self.left.extend([batch[:middle], batch[middle:]])
-            return
-        for it in batch:
-            goal = own_refusal(ran.stdout, it.function) if is_read and ran.returncode == 1 else None
-            if not goal:
-                self.left.append(it.file)
-            elif goal.endswith(WEAK):
+        goals = [own_refusal(ran.stdout, it.function) if is_read and ran.returncode == 1 else None for it in batch]
+        for it, goal in zip(batch, goals):
+            if goal and goal.endswith(WEAK):
                 self.tell(it.file, False, f"NOT JUDGED: refused by {goal}")
-            else:
+            elif goal:
                 self.tell(it.file, True, f"refused by {goal}")
+        self.left.extend(next_tries(batch, [it for it, goal in zip(batch, goals) if not goal]))
 
     def judge(self, file, is_kept_well):
         """Fails an edit that was not tried, or that was tried over kept work which does not prove the unedited crate."""

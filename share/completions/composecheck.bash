@@ -27,7 +27,7 @@ _composecheck() {
         how) options="--names --from --repertoire --first --format --overlap --system --locale --root --help" ;;
         list) options="--names --prefix --text --next --sort --format --overlap --system --locale --root --help" ;;
         lint) options="--names --reader --all --accept --write-accept --format --system --locale --root --verbose --help" ;;
-        update) options="--fresh --repertoire --state --socket --system --locale --verbose --help" ;;
+        update) options="--fresh --repertoire --accept --state --socket --system --locale --verbose --help" ;;
         manifest) options="--system --locale --root --verbose --help" ;;
         serve) options="--names --fresh --state --at-once --unsent --idle --mode --replace --unlink --verbose --help" ;;
         load) options="--verbose --help" ;;

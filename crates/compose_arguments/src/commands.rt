@@ -530,6 +530,12 @@ static UPDATE: CommandRow = CommandRow {
             help: "The characters that people need, and their keys",
         },
         OptionRow {
+            name: "accept",
+            letter: None,
+            takes: Takes::Value("FILE"),
+            help: "Store the new table although typing changes if FILE lists each change, as diff --accept reads it; a running service keeps its table",
+        },
+        OptionRow {
             name: "state",
             letter: None,
             takes: Takes::Value("DIR"),

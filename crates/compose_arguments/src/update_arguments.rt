@@ -8,6 +8,8 @@ pub struct UpdateArguments<'a> {
     pub file: &'a str,
     /// The path of the characters that people need, with their keys; nobody needs any where it is not given.
     pub repertoire: Option<&'a str>,
+    /// The path of the list of changes that are meant, if one is given.
+    pub accept: Option<&'a str>,
     /// The folder in which the table in use is kept, if the environment doesn't say it.
     pub state: Option<&'a str>,
     /// The path of the running service's socket, if the environment doesn't say it.
@@ -23,6 +25,7 @@ pub fn update_arguments<'a>(given: &ArgMatches<'a>) -> Option<UpdateArguments<'a
     Some(UpdateArguments {
         file: given.get_str("FILE")?,
         repertoire: given.get_str("repertoire"),
+        accept: given.get_str("accept"),
         state: given.get_str("state"),
         socket: given.get_str("socket"),
         system: given.get_str("system"),

@@ -50,10 +50,17 @@ fn update_read<T: ComposeTable>(
         } => {
             let loaded = load_running(rt, verbose, socket, read, certificate.as_deref())?;
             match loaded {
-                Ended::Yes => keep(rt, verbose, folder, &stored),
+                Ended::Yes => keep(rt, verbose, folder, &stored, ""),
                 ended => Ok(ended),
             }
         }
+        UpdateRun::Meant { stored } => keep(
+            rt,
+            verbose,
+            folder,
+            &stored,
+            "note: typing changes as it is meant to; a running service keeps its table until it starts again\n",
+        ),
         UpdateRun::Refused(outcome) => put(rt, verbose, Ok(outcome)),
     }
 }
@@ -76,16 +83,18 @@ fn load_running(
     put(rt, verbose, outcome)
 }
 
-/// Keeps the bytes of the table for the next start of the service.
+/// Keeps the bytes of the table for the next start of the service, with a note or none.
 fn keep(
     rt: &(impl Files<File = File> + Print + Eprint + AllocGlobal),
     verbose: bool,
     folder: &StateFolder,
     stored: &[u8],
+    note: &str,
 ) -> Result<Ended, Fault> {
     folder.replace(rt, stored)?;
     let text = String::from_str(rt.alloc(), "stored\n")?;
-    let outcome = Outcome::of_output(rt.alloc(), text, Ended::Yes);
+    let notes = String::from_str(rt.alloc(), note)?;
+    let outcome = Outcome::of_output(rt.alloc(), text, Ended::Yes).with_notes(notes);
     put(rt, verbose, Ok(outcome))
 }
 

@@ -1,8 +1,9 @@
 -- A fault that is answered.
-use Rattle.std.proofs.Common.{◌≡◌, sym, subst}
+use Rattle.std.proofs.Common.{◌≡◌, sym, subst, inl, inr}
 use Rattle.std.specs.Prelude.{Result, Ok, Err, IfErr, IsErrAnd}
 use Rattle.compose_input.specs.declared.fault.Fault.{Fault}
 use Rattle.compose_input.specs.declared.fault.Fault.TheVariants.{NoMemory}
+use Rattle.compose_runs.specs.Faults.{OrMemory}
 
 -- what is known of the fault, said of the result
 pub fails : {X : Type 0} (P : Fault → Type 0) (r : Result X Fault) (fault : Fault) → r ≡ Err fault → P fault → IfErr r P
@@ -17,3 +18,8 @@ err_map P Q (Err e) f h = f e h
 pub memory : {X : Type 0} (P : Fault → Type 0) (r : Result X Fault) → IsErrAnd r (λ fault. fault ≡ NoMemory) → P NoMemory → IfErr r P
 memory P (Ok x) h p = tt
 memory P (Err fault) h p = subst P (sym h) p
+
+-- memory ran out, or another fact of the fault
+pub or_map : (P Q : Fault → Type 0) (fault : Fault) → (P fault → Q fault) → OrMemory P fault → OrMemory Q fault
+or_map P Q fault f (inl memory) = inl memory
+or_map P Q fault f (inr p) = inr (f p)

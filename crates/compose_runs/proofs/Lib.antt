@@ -4,5 +4,7 @@ pub mod Given
 pub mod Lent
 pub mod Missing
 pub mod Slashes
+pub mod SourceNames
 pub mod Variables
 pub mod WrittenKeys
+pub mod Zipped

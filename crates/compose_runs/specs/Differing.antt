@@ -93,7 +93,7 @@ pub record IsRefusalOutcome (files : DiffFiles) (fresh : List (List ℕ)) (refus
 
 -- which line of the list of meant changes is refused, and why (code 10 ends it)
 abbrev pub accept_details : List ℕ → AcceptFault → List ℕ
-accept_details path (Stale n) = said_at path n (codes "no change of these tables is told by the line") ++ 10 ∷ []
+accept_details path (Stale n) = said_at path n (codes "no change of these tables is named by the line") ++ 10 ∷ []
 accept_details path (BadLine n) = said_at path n (codes "expected \"changed: \", \"waiting: \", \"removed: \" or \"new start: \" and keys") ++ 10 ∷ []
 accept_details path NoMemory = []
 

@@ -1,12 +1,13 @@
 -- Why the files of a command can't be read: the first that is refused says it, and those before it are read (this project's profile).
 -- Memory may run out at any time: nothing more is known then.
-use Rattle.std.specs.Prelude.{◌≡◌, ◌⊎◌, ℕ, List, Option, Some, None, Err, option_copied, string_bytes, codes}
+use Rattle.std.specs.Prelude.{◌≡◌, ◌⊎◌, ℕ, List, ◌∷◌, ◌++◌, Option, Some, None, Err, option_copied, string_bytes, codes}
 use Rattle.std.proofs.Common.{Bor}
 use Rattle.compose_folder.specs.Content.{Entry, File, IsHeld}
 use Rattle.compose_model.specs.declared.Rule.TheVariants.{Longest}
 use Rattle.compose_arguments.specs.declared.diff_arguments.DiffArguments.{DiffArguments}
 use Rattle.compose_arguments.specs.declared.given_tables.FilePair.{FilePair}
 use Rattle.compose_arguments.specs.declared.how_arguments.HowArguments.{HowArguments}
+use Rattle.compose_arguments.specs.declared.lint_arguments.LintArguments.{LintArguments}
 use Rattle.compose_arguments.specs.declared.manifest_arguments.ManifestArguments.{ManifestArguments}
 use Rattle.compose_arguments.specs.declared.table_arguments.TableArguments.{TableArguments}
 use Rattle.compose_arguments.specs.declared.update_arguments.UpdateArguments.{UpdateArguments}
@@ -23,6 +24,7 @@ use Rattle.compose_runs.specs.DiffFiles.{AreFoundFiles, IsFoundTable, names_or_b
 use Rattle.compose_runs.specs.Differing.{is_colored}
 use Rattle.compose_runs.specs.Environment.{IsPlaced, GivesColor, places_of}
 use Rattle.compose_runs.specs.Files.{AreMigrationFiles}
+use Rattle.compose_runs.specs.Linting.{AreReadTables, asked_files, lint_places}
 use Rattle.compose_runs.specs.Manifest as manifest
 use Rattle.compose_runs.specs.OneTable.{IsTableRead, table_places}
 use Rattle.compose_runs.specs.Own.{IsChosen, own_paths}
@@ -32,6 +34,7 @@ use Rattle.compose_runs.specs.declared.checking.CheckTexts.{CheckTexts}
 use Rattle.compose_runs.specs.declared.environment.Environment.{Environment}
 use Rattle.compose_runs.specs.declared.environment.PlaceArguments.{PlaceArguments}
 use Rattle.compose_runs.specs.declared.files.MigrationFiles.{MigrationFiles}
+use Rattle.compose_runs.specs.declared.linting.ReadTable.{ReadTable}
 use Rattle.compose_runs.specs.declared.one_table.ChosenFile.{ChosenFile}
 use Rattle.compose_runs.specs.declared.one_table.TableRead.{TableRead}
 
@@ -156,11 +159,42 @@ FailsHow folder environment names arguments fault =
     OrMemory (λ f. FailsTableRead folder environment names arguments.table f
     ⊎ (HasTableRead folder environment names arguments.table × FailsAccepted folder (option_copied arguments.repertoire) f)) fault
 
--- of `update`: the environment, the names, the table, and the repertoire, where one is given
+-- the file of an option, where its path is given
+abbrev pub HasOption : Option (List Entry) → Option (List ℕ) → Type 0
+HasOption folder None = Unit {0}
+HasOption folder (Some path) = HasFile folder path
+
+-- of `update`: the environment, the names, the table, and the repertoire and the list of the changes that are meant, where they are given
 abbrev pub FailsUpdateRead : Option (List Entry) → Environment → UpdateArguments → Fault → Type 0
 FailsUpdateRead folder environment arguments fault =
     OrMemory (FailsPlaced environment (update_places arguments)
     (λ places f. FailNames folder builtin f
     ⊎ (HasNames folder builtin
     × (FailsFound folder places arguments.file.now f
-    ⊎ (((table : TableFiles) × IsFoundOnSystem folder places arguments.file.now Longest table) × FailsAccepted folder (option_copied arguments.repertoire) f))))) fault
+    ⊎ (((table : TableFiles) × IsFoundOnSystem folder places arguments.file.now Longest table)
+    × (FailsAccepted folder (option_copied arguments.repertoire) f
+    ⊎ (HasOption folder (option_copied arguments.repertoire) × FailsAccepted folder (option_copied arguments.accept) f))))))) fault
+
+-- ---- `lint`
+
+-- of these Compose files, in their order, the first whose table can't be read: those before it can
+pub record FailsTables (folder : Option (List Entry)) (environment : Environment) (places : Places) (given : List (Option (List ℕ))) (fault : Fault) : Type 0 where
+  pub before : List (Option (List ℕ))
+  pub file : Option (List ℕ)
+  pub after : List (Option (List ℕ))
+  pub is : given ≡ before ++ file ∷ after
+  pub tables : List ReadTable
+  pub read : AreReadTables folder environment places before tables
+  pub fails : FailsChosenTable folder environment places file fault
+
+abbrev pub HasTables : Option (List Entry) → Environment → Places → List (Option (List ℕ)) → Type 0
+HasTables folder environment places given = (tables : List ReadTable) × AreReadTables folder environment places given tables
+
+-- the names, the environment, the tables, and the list of the findings that are accepted
+abbrev pub FailsLintRun : Option (List Entry) → Environment → List (List ℕ) → LintArguments → Fault → Type 0
+FailsLintRun folder environment names arguments fault =
+    OrMemory (λ f. FailNames folder (names_or_builtin names) f
+    ⊎ (HasNames folder (names_or_builtin names)
+    × FailsPlaced environment (lint_places arguments)
+    (λ places f. FailsTables folder environment places (asked_files arguments.files.items) f
+    ⊎ (HasTables folder environment places (asked_files arguments.files.items) × FailsAccepted folder (option_copied arguments.accept) f)) f)) fault

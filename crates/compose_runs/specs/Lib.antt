@@ -17,3 +17,4 @@ pub mod WrittenKeys
 pub mod Listing
 pub mod HowTo
 pub mod Updating
+pub mod Linting

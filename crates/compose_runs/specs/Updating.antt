@@ -1,32 +1,40 @@
 -- What `update` reads, and what it then does with the table in use (this project's profile).
-use Rattle.std.specs.Prelude.{◌≡◌, ℕ, Bool, List, [], ◌∷◌, map, Option, Some, None, option_copied, Result, Ok, Err, string_bytes, codes}
+use Rattle.std.specs.Prelude.{◌≡◌, ℕ, Bool, false, List, [], ◌∷◌, map, Option, Some, None, option_copied, Result, Ok, Err, string_bytes, codes}
 use Rattle.compose_folder.specs.Content.{Entry, File, IsHeld}
 use Rattle.compose_model.specs.declared.Rule.TheVariants.{Longest}
 use Rattle.compose_read.specs.Lines.{Source}
 use Rattle.compose_bundle.specs.Bundle.{Bundle, IsBundle}
+use Rattle.compose_answer.specs.declared.answer.Answer.{Answer}
+use Rattle.compose_answer.specs.declared.answer.Answer.TheVariants.{Yes}
 use Rattle.compose_answer.specs.declared.answer.Ended.TheVariants as ends
 use Rattle.compose_answer.specs.declared.refusal.Refusal.{Refusal}
 use Rattle.compose_arguments.specs.declared.update_arguments.UpdateArguments.{UpdateArguments}
 use Rattle.compose_details.specs.Given.{IsGiven, parts_of}
 use Rattle.compose_details.specs.declared.given.Given.{Given}
+use Rattle.compose_diff_rows.specs.Answers.{Asked, AnswersDiff}
+use Rattle.compose_diff_rows.specs.declared.asking.DiffFault.{DiffFault}
+use Rattle.compose_diff_rows.specs.declared.asking.DiffFault.TheVariants as differing
+use Rattle.compose_diff_rows.specs.declared.asking.Form.TheVariants.{Folded}
 use Rattle.compose_input.specs.Names.{AreNames}
 use Rattle.compose_input.specs.Tables.{IsFoundOnSystem}
 use Rattle.compose_input.specs.declared.fault.Fault.{Fault}
 use Rattle.compose_input.specs.declared.fault.Fault.TheVariants as faults
 use Rattle.compose_input.specs.declared.places.Places.{Places}
-use Rattle.compose_report.specs.Outcomes.{IsReported, PrintsOutput, PrintsErrors}
+use Rattle.compose_report.specs.Outcomes.{IsOutcome, IsReported, PrintsOutput, PrintsErrors}
 use Rattle.compose_report.specs.declared.outcome.Outcome.{Outcome}
 use Rattle.compose_update.specs.Update.{GivenUpdate, Updates}
 use Rattle.compose_update.specs.declared.deciding.Update.{Update}
 use Rattle.compose_update.specs.declared.deciding.Update.TheVariants as updates
 use Rattle.compose_update.specs.declared.deciding.UpdateFault.{UpdateFault}
 use Rattle.compose_update.specs.declared.deciding.UpdateFault.TheVariants.{Input, TooLarge}
+use Rattle.compose_runs.specs.Differing.{IsAcceptRefusal}
 use Rattle.compose_runs.specs.Environment.{IsPlaced}
 use Rattle.compose_runs.specs.declared.environment.Environment.{Environment}
 use Rattle.compose_runs.specs.declared.environment.PlaceArguments.{PlaceArguments}
+use Rattle.compose_runs.specs.declared.updating.MeantChanges.{MeantChanges}
 use Rattle.compose_runs.specs.declared.updating.UpdateFiles.{UpdateFiles}
 use Rattle.compose_runs.specs.declared.updating.UpdateRun.{UpdateRun}
-use Rattle.compose_runs.specs.declared.updating.UpdateRun.TheVariants.{Replaced, Refused}
+use Rattle.compose_runs.specs.declared.updating.UpdateRun.TheVariants.{Replaced, Meant, Refused}
 
 -- ---- what is read
 
@@ -42,13 +50,21 @@ abbrev pub IsRepertoire : Option (List Entry) → Option (List ℕ) → List ℕ
 IsRepertoire folder None bytes = bytes ≡ []
 IsRepertoire folder (Some path) bytes = IsHeld folder path (File bytes)
 
--- the built-in names, the Compose file as it lies on the system, of whose overlapping sequences the longest counts, and the repertoire
+-- the list of the changes that are meant, where its path is given
+abbrev pub IsMeantList : Option (List Entry) → Option (List ℕ) → Option MeantChanges → Type 0
+IsMeantList folder None None = Unit {0}
+IsMeantList folder (Some path) (Some meant) = (string_bytes meant.path ≡ path) × IsHeld folder path (File meant.lines.items)
+IsMeantList folder path meant = ⊥
+
+-- the built-in names, the Compose file as it lies on the system, of whose overlapping sequences the longest counts, the repertoire, and the
+-- list of the changes that are meant
 pub record AreUpdateFiles (folder : Option (List Entry)) (environment : Environment) (arguments : UpdateArguments) (files : UpdateFiles) : Type 0 where
   pub places : Places
   pub are_places : IsPlaced environment (update_places arguments) places
   pub are_names : AreNames folder builtin files.names
   pub is_new : IsFoundOnSystem folder places arguments.file.now Longest files.new
   pub is_repertoire : IsRepertoire folder (option_copied arguments.repertoire) files.repertoire.items
+  pub is_meant : IsMeantList folder (option_copied arguments.accept) files.meant
 
 -- ---- what is decided
 
@@ -66,12 +82,23 @@ update_given files fresh current = record {
   repertoire = files.repertoire.items;
 }
 
+-- what `diff` is asked of the table in use and the new one, where these changes are meant
+abbrev pub meant_asked : UpdateFiles → List (List ℕ) → MeantChanges → List Source → Asked
+meant_asked files fresh meant current = record {
+  migration = record { header = files.names.lines.items; key_names = fresh; old = record { sources = current; rule = Longest }; new = record { sources = files.new.sources; rule = Longest } };
+  old_paths = map (λ (source : Source). source.name) current;
+  new_paths = map string_bytes files.new.paths.items;
+  accepted = meant.lines.items;
+  lost_alone = false;
+  form = Folded;
+}
+
 -- ---- what is then done
 
 -- everything stays as it is, and this is said of the outcome
 abbrev pub IsRefusedAs : (Outcome → Type 0) → UpdateRun → Type 0
 IsRefusedAs Prints (Refused outcome) = Prints outcome
-IsRefusedAs Prints (Replaced stored certificate) = ⊥
+IsRefusedAs Prints run = ⊥
 
 -- a part is refused; the new table stands for both, since the one in use was read when it was taken into use
 pub record IsUpdateRefusal (verbose : Bool) (files : UpdateFiles) (fresh : List (List ℕ)) (refusal : Refusal) (outcome : Outcome) : Type 0 where
@@ -86,11 +113,39 @@ IsUpdateDone verbose files fresh (Ok (updates.Refused text)) run = IsRefusedAs (
 IsUpdateDone verbose files fresh (Err (Input refusal)) run = IsRefusedAs (IsUpdateRefusal verbose files fresh refusal) run
 IsUpdateDone verbose files fresh (Err TooLarge) run = IsRefusedAs (PrintsErrors (codes "refused: update: 1 TooLarge\n") ends.Refused) run
 
+-- each change is meant: the bytes that are stored are those of the decision where no table is in use
+abbrev pub IsDoneAsMeant : Bool → UpdateFiles → List (List ℕ) → Result Update UpdateFault → UpdateRun → Type 0
+IsDoneAsMeant verbose files fresh (Ok (updates.Replaced stored certificate)) run = run ≡ Meant stored
+IsDoneAsMeant verbose files fresh decided run = IsUpdateDone verbose files fresh decided run
+
+pub record IsStoredAsMeant (verbose : Bool) (files : UpdateFiles) (fresh : List (List ℕ)) (run : UpdateRun) : Type 0 where
+  pub decided : Result Update UpdateFault
+  pub is : Updates (update_given files fresh None) decided
+  pub done : IsDoneAsMeant verbose files fresh decided run
+
+-- the new table is stored if `diff` answers yes; else its answer, or why it has none, is printed
+abbrev pub IsMeantAnswer : Bool → UpdateFiles → List (List ℕ) → MeantChanges → Result Answer DiffFault → UpdateRun → Type 0
+IsMeantAnswer verbose files fresh meant (Ok (Yes text)) run = IsStoredAsMeant verbose files fresh run
+IsMeantAnswer verbose files fresh meant (Ok answer) run = IsRefusedAs (λ outcome. (own : List ℕ) × IsOutcome own fresh [] (Ok answer) outcome) run
+IsMeantAnswer verbose files fresh meant (Err (differing.Input refusal)) run = IsRefusedAs (IsUpdateRefusal verbose files fresh refusal) run
+IsMeantAnswer verbose files fresh meant (Err (differing.Accept fault)) run = IsRefusedAs (IsAcceptRefusal (Some (string_bytes meant.path)) fault) run
+
+-- typing would change from the table in use, and these changes are meant
+pub record IsMeantRun (verbose : Bool) (files : UpdateFiles) (fresh : List (List ℕ)) (meant : MeantChanges) (current : List Source) (run : UpdateRun) : Type 0 where
+  pub answered : Result Answer DiffFault
+  pub is : AnswersDiff (meant_asked files fresh meant current) answered
+  pub done : IsMeantAnswer verbose files fresh meant answered run
+
+-- what is decided is done; but where typing would change from a table in use, and a list of meant changes is given, what the list says
+abbrev pub IsDecisionDone : Bool → UpdateFiles → List (List ℕ) → Option MeantChanges → Option (List Source) → Result Update UpdateFault → UpdateRun → Type 0
+IsDecisionDone verbose files fresh (Some meant) (Some current) (Ok (updates.Refused text)) run = IsMeantRun verbose files fresh meant current run
+IsDecisionDone verbose files fresh meant current decided run = IsUpdateDone verbose files fresh decided run
+
 -- what is decided of the new table and of the one in use is done
 pub record IsUpdateOf (verbose : Bool) (files : UpdateFiles) (fresh : List (List ℕ)) (current : Option (List Source)) (run : UpdateRun) : Type 0 where
   pub decided : Result Update UpdateFault
   pub is : Updates (update_given files fresh current) decided
-  pub done : IsUpdateDone verbose files fresh decided run
+  pub done : IsDecisionDone verbose files fresh files.meant current decided run
 
 -- the same, where these bytes are stored of the table in use
 pub record IsUpdateRun (verbose : Bool) (files : UpdateFiles) (fresh : List (List ℕ)) (stored : Option (List ℕ)) (run : UpdateRun) : Type 0 where

@@ -272,7 +272,7 @@ fn refusal_outcome<T: ComposeTable>(
 }
 
 /// The outcome where the list of the changes that are meant is refused.
-fn accept_outcome(
+pub(crate) fn accept_outcome(
     alloc: Global,
     path: Option<&str>,
     fault: &AcceptFault,
@@ -308,7 +308,7 @@ fn accept_details(alloc: Global, path: &str, fault: &AcceptFault) -> Result<Stri
         (λ lines. string_bytes lines ≡ words.accept_details path.now fault.now) }
 {
     let (line, words) = match fault {
-        AcceptFault::Stale { line } => (*line, "no change of these tables is told by the line"),
+        AcceptFault::Stale { line } => (*line, "no change of these tables is named by the line"),
         AcceptFault::BadLine { line } => {
             (
                 *line,

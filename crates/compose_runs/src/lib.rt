@@ -35,4 +35,4 @@ pub use making::{MakeOptions, run_make, run_make_files};
 pub use manifest::run_manifest;
 pub use options::Options;
 pub use typing::{run_type, run_type_file};
-pub use updating::{UpdateFiles, UpdateRun, run_update};
+pub use updating::{MeantChanges, UpdateFiles, UpdateRun, run_update};

@@ -1,4 +1,13 @@
 //! `lint`: what is wrong in Compose files.
+ghost use Rattle.std.specs.Prelude.{◌≡◌, ◌||◌, ◌++◌, ◌∷◌, [], map, IfOk, IfErr, Some, option_copied, string_bytes, codes};
+ghost use Rattle.compose_lint.specs.Answers.{AnswersLint, asked, table_given};
+ghost use Rattle.compose_runs.specs.DiffFiles.{IsAccepted};
+ghost use Rattle.compose_runs.specs.Environment.{GivesPlaces};
+ghost use Rattle.compose_runs.specs.Environment as said;
+ghost use Rattle.compose_runs.specs.Faults.{FailsChosenTable, FailsLintRun, FailsTables, OrMemory};
+ghost use Rattle.compose_runs.specs.Linting as words;
+ghost use Rattle.compose_runs.specs.Linting.{AreReadTables, IsLintAcceptRefusal, IsLintOutcome, IsLintPrinted, IsLintRun, IsReadTable, asked_files, lint_asked, lint_places};
+
 use crate::differing::{read_accepted, read_names};
 use crate::environment::{Environment, PlaceArguments};
 use crate::one_table::{ChosenFile, file_or_own};
@@ -13,6 +22,7 @@ use compose_model::Rule;
 use compose_read::Sources;
 use compose_report::{Outcome, outcome_with};
 use std::alloc::{AllocError, Global};
+use std::marker::Model;
 
 /// The outcome of `lint`: what is found in the tables of the Compose files, in their order, and is not accepted. The files of names are read first,
 /// then those of each table, and the list of the findings that are accepted. At the cost of `find_files` for each table and of `lint_tables`.
@@ -22,7 +32,15 @@ pub fn run_lint<F: Folder>(
     environment: &Environment,
     names: &[&str],
     arguments: &LintArguments<'_>,
-) -> Result<Outcome, Fault> {
+) -> Result<Outcome, Fault>
+    ensures kept { files.new.holds ≡ files.old.holds }
+    ensures outcome { IfOk result
+        (λ outcome. IsLintRun files.old.holds environment.now (map (λ name. name.now) names.now)
+        arguments.now outcome) }
+    ensures fault { IfErr result
+        (λ fault. FailsLintRun files.old.holds environment.now (map (λ name. name.now) names.now)
+        arguments.now fault) }
+{
     let read = LintFiles::read(files, alloc, environment, names, arguments)?;
     Ok(lint_outcome(alloc, &read, arguments)?)
 }
@@ -43,6 +61,9 @@ struct LintFiles<'n> {
 }
 
 impl<'n> LintFiles<'n> {
+    ghost use Rattle.compose_runs.specs.Faults.{FailsLintRun};
+    ghost use Rattle.compose_runs.specs.Linting.{AreLintFiles};
+
     /// Reads the files of names, each table as it lies on the system, and the list of the findings that are accepted.
     fn read<F: Folder>(
         files: &mut ReadOnce<F>,
@@ -50,7 +71,15 @@ impl<'n> LintFiles<'n> {
         environment: &Environment,
         names: &[&'n str],
         arguments: &LintArguments<'_>,
-    ) -> Result<LintFiles<'n>, Fault> {
+    ) -> Result<LintFiles<'n>, Fault>
+        ensures kept { files.new.holds ≡ files.old.holds }
+        ensures read { IfOk result
+            (λ read. AreLintFiles files.old.holds environment.now
+            (map (λ name. name.now) names.now) arguments.now read) }
+        ensures fault { IfErr result
+            (λ fault. FailsLintRun files.old.holds environment.now
+            (map (λ name. name.now) names.now) arguments.now fault) }
+    {
         let names = read_names(files, alloc, names)?;
         let places = places_of(environment, arguments)?;
         let tables = read_tables(alloc, files, environment, places, &arguments.files)?;
@@ -67,7 +96,9 @@ impl<'n> LintFiles<'n> {
 fn places_of<'a>(
     environment: &'a Environment,
     arguments: &LintArguments<'a>,
-) -> Result<Places<'a>, Fault> {
+) -> Result<Places<'a>, Fault>
+    ensures { GivesPlaces (lint_places arguments.now) result (said.places_of environment.now) }
+{
     environment.places(PlaceArguments {
         system: arguments.system,
         locale: arguments.locale,
@@ -82,7 +113,15 @@ fn read_tables<F: Folder>(
     environment: &Environment,
     places: Places<'_>,
     paths: &[&str],
-) -> Result<Vec<ReadTable>, Fault> {
+) -> Result<Vec<ReadTable>, Fault>
+    ensures kept { files.new.holds ≡ files.old.holds }
+    ensures read { IfOk result
+        (λ read. AreReadTables files.old.holds environment.now places.entry
+        (asked_files paths.now) read.items) }
+    ensures fault { IfErr result
+        (λ fault. OrMemory
+        (FailsTables files.old.holds environment.now places.entry (asked_files paths.now)) fault) }
+{
     if paths.is_empty() {
         return own_table(alloc, files, environment, places);
     }
@@ -95,7 +134,15 @@ fn own_table<F: Folder>(
     files: &mut ReadOnce<F>,
     environment: &Environment,
     places: Places<'_>,
-) -> Result<Vec<ReadTable>, Fault> {
+) -> Result<Vec<ReadTable>, Fault>
+    ensures kept { files.new.holds ≡ files.old.holds }
+    ensures read { IfOk result
+        (λ read. AreReadTables files.old.holds environment.now places.entry (asked_files [])
+        read.items) }
+    ensures fault { IfErr result
+        (λ fault. OrMemory
+        (FailsTables files.old.holds environment.now places.entry (asked_files [])) fault) }
+{
     let mut read = Vec::new(alloc);
     read.push(read_table(alloc, files, environment, places, None)?)?;
     Ok(read)
@@ -108,7 +155,16 @@ fn given_tables<F: Folder>(
     environment: &Environment,
     places: Places<'_>,
     paths: &[&str],
-) -> Result<Vec<ReadTable>, Fault> {
+) -> Result<Vec<ReadTable>, Fault>
+    ensures kept { files.new.holds ≡ files.old.holds }
+    ensures read { IfOk result
+        (λ read. AreReadTables files.old.holds environment.now places.entry
+        (map (λ path. Some path.now) paths.now) read.items) }
+    ensures fault { IfErr result
+        (λ fault. OrMemory
+        (FailsTables files.old.holds environment.now places.entry
+        (map (λ path. Some path.now) paths.now)) fault) }
+{
     let mut read = Vec::new(alloc);
     for path in paths {
         let table = read_table(alloc, files, environment, places, Some(path))?;
@@ -124,7 +180,15 @@ fn read_table<F: Folder>(
     environment: &Environment,
     places: Places<'_>,
     given: Option<&str>,
-) -> Result<ReadTable, Fault> {
+) -> Result<ReadTable, Fault>
+    ensures kept { files.new.holds ≡ files.old.holds }
+    ensures read { IfOk result
+        (λ read. IsReadTable files.old.holds environment.now places.entry
+        (option_copied given.entry) read) }
+    ensures fault { IfErr result
+        (λ fault. FailsChosenTable files.old.holds environment.now places.entry
+        (option_copied given.entry) fault) }
+{
     let file = file_or_own(alloc, files, environment, places, given)?;
     let table = TableFiles::found(files, alloc, places, &file.path, Rule::Longest)?;
     Ok(ReadTable { file, table })
@@ -135,14 +199,18 @@ fn lint_outcome(
     alloc: Global,
     files: &LintFiles<'_>,
     arguments: &LintArguments<'_>,
-) -> Result<Outcome, AllocError> {
+) -> Result<Outcome, AllocError>
+    ensures { IfOk result (λ outcome. IsLintOutcome files.now arguments.now outcome) }
+{
     let answered = lint_answer(alloc, files, arguments);
     let printed = printed_outcome(alloc, arguments.accept, answered)?;
     Ok(printed.with_notes(notes_of(alloc, &files.tables)?))
 }
 
 /// The lines that note the files that were not given.
-fn notes_of(alloc: Global, tables: &[ReadTable]) -> Result<String, AllocError> {
+fn notes_of(alloc: Global, tables: &[ReadTable]) -> Result<String, AllocError>
+    ensures { IfOk result (λ notes. string_bytes notes ≡ words.notes_in tables.now) }
+{
     let mut notes = String::new(alloc);
     for read in tables {
         notes.push_str(&read.file.note)?;
@@ -155,7 +223,9 @@ fn lint_answer(
     alloc: Global,
     files: &LintFiles<'_>,
     arguments: &LintArguments<'_>,
-) -> Result<Answer, LintFault> {
+) -> Result<Answer, LintFault>
+    ensures { AnswersLint (lint_asked files.now arguments.now) result }
+{
     let pathed = with_paths(alloc, &files.tables)?;
     let tables = tables_in(alloc, &pathed)?;
     lint_tables(alloc, &input_of(files, arguments, &tables))
@@ -166,7 +236,10 @@ fn input_of<'a>(
     files: &'a LintFiles<'_>,
     arguments: &'a LintArguments<'_>,
     tables: &'a [LintTable<'a>],
-) -> LintInput<'a> {
+) -> LintInput<'a>
+    ensures { asked result
+        ≡ record (lint_asked files.now arguments.now) { tables = map table_given tables.now } }
+{
     let (readers, form) = (
         readers_of(&arguments.readers),
         form_of(arguments.write_accept, arguments.json),
@@ -188,9 +261,25 @@ struct PathedTable<'a> {
     paths: Vec<&'a str>,
 }
 
+impl<'a> Model for PathedTable<'a> {
+    ghost use Rattle.std.specs.Prelude.{map};
+    ghost use Rattle.compose_lint.specs.Rows.{Table};
+
+    ghost Value = { Table };
+
+    ghost view = { λ t. record {
+      sources = t.sources.now;
+      paths = map (λ path. path.now) t.paths.items;
+    } };
+}
+
 impl<'a> PathedTable<'a> {
+    ghost use Rattle.compose_lint.specs.Answers.{table_given};
+
     /// The table as it is given to `lint`.
-    fn given<'b>(&'b self) -> LintTable<'b> {
+    fn given<'b>(&'b self) -> LintTable<'b>
+        ensures { table_given result ≡ self.now }
+    {
         LintTable {
             sources: self.sources,
             paths: &self.paths,
@@ -199,7 +288,9 @@ impl<'a> PathedTable<'a> {
 }
 
 /// The tables with the paths of their files.
-fn with_paths(alloc: Global, tables: &[ReadTable]) -> Result<Vec<PathedTable<'_>>, AllocError> {
+fn with_paths(alloc: Global, tables: &[ReadTable]) -> Result<Vec<PathedTable<'_>>, AllocError>
+    ensures { IfOk result (λ pathed. pathed.items ≡ map words.table_of tables.now) }
+{
     let mut pathed = Vec::new(alloc);
     for read in tables {
         pathed.push(with_own_paths(alloc, read)?)?;
@@ -208,7 +299,9 @@ fn with_paths(alloc: Global, tables: &[ReadTable]) -> Result<Vec<PathedTable<'_>
 }
 
 /// A table with the paths of its files.
-fn with_own_paths(alloc: Global, read: &ReadTable) -> Result<PathedTable<'_>, AllocError> {
+fn with_own_paths(alloc: Global, read: &ReadTable) -> Result<PathedTable<'_>, AllocError>
+    ensures { IfOk result (λ pathed. pathed ≡ words.table_of read.now) }
+{
     let paths = read.table.path_texts(alloc)?;
     Ok(PathedTable {
         sources: &read.table.sources,
@@ -220,7 +313,9 @@ fn with_own_paths(alloc: Global, read: &ReadTable) -> Result<PathedTable<'_>, Al
 fn tables_in<'a>(
     alloc: Global,
     pathed: &'a [PathedTable<'_>],
-) -> Result<Vec<LintTable<'a>>, AllocError> {
+) -> Result<Vec<LintTable<'a>>, AllocError>
+    ensures { IfOk result (λ given. map table_given given.items ≡ pathed.now) }
+{
     let mut given = Vec::new(alloc);
     for table in pathed {
         given.push(table.given())?;
@@ -229,7 +324,9 @@ fn tables_in<'a>(
 }
 
 /// How findings are printed.
-fn form_of(write_accept: bool, json: bool) -> LintForm {
+fn form_of(write_accept: bool, json: bool) -> LintForm
+    ensures { result ≡ words.form_of write_accept json }
+{
     match (write_accept, json) {
         (true, _) => LintForm::AcceptList,
         (false, true) => LintForm::Json,
@@ -238,14 +335,30 @@ fn form_of(write_accept: bool, json: bool) -> LintForm {
 }
 
 /// The readers of these words; libX11 and libxkbcommon if there is none.
-fn readers_of(given: &[&str]) -> Readers {
+fn readers_of(given: &[&str]) -> Readers
+    ensures { result ≡ words.readers_of given.now }
+{
     let is_usual = given.is_empty();
     Readers {
-        libx11: is_usual || given.contains(&"libX11"),
-        libxkbcommon: is_usual || given.contains(&"libxkbcommon"),
-        gtk3: given.contains(&"gtk3"),
-        gtk4: given.contains(&"gtk4"),
+        libx11: is_asked_for(given, is_usual, "libX11"),
+        libxkbcommon: is_asked_for(given, is_usual, "libxkbcommon"),
+        gtk3: has_word(given, "gtk3"),
+        gtk4: has_word(given, "gtk4"),
     }
+}
+
+/// Whether the reader of this word is asked for, or is one of the usual ones where none is.
+fn is_asked_for(given: &[&str], is_usual: bool, word: &str) -> bool
+    ensures { result ≡ (is_usual || words.has_word given.now word.now) }
+{
+    is_usual || has_word(given, word)
+}
+
+/// Whether the reader of this word is asked for.
+fn has_word(given: &[&str], word: &str) -> bool
+    ensures { result ≡ words.has_word given.now word.now }
+{
+    given.iter().any(|other| *other == word)
 }
 
 /// The outcome of what is answered, or refused, without notes.
@@ -253,7 +366,10 @@ fn printed_outcome(
     alloc: Global,
     accept: Option<&str>,
     answered: Result<Answer, LintFault>,
-) -> Result<Outcome, AllocError> {
+) -> Result<Outcome, AllocError>
+    ensures { IfOk result
+        (λ outcome. IsLintPrinted (option_copied accept.entry) answered outcome) }
+{
     match answered {
         Ok(answer) => outcome_with(alloc, &[], Ok(answer), String::new(alloc)),
         Err(LintFault::Input(refusal)) => {
@@ -268,7 +384,10 @@ fn accept_outcome(
     alloc: Global,
     path: Option<&str>,
     fault: &AcceptFault,
-) -> Result<Outcome, AllocError> {
+) -> Result<Outcome, AllocError>
+    ensures { IfOk result
+        (λ outcome. IsLintAcceptRefusal (option_copied path.entry) fault.now outcome) }
+{
     let own = format!(in alloc; "{fault}")?;
     let lines = accept_lines(alloc, &own, path.unwrap_or(""), fault)?;
     Ok(Outcome::of_errors(alloc, lines, Ended::Refused))
@@ -280,16 +399,24 @@ fn accept_lines(
     own: &str,
     path: &str,
     fault: &AcceptFault,
-) -> Result<String, AllocError> {
+) -> Result<String, AllocError>
+    ensures { IfOk result
+        (λ lines. string_bytes lines
+        ≡ (codes "refused: accept: " ++ (own.now ++ 10 ∷ []))
+        ++ words.lint_accept_details path.now fault.now) }
+{
     let mut lines = format!(in alloc; "refused: accept: {own}\n")?;
     lines.push_str(&accept_details(alloc, path, fault)?)?;
     Ok(lines)
 }
 
 /// What is wrong with which line of the list of the findings that are accepted.
-fn accept_details(alloc: Global, path: &str, fault: &AcceptFault) -> Result<String, AllocError> {
+fn accept_details(alloc: Global, path: &str, fault: &AcceptFault) -> Result<String, AllocError>
+    ensures { IfOk result
+        (λ lines. string_bytes lines ≡ words.lint_accept_details path.now fault.now) }
+{
     let (line, words) = match fault {
-        AcceptFault::Stale { line } => (*line, "no finding in these tables is told by the line"),
+        AcceptFault::Stale { line } => (*line, "no finding in these tables is named by the line"),
         AcceptFault::BadLine { line } => {
             (
                 *line,

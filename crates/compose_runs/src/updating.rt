@@ -1,19 +1,23 @@
 //! `update`: what is read, and what is then done with the table in use.
-ghost use Rattle.std.specs.Prelude.{◌≡◌, Some, map, option_map, option_copied, IfOk, IfErr};
+ghost use Rattle.std.specs.Prelude.{◌≡◌, ◌<◌, Some, length, map, option_map, option_copied, slice_get, IfOk, IfErr};
+ghost use Rattle.compose_diff_rows.specs.Answers.{AnswersDiff};
 ghost use Rattle.compose_runs.specs.Faults.{FailsAccepted};
-ghost use Rattle.compose_runs.specs.Updating.{FailsStored, IsRepertoire, IsUpdateDone, IsUpdateOf, IsUpdateRefusal, IsUpdateRun, update_given};
-ghost use Rattle.compose_update.specs.Update.{given_update};
+ghost use Rattle.compose_runs.specs.Updating.{FailsStored, IsMeantList, IsMeantRun, IsRepertoire, IsStoredAsMeant, IsUpdateDone, IsUpdateOf, IsUpdateRefusal, IsUpdateRun, meant_asked, update_given};
+ghost use Rattle.compose_update.specs.Update.{Updates, given_update};
 
+use crate::differing::accept_outcome;
 use crate::environment::{Environment, PlaceArguments};
-use compose_answer::{Ended, Refusal};
+use compose_answer::{Answer, Ended, Refusal};
 use compose_arguments::UpdateArguments;
 use compose_bundle::{BundleFault, read_bundle};
 use compose_details::{Given, GivenTable};
+use compose_diff_rows::{DiffFault, DiffInput, Form, diff_migration};
 use compose_folder::{Folder, ReadOnce};
 use compose_input::{Fault, NameFiles, TableFiles, read_text};
+use compose_migration::{MigrationInput, TableInput};
 use compose_model::Rule;
 use compose_read::Sources;
-use compose_report::{Outcome, outcome_of};
+use compose_report::{Outcome, outcome_of, outcome_with};
 use compose_tree::ComposeTable;
 use compose_update::{Update, UpdateFault, UpdateInput, decide_update};
 use std::alloc::{AllocError, Global};
@@ -27,6 +31,17 @@ pub struct UpdateFiles {
     pub new: TableFiles,
     /// The repertoire; an empty one if none is given.
     pub repertoire: Vec<u8>,
+    /// The list of the changes that are meant, if one is given.
+    pub meant: Option<MeantChanges>,
+}
+
+/// A list of the changes that are meant, as `diff` accepts them.
+#[derive(Drop)]
+pub struct MeantChanges {
+    /// The path of the list.
+    pub path: String,
+    /// The list.
+    pub lines: Vec<u8>,
 }
 
 /// What an update does.
@@ -39,6 +54,11 @@ pub enum UpdateRun {
         /// The certificate by which a running service takes the new table, if a table was in use.
         certificate: Option<String>,
     },
+    /// Typing changes, and each change is meant: the new table takes the place of the one in use at the next start of the service.
+    Meant {
+        /// The bytes that are stored from then on.
+        stored: Vec<u8>,
+    },
     /// Everything stays as it is: the outcome of the run.
     Refused(Outcome),
 }
@@ -47,7 +67,7 @@ impl UpdateFiles {
     ghost use Rattle.compose_runs.specs.Faults.{FailsUpdateRead};
     ghost use Rattle.compose_runs.specs.Updating.{AreUpdateFiles};
 
-    /// Reads the Compose file as it lies on the system, and the repertoire. At the cost of `find_files`.
+    /// Reads the Compose file as it lies on the system, the repertoire, and the list of the changes that are meant. At the cost of `find_files`.
     pub fn read<F: Folder>(
         alloc: Global,
         files: &mut ReadOnce<F>,
@@ -69,10 +89,12 @@ impl UpdateFiles {
         let names = NameFiles::read(files, alloc, &[builtin])?;
         let new = TableFiles::found(files, alloc, places, arguments.file, Rule::Longest)?;
         let repertoire = read_repertoire(alloc, files, arguments.repertoire)?;
+        let meant = read_meant(alloc, files, arguments.accept)?;
         Ok(UpdateFiles {
             names,
             new,
             repertoire,
+            meant,
         })
     }
 }
@@ -95,7 +117,30 @@ fn read_repertoire<F: Folder>(
     }
 }
 
-/// What an update does with these files, where these bytes are stored of the table in use. At the cost of `decide_update`.
+/// The list of the changes that are meant at this path, if one is given.
+fn read_meant<F: Folder>(
+    alloc: Global,
+    files: &mut ReadOnce<F>,
+    path: Option<&str>,
+) -> Result<Option<MeantChanges>, Fault>
+    ensures kept { files.new.holds ≡ files.old.holds }
+    ensures read { IfOk result
+        (λ meant. IsMeantList files.old.holds (option_copied path.entry) meant) }
+    ensures fault { IfErr result
+        (λ fault. FailsAccepted files.old.holds (option_copied path.entry) fault) }
+{
+    let Some(path) = path else {
+        return Ok(None);
+    };
+    let lines = read_text(files, alloc, path)?;
+    Ok(Some(MeantChanges {
+        path: String::from_str(alloc, path)?,
+        lines,
+    }))
+}
+
+/// What an update does with these files, where these bytes are stored of the table in use. At the cost of `decide_update`, and of
+/// `diff_migration` and once more of `decide_update` where typing changes and a list of changes that are meant is given.
 pub fn run_update<T: ComposeTable>(
     alloc: Global,
     files: &UpdateFiles,
@@ -149,6 +194,25 @@ fn update_of<T: ComposeTable>(
         (λ run. IsUpdateOf verbose files.now (map (λ name. name.now) fresh.now)
         (option_map (λ sources. sources.now) current.entry) run) }
 {
+    match (decided::<T>(alloc, files, fresh, current), &files.meant, current) {
+        (Ok(Update::Refused(_)), Some(meant), Some(current)) => {
+            update_meant::<T>(alloc, files, verbose, fresh, meant, current)
+        }
+        (decided, _, _) => update_done::<T>(alloc, files, verbose, fresh, decided),
+    }
+}
+
+/// What is decided of these files, where a table of these sources is in use.
+fn decided<T: ComposeTable>(
+    alloc: Global,
+    files: &UpdateFiles,
+    fresh: &[&str],
+    current: Option<&Sources>,
+) -> Result<Update, UpdateFault>
+    ensures { Updates
+        (update_given files.now (map (λ name. name.now) fresh.now)
+        (option_map (λ sources. sources.now) current.entry)) result }
+{
     let input = UpdateInput {
         header: &files.names.lines,
         fresh,
@@ -156,11 +220,111 @@ fn update_of<T: ComposeTable>(
         new: &files.new.sources,
         repertoire: &files.repertoire,
     };
-    let decided = decide_update::<T>(alloc, &input);
-    update_done::<T>(alloc, files, verbose, fresh, decided)
+    decide_update::<T>(alloc, &input)
 }
 
-/// The run of an update that is decided so.
+/// What an update does where typing would change from a table of these sources: the new table is stored if each change is meant.
+fn update_meant<T: ComposeTable>(
+    alloc: Global,
+    files: &UpdateFiles,
+    verbose: bool,
+    fresh: &[&str],
+    meant: &MeantChanges,
+    current: &Sources,
+) -> Result<UpdateRun, AllocError>
+    ensures { IfOk result
+        (λ run. IsMeantRun verbose files.now (map (λ name. name.now) fresh.now) meant.now
+        current.now run) }
+{
+    match meant_answer::<T>(alloc, files, fresh, meant, current) {
+        Ok(Answer::Yes(_)) => stored_as_meant::<T>(alloc, files, verbose, fresh),
+        Ok(answer) => {
+            let outcome = outcome_with(alloc, fresh, Ok(answer), String::new(alloc))?;
+            Ok(UpdateRun::Refused(outcome))
+        }
+        Err(DiffFault::Input(refusal)) => {
+            let outcome = refused_outcome::<T>(alloc, files, verbose, fresh, refusal)?;
+            Ok(UpdateRun::Refused(outcome))
+        }
+        Err(DiffFault::Accept(fault)) => {
+            let outcome = accept_outcome(alloc, Some(&meant.path), &fault)?;
+            Ok(UpdateRun::Refused(outcome))
+        }
+    }
+}
+
+/// What `diff` answers on a table of these sources and the new one, where these changes are meant.
+fn meant_answer<T: ComposeTable>(
+    alloc: Global,
+    files: &UpdateFiles,
+    fresh: &[&str],
+    meant: &MeantChanges,
+    current: &Sources,
+) -> Result<Answer, DiffFault>
+    ensures { AnswersDiff
+        (meant_asked files.now (map (λ name. name.now) fresh.now) meant.now current.now) result }
+{
+    let (old_paths, new_paths) = (source_names(alloc, current)?, files.new.path_texts(alloc)?);
+    let tables = MigrationInput {
+        header: &files.names.lines,
+        key_names: fresh,
+        old: TableInput {
+            sources: current,
+            rule: Rule::Longest,
+        },
+        new: TableInput {
+            sources: &files.new.sources,
+            rule: Rule::Longest,
+        },
+    };
+    let input = DiffInput {
+        tables,
+        old_paths: &old_paths,
+        new_paths: &new_paths,
+        accepted: &meant.lines,
+        lost_alone: false,
+        form: Form::Folded,
+    };
+    diff_migration::<T>(alloc, &input)
+}
+
+/// The names of the sources.
+fn source_names(alloc: Global, sources: &Sources) -> Result<Vec<&str>, AllocError>
+    ensures { IfOk result
+        (λ names. map (λ name. name.now) names.items ≡ map (λ source. source.name) sources.now) }
+{
+    let mut names = Vec::new(alloc);
+    for index in 0..sources.count() {
+        names.push(source_name(sources, index))?;
+    }
+    Ok(names)
+}
+
+/// The name of the source at this index.
+fn source_name(sources: &Sources, index: usize) -> &str
+    requires { index < length sources.now }
+    ensures { option_map (λ source. source.name) (slice_get sources.now index) ≡ Some result.now }
+{
+    sources.name(index).unwrap()
+}
+
+/// What is done where each change is meant: the new table is stored, as one is where no table is in use.
+fn stored_as_meant<T: ComposeTable>(
+    alloc: Global,
+    files: &UpdateFiles,
+    verbose: bool,
+    fresh: &[&str],
+) -> Result<UpdateRun, AllocError>
+    ensures { IfOk result
+        (λ run. IsStoredAsMeant verbose files.now (map (λ name. name.now) fresh.now) run) }
+{
+    match decided::<T>(alloc, files, fresh, None) {
+        Ok(Update::Replaced { stored, .. }) => Ok(UpdateRun::Meant { stored }),
+        decided => update_done::<T>(alloc, files, verbose, fresh, decided),
+    }
+}
+
+/// The run of an update that is decided so, where no list of changes that are meant bears on it.
 fn update_done<T: ComposeTable>(
     alloc: Global,
     files: &UpdateFiles,

@@ -1,0 +1,11 @@
+use Rattle.std.proofs.Common.{◌≡◌, map, take}
+use Rattle.std.specs.Prelude.{Some}
+use Rattle.compose_runs.specs.Linting.{AreReadTables}
+use Rattle.compose_runs.proofs.linting.given_tables.Given as goal
+
+-- so far the tables of the files that were looked at, and what the folder has stays
+abbrev pub invariant-loop-path : goal.invariant-loop-path
+invariant-loop-path g l = record {
+  kept : l.files.holds ≡ l.fn.files.holds;
+  read : AreReadTables l.fn.files.holds l.environment l.places (map (λ path. Some path.now) (take l.path-index l.paths)) l.read.items;
+}

@@ -1,0 +1,127 @@
+-- What `lint` reads and prints (this project's profile).
+use Rattle.std.specs.Prelude.{◌≡◌, ℕ, Bool, true, false, ◌==◌, ◌||◌, length, if◌then◌else◌, List, [], ◌∷◌, ◌++◌, map, flat_map, Option, Some, None, unwrap_or, option_copied, Result, Ok, Err, string_bytes, bytes_eq, codes}
+use Rattle.std.specs.List.{AllZip, list_any}
+use Rattle.std.proofs.Common.{Bor}
+use Rattle.compose_folder.specs.Content.{Entry}
+use Rattle.compose_model.specs.declared.Rule.TheVariants.{Longest}
+use Rattle.compose_answer.specs.declared.answer.Answer.{Answer}
+use Rattle.compose_answer.specs.declared.answer.Ended.TheVariants.{Refused}
+use Rattle.compose_arguments.specs.declared.lint_arguments.LintArguments.{LintArguments}
+use Rattle.compose_details.specs.Files.{said_at}
+use Rattle.compose_diff.specs.declared.accepted.AcceptFault.{AcceptFault}
+use Rattle.compose_diff.specs.declared.accepted.AcceptFault.TheVariants.{Stale, BadLine, NoMemory}
+use Rattle.compose_input.specs.Names.{AreNames}
+use Rattle.compose_input.specs.Tables.{IsFoundOnSystem}
+use Rattle.compose_input.specs.declared.places.Places.{Places}
+use Rattle.compose_lint.specs.Answers.{Asked, AnswersLint}
+use Rattle.compose_lint.specs.Rows.{Table}
+use Rattle.compose_lint.specs.declared.asking.LintFault.{LintFault}
+use Rattle.compose_lint.specs.declared.asking.LintFault.TheVariants.{Input, Accept}
+use Rattle.compose_lint.specs.declared.asking.LintForm.{LintForm}
+use Rattle.compose_lint.specs.declared.asking.LintForm.TheVariants.{Lines, Json, AcceptList}
+use Rattle.compose_lint.specs.declared.reader.Readers.{Readers}
+use Rattle.compose_report.specs.Outcomes.{IsNoted, IsOutcome, PrintsErrors}
+use Rattle.compose_report.specs.declared.outcome.Outcome.{Outcome}
+use Rattle.compose_runs.specs.DiffFiles.{IsAccepted, names_or_builtin}
+use Rattle.compose_runs.specs.Environment.{IsPlaced}
+use Rattle.compose_runs.specs.Own.{IsChosen}
+use Rattle.compose_runs.specs.declared.environment.Environment.{Environment}
+use Rattle.compose_runs.specs.declared.environment.PlaceArguments.{PlaceArguments}
+use Rattle.compose_runs.specs.declared.linting.LintFiles.{LintFiles}
+use Rattle.compose_runs.specs.declared.linting.ReadTable.{ReadTable}
+
+-- ---- what is read
+
+abbrev pub lint_places : LintArguments → PlaceArguments
+lint_places arguments = record { system = arguments.system; locale = arguments.locale; root = arguments.root }
+
+-- the files that are asked for: those that are given, or else the user's own
+abbrev pub asked_files : List (Bor (List ℕ)) → List (Option (List ℕ))
+asked_files [] = None ∷ []
+asked_files (path ∷ paths) = map (λ (p : Bor (List ℕ)). Some p.now) (path ∷ paths)
+
+-- the file that is given, or else the user's own, and its table as it lies on the system
+pub record IsReadTable (folder : Option (List Entry)) (environment : Environment) (places : Places) (given : Option (List ℕ)) (read : ReadTable) : Type 0 where
+  pub is_file : IsChosen folder environment places given read.file
+  pub is_table : IsFoundOnSystem folder places (string_bytes read.file.path) Longest read.table
+
+-- those that are asked for, in their order
+abbrev pub AreReadTables : Option (List Entry) → Environment → Places → List (Option (List ℕ)) → List ReadTable → Type 0
+AreReadTables folder environment places given read = AllZip (IsReadTable folder environment places) given read
+
+-- the names, the tables, and the list of the findings that are accepted
+pub record AreLintFiles (folder : Option (List Entry)) (environment : Environment) (names : List (List ℕ)) (arguments : LintArguments) (files : LintFiles) : Type 0 where
+  pub are_names : AreNames folder (names_or_builtin names) files.names
+  pub places : Places
+  pub are_places : IsPlaced environment (lint_places arguments) places
+  pub are_tables : AreReadTables folder environment places (asked_files arguments.files.items) files.tables.items
+  pub is_accepted : IsAccepted folder (option_copied arguments.accept) files.accepted.items
+
+-- ---- what is asked
+
+-- the reader of this word is asked for
+abbrev pub has_word : List (Bor (List ℕ)) → List ℕ → Bool
+has_word given word = list_any (λ (other : Bor (List ℕ)). bytes_eq other.now word) given
+
+-- libX11 and libxkbcommon where none is asked for
+abbrev pub readers_of : List (Bor (List ℕ)) → Readers
+readers_of given = record {
+  libx11 = (length given == 0) || has_word given (codes "libX11");
+  libxkbcommon = (length given == 0) || has_word given (codes "libxkbcommon");
+  gtk3 = has_word given (codes "gtk3");
+  gtk4 = has_word given (codes "gtk4");
+}
+
+abbrev pub form_of : Bool → Bool → LintForm
+form_of true json = AcceptList
+form_of false true = Json
+form_of false false = Lines
+
+abbrev pub table_of : ReadTable → Table
+table_of read = record { sources = read.table.sources; paths = map string_bytes read.table.paths.items }
+
+abbrev pub lint_asked : LintFiles → LintArguments → Asked
+lint_asked files arguments = record {
+  header = files.names.lines.items;
+  tables = map table_of files.tables.items;
+  readers = readers_of arguments.readers.items;
+  is_all = arguments.all;
+  accepted = files.accepted.items;
+  form = form_of arguments.write_accept arguments.json;
+}
+
+-- ---- what is printed
+
+-- which line of the list of accepted findings is refused, and why (code 10 ends it)
+abbrev pub lint_accept_details : List ℕ → AcceptFault → List ℕ
+lint_accept_details path (Stale n) = said_at path n (codes "no finding in these tables is named by the line") ++ 10 ∷ []
+lint_accept_details path (BadLine n) = said_at path n (codes "expected the word of a kind, \": \" and a line of a Compose file") ++ 10 ∷ []
+lint_accept_details path NoMemory = []
+
+-- of a refusal of the list, its line by what the fault is printed as, and the line of the list
+abbrev pub IsLintAcceptRefusal : Option (List ℕ) → AcceptFault → Outcome → Type 0
+IsLintAcceptRefusal path fault outcome =
+    (own : List ℕ) × PrintsErrors ((codes "refused: accept: " ++ (own ++ 10 ∷ [])) ++ lint_accept_details (unwrap_or path []) fault) Refused outcome
+
+abbrev pub IsLintPrinted : Option (List ℕ) → Result Answer LintFault → Outcome → Type 0
+IsLintPrinted path (Ok answer) outcome = (own : List ℕ) × IsOutcome own [] [] (Ok answer) outcome
+IsLintPrinted path (Err (Input refusal)) outcome = (own : List ℕ) × IsOutcome own [] [] (Err refusal) outcome
+IsLintPrinted path (Err (Accept fault)) outcome = IsLintAcceptRefusal path fault outcome
+
+-- the lines that note files which were not given
+abbrev pub notes_in : List ReadTable → List ℕ
+notes_in tables = flat_map (λ (read : ReadTable). string_bytes read.file.note) tables
+
+-- the answer on these files, printed below the notes
+pub record IsLintOutcome (files : LintFiles) (arguments : LintArguments) (outcome : Outcome) : Type 0 where
+  pub answered : Result Answer LintFault
+  pub is : AnswersLint (lint_asked files arguments) answered
+  pub printed : Outcome
+  pub is_printed : IsLintPrinted (option_copied arguments.accept) answered printed
+  pub noted : IsNoted (notes_in files.tables.items) printed outcome
+
+-- the same on the files that the folder has, in this environment
+pub record IsLintRun (folder : Option (List Entry)) (environment : Environment) (names : List (List ℕ)) (arguments : LintArguments) (outcome : Outcome) : Type 0 where
+  pub files : LintFiles
+  pub read : AreLintFiles folder environment names arguments files
+  pub is : IsLintOutcome files arguments outcome
