@@ -11,7 +11,7 @@ NAMES = ["x", "eacute", "U20AC", "Greek_alpha", "1", "2x", "3270_Quit"]
 NAMES_ALONE = ["x", "eacute", "U20AC", "Greek_alpha", "1", "dead_acute"]
 COMMENTS = ["# X", "# E WITH ACUTE", '# "x"', "#"]
 BLANKS = [" ", " ", " ", "", "\t", "  ", "\r"]
-CHANGES = '<>":#\\ \t\r\nabx10U_n'
+CHANGES = '<>":#\\ \t\r\n\0abx10U_n'
 MARK = b"\xef\xbb\xbf"
 SHIFT = 0xFFE1
 
@@ -24,13 +24,13 @@ class Table:
 
 
 class Definition:
-    """A line that defines a sequence: whether it stands in the included file, its number, its keysyms, what its string holds, and its text; the
-    number of the line that includes it, and whether a backslash stands at the end of the line before it."""
+    """A line that defines a sequence: whether it stands in the included file, its number, its keysyms, what its string holds, and its text; and
+    the number of the line that includes it."""
 
     def __init__(self, is_included, number, keysyms, raw, text):
         self.is_included, self.number = is_included, number
         self.keysyms, self.raw, self.text = keysyms, raw, text
-        self.including, self.is_joined = None, False
+        self.including = None
 
 
 class NotTaken(Exception):
@@ -142,19 +142,12 @@ def read_line(line):
 
 def read(content, is_included, names, path, included):
     """What the lines of a file define, and those that it includes, in the order in which they are read."""
-    is_joined = False
     for number, line in enumerate(lines_of(content), 1):
         parts = read_line(line)
         if isinstance(parts, tuple):
-            given = [defined(parts, is_included, number, names)]
+            yield defined(parts, is_included, number, names)
         elif parts is not None:
-            given = read_included(parts, is_included, number, names, path, included)
-        else:
-            given = []
-        for definition in given:
-            definition.is_joined = definition.is_joined or is_joined
-            yield definition
-        is_joined = line.endswith(b"\\")
+            yield from read_included(parts, is_included, number, names, path, included)
 
 
 def read_included(name, is_included, number, names, path, included):

@@ -37,6 +37,7 @@ PACKAGES = {"libX11": "libx11-dev", "libxkbcommon": "libxkbcommon-dev", "gtk3": 
 WORDS = {"ignored": "passed", "nothing": "passed", "composing": "filtered", "cancelled": "filtered", "composed": "committed"}
 FOUND = re.compile(r"(.*):(\d+):1: (libX11|libxkbcommon|gtk3|gtk4): (.*)")
 LETTER = "of the escapes \\n, \\r and \\t the letter is typed"
+CUT = "the text is cut, as it has a byte 0"
 
 
 class Readers:
@@ -254,16 +255,15 @@ class Batch:
             said = self.sentences(index, it.number, it.is_included, reader)
             if it.including is not None:
                 said = said | self.sentences(index, it.including, False, reader)
-            if said <= {LETTER}:
-                yield it, reference.read_text(with_letters(it.raw)) if said else it.text
+            if said <= {LETTER, CUT}:
+                text = reference.read_text(with_letters(it.raw)) if LETTER in said else it.text
+                yield it, text.partition(b"\0")[0] if CUT in said else text
 
     def read_by(self, index, reader):
-        """The same as sequences and texts, and by what docs/READERS.md lists beside: libX11 joins a line to a comment before it that ends in a
-        backslash, and in libxkbcommon a keysym alone leaves the string that the sequence has."""
+        """The same as sequences and texts, and by what docs/READERS.md has no class for: in libxkbcommon a keysym alone leaves the string that the
+        sequence has."""
         strings = {}
         for it, text in self.left_by(index, reader):
-            if reader == "libX11" and it.is_joined:
-                continue
             if it.raw is not None:
                 strings[it.keysyms] = text
             yield it.keysyms, strings.get(it.keysyms, text) if reader == "libxkbcommon" else text
