@@ -30,9 +30,11 @@ SEED = 7
 BATCH, CHECKED, KEYS_A_TABLE = 500, 100, 40
 # As many keys are given to one run of `type`.
 PART = 25_000
-FLAGS = {"libX11": ["x11"], "libxkbcommon": ["xkbcommon"], "gtk3": ["gtk+-3.0"], "gtk4": ["gtk4", "x11"], "ibus": ["ibus-1.0"]}
+# The program of each reader, the names by which pkg-config knows its libraries, and the packages that it needs.
 PROGRAMS = {"libX11": "x11", "libxkbcommon": "xkbcommon", "gtk3": "gtk3", "gtk4": "gtk4", "ibus": "ibus"}
+LIBRARIES = {"libX11": ["x11"], "libxkbcommon": ["xkbcommon"], "gtk3": ["gtk+-3.0"], "gtk4": ["gtk4", "x11"], "ibus": ["ibus-1.0"]}
 PACKAGES = {"libX11": "libx11-dev", "libxkbcommon": "libxkbcommon-dev", "gtk3": "libgtk-3-dev", "gtk4": "libgtk-4-dev", "ibus": "libibus-1.0-dev"}
+ON_DISPLAY = {"libX11", "gtk3", "gtk4"}
 # What libX11 does where `type` has this status.
 WORDS = {"ignored": "passed", "nothing": "passed", "composing": "filtered", "cancelled": "filtered", "composed": "committed"}
 FOUND = re.compile(r"(.*):(\d+):1: (libX11|libxkbcommon|gtk3|gtk4): (.*)")
@@ -40,29 +42,38 @@ LETTER = "of the escapes \\n, \\r and \\t the letter is typed"
 CUT = "the text is cut, as it has a byte 0"
 
 
+def pkg_config(*words):
+    """What pkg-config prints, or nothing where it fails or isn't there."""
+    if shutil.which("pkg-config") is None:
+        return ""
+    return subprocess.run(["pkg-config", *words], stdout=subprocess.PIPE, stderr=subprocess.DEVNULL, text=True, check=False).stdout.strip()
+
+
+def missing_packages(name):
+    """The packages that a reader needs and that aren't there."""
+    missing = [] if pkg_config("--modversion", *LIBRARIES[name]) else [PACKAGES[name]]
+    return missing + ["xvfb"] if name in ON_DISPLAY and shutil.which("Xvfb") is None else missing
+
+
 class Readers:
     """The programs of the readers that are there, on a display of their own."""
 
-    def __init__(self, folder):
-        self.folder, self.skipped, self.display = folder, [], None
-        self.built = {name: path for name in FLAGS if (path := self.build(name))}
+    def __init__(self, folder, display_name):
+        self.folder, self.display, self.skipped, self.built = folder, display_name, [], {}
+        for name in PROGRAMS:
+            missing = missing_packages(name)
+            if missing:
+                print(f"{name} is skipped: install {' and '.join(missing)}", flush=True)
+                self.skipped.append(name)
+            else:
+                self.build(name)
 
     def build(self, name):
-        """The path of a reader's program, or None where its packages aren't there."""
-        path = os.path.join(self.folder, PROGRAMS[name])
-        needs_display = name not in ("libxkbcommon", "ibus")
-        missing = [] if subprocess.run(["pkg-config", "--exists", *FLAGS[name]], check=False).returncode == 0 else [PACKAGES[name]]
-        if needs_display and shutil.which("Xvfb") is None:
-            missing.append("xvfb")
-        if missing:
-            print(f"{name} is skipped: install {' and '.join(missing)}", flush=True)
-            self.skipped.append(name)
-            return None
-        flags = subprocess.run(["pkg-config", "--cflags", "--libs", *FLAGS[name]], capture_output=True, text=True, check=True).stdout.split()
-        subprocess.run(["cc", "-O2", "-o", path, os.path.join(SOURCES, f"{PROGRAMS[name]}.c"), *flags], check=True)
-        version = subprocess.run(["pkg-config", "--modversion", FLAGS[name][0]], capture_output=True, text=True, check=True).stdout.strip()
-        print(f"{name} {version}", flush=True)
-        return path
+        """Builds the program of a reader."""
+        self.built[name] = os.path.join(self.folder, PROGRAMS[name])
+        flags = pkg_config("--cflags", "--libs", *LIBRARIES[name]).split()
+        subprocess.run(["cc", "-O2", "-o", self.built[name], os.path.join(SOURCES, f"{PROGRAMS[name]}.c"), *flags], check=True)
+        print(f"{name} {pkg_config('--modversion', LIBRARIES[name][0])}", flush=True)
 
     def type(self, name, steps):
         """What a reader makes of the keys of these steps: a word and a text for each."""
@@ -105,7 +116,7 @@ def typed(program, path, keys):
         ran = subprocess.run(command, capture_output=True, check=True)
     for line in ran.stdout.split(b"\n")[:-1]:
         status, text = line.split(b" ", 1)
-        yield status, text if status == b"composed" else b'""'
+        yield status.decode(), text if status == b"composed" else b'""'
 
 
 def lint(program, readers, paths):
@@ -150,15 +161,24 @@ def check_libx11(program, readers, results, names, count):
         for start in range(0, count, PART):
             part = keys[start : start + PART]
             pairs = zip(typed(program, path, part), readers.type("libX11", [f"table {path}", *press(part)]), strict=True)
-            differ += sum(1 for (status, text), theirs in pairs if not is_same(status.decode(), text, theirs))
+            differ += sum(1 for ours, theirs in pairs if not is_as_in_libx11(ours, theirs))
         print(f"libX11: {name}: {count} keys, {differ} differ", flush=True)
         results.expect(f"libX11 on {name}", differ, 0)
 
 
-def is_same(status, text, theirs):
+def is_as_in_libx11(ours, theirs):
     """Whether libX11 did what is typed here: its text counts where it commits one."""
-    word, its_text = theirs
+    (status, text), (word, its_text) = ours, theirs
     return word.decode() == WORDS[status] and (status != "composed" or its_text == text)
+
+
+def is_as_in_libxkbcommon(ours, theirs):
+    """Whether libxkbcommon did the same: its text counts where it composed one."""
+    (status, text), (word, its_text) = ours, theirs
+    return word.decode() == status and (status != "composed" or its_text == text)
+
+
+SAME = {"libX11": is_as_in_libx11, "libxkbcommon": is_as_in_libxkbcommon}
 
 
 def committed(answers):
@@ -282,26 +302,17 @@ def with_letters(raw):
 def check_batch(program, readers, results, batch, number):
     """The readers type on each table what `lint` leaves of it, and the program what is read here."""
     results.expect(f"faults in batch {number}", batch.faults, [])
-    for reader in ("libxkbcommon", "libX11"):
-        if reader not in readers.built:
-            continue
+    for reader in (it for it in SAME if it in readers.built):
         answers = iter(readers.type(reader, batch.steps()))
         for index, keys in enumerate(batch.keys):
             wanted = batch.typed(index, batch.read_by(index, reader))
             got = [next(answers) for _ in keys]
-            same = all(map(reader == "libX11" and same_in_libx11 or same_in_libxkbcommon, wanted, got))
-            results.expect(f"{reader} on {batch.tables[index].content!r} and {batch.tables[index].included!r}", None if same else (got, keys), None if same else wanted)
+            table = batch.tables[index]
+            differ = [it for it in zip(map(hex, keys), wanted, got) if not SAME[reader](*it[1:])]
+            results.expect(f"{reader} on {table.content!r} and {table.included!r}: keys, what is left, what it does", differ, [])
     for index in range(number % CHECKED, BATCH, CHECKED):
-        wanted = [(status.encode(), text) for status, text in batch.typed(index, [(it.keysyms, it.text) for it in batch.tables[index].visits])]
+        wanted = batch.typed(index, [(it.keysyms, it.text) for it in batch.tables[index].visits])
         results.expect(f"type on {batch.tables[index].content!r}", [*typed(program, batch.paths[index], batch.keys[index])], wanted)
-
-
-def same_in_libx11(wanted, got):
-    return is_same(*wanted, got)
-
-
-def same_in_libxkbcommon(wanted, got):
-    return got[0].decode() == wanted[0] and (wanted[0] != "composed" or got[1] == wanted[1])
 
 
 def check_random_tables(program, readers, results, names, count, seed):
@@ -319,9 +330,8 @@ def main():
     values = {"NoSymbol": 0, **reference.header_values(real.SHORT_NAMES), **reference.header_values()}
     names = changed.Names(values, real.header_characters())
     results = Results()
-    with tempfile.TemporaryDirectory() as folder, display() as name:
-        readers = Readers(folder)
-        readers.display = name
+    with tempfile.TemporaryDirectory() as folder, display() as display_name:
+        readers = Readers(folder, display_name)
         if "libX11" in readers.built:
             check_libx11(program, readers, results, names, keys)
         for toolkit in ("gtk3", "gtk4", "ibus"):
