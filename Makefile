@@ -14,7 +14,7 @@
 # make desk           types into windows through IBus and fcitx5, on displays that nobody sees (docs/TYPING.md)
 # make names          writes the built-in names anew from HEADERS (/usr/include/X11/keysymdef.h and XF86keysym.h), and prints what changed
 # make compose_trials proves and builds ./compose_trials, which `make real` and `make bench` need too
-# make real           runs the program on the tables that Debian ships
+# make real           runs the program on the tables that Debian ships, and types in other readers of Compose files beside it
 # make bench          measures the program
 # make lib            proves and builds the C library (docs/LIBRARY.md) in build/lib
 # make install-lib    installs the C library alone, below PREFIX
@@ -142,6 +142,7 @@ names:
 real: composecheck compose_trials $(LIBRARY)
 	python3 tests/real.py ./composecheck ./compose_trials
 	python3 tests/real_service.py ./composecheck
+	python3 tests/readers.py ./composecheck
 	python3 tests/streams.py ./composecheck 100000
 	python3 tests/network.py ./compose_trials 100000
 	python3 tests/library.py 100000

@@ -4,6 +4,7 @@
 PROGRAM is `composecheck`, TRIALS is `compose_trials` (crates/compose_trials). It needs Debian's libx11-data, x11proto-dev
 and libxkbcommon-dev, a C compiler, and valgrind for the counts of instructions. Each figure is the least of some runs,
 on the table of en_US.UTF-8; those of keys in sessions are medians. The last lines are a table of all aims, and which are met."""
+import glob
 import os
 import re
 import statistics
@@ -21,6 +22,7 @@ from aims import Aims, instructions, instructions_between, ratio
 SHORT_NAMES = os.path.join(TOP, "share", "composecheck", "short-unicode-names.h")
 ENGLISH = "/usr/share/X11/locale/en_US.UTF-8/Compose"
 FINNISH = "/usr/share/X11/locale/fi_FI.UTF-8/Compose"
+TABLES = "/usr/share/X11/locale/*.UTF-8/Compose"
 KEYS = 10_000_000
 # Of how many keys the instructions are counted, and how often `compose_trials` compiles a table.
 COUNTED_KEYS = 200_000
@@ -260,6 +262,18 @@ def measure_differences(program, folder, aims):
     print(f"diff of two tables of {MOST_DEFINITIONS} sequences: {seconds:.2f} s, at most {memory / 1e6:.0f} MB")
 
 
+def measure_lint(program, folder, aims):
+    """`lint` on each UTF-8 table of the system beside `list` on the same, which reads it and prints it, in turns."""
+    sums = {"lint": 0, "list": 0}
+    for table in sorted(glob.glob(TABLES)):
+        times = least_processes({name: [program, name, table] for name in sums}, folder, 9)
+        sums = {name: sums[name] + times[name] for name in sums}
+    print(f"lint of all tables: {sums['lint'] * 1000:.2f} ms; list of them {sums['list'] * 1000:.2f}; ratio {sums['lint'] / sums['list']:.2f}")
+    aims.add("lint, of list", "time", 1.5, sums["lint"] / sums["list"])
+    counted = [instructions([program, name, ENGLISH], folder) for name in sums]
+    aims.add("lint, of list", "instructions", 1.5, ratio(*counted))
+
+
 def main():
     program, trials = (os.path.abspath(path) for path in sys.argv[1:3])
     aims = Aims()
@@ -272,6 +286,7 @@ def main():
         measure_migration(program, folder, reading, aims)
         measure_service(program, trials, folder, aims)
         measure_differences(program, folder, aims)
+        measure_lint(program, folder, aims)
         measure_limits(program, trials, folder)
     print(aims.table())
 

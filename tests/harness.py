@@ -4,7 +4,7 @@ import re
 import subprocess
 
 TOP = os.path.dirname(os.path.dirname(os.path.abspath(__file__)))
-COUNTS = re.compile(r"(\d+) passed, (\d+) failed\n?")
+COUNTS = re.compile(r"(\d+) passed, (\d+) failed(?:; .*)?\n?")
 
 
 class Results:
@@ -20,9 +20,9 @@ class Results:
             self.failed += 1
             print(f"FAILED: {what}\n  got      {got!r:.400}\n  expected {wanted!r:.400}", flush=True)
 
-    def end(self):
-        """Prints the last line of a script, and returns its status."""
-        print(f"{self.passed} passed, {self.failed} failed")
+    def end(self, note=""):
+        """Prints the last line of a script, with a note if there is one, and returns its status."""
+        print(f"{self.passed} passed, {self.failed} failed" + (f"; {note}" if note else ""))
         return 1 if self.failed else 0
 
 

@@ -1,5 +1,5 @@
 -- Lines that other readers of Compose files skip for how the file is written: each class is one line of docs/READERS.md.
-use Rattle.std.specs.Prelude.{ℕ, Bool, false, not, ◌==◌, ◌&&◌, ◌||◌, nat_eq, is_some, List, [], ◌∷◌, length, take, drop, take_while, reverse}
+use Rattle.std.specs.Prelude.{ℕ, Bool, false, not, ◌-◌, ◌==◌, ◌&&◌, ◌||◌, nat_eq, nat_le, is_some, List, [], ◌∷◌, length, take, drop, take_while, reverse, slice_get}
 use Rattle.std.specs.List.{list_any, starts_with, zip}
 use Rattle.std.specs.Option.{option_map_or}
 use Rattle.compose_text.specs.Bytes.{is_blank}
@@ -26,9 +26,27 @@ is_after_mark bytes l = l.line == 1 && has_mark bytes && says_something l.bytes
 abbrev pub is_unended : List ℕ → Bool
 is_unended bytes = not (starts_with nat_eq (reverse bytes) (10 ∷ []))
 
--- the last line, without a newline: libxkbcommon skips it
+-- the line reads as a definition without the name of a result, or as an include
+abbrev pub ends_in_string : List ℕ → Bool
+ends_in_string line = option_map_or (λ p. not (is_some p.name)) (production_of line) false || is_some (raw_include line)
+
+-- the last line, without a newline: libxkbcommon skips it, unless the name of a result stands in it
 abbrev pub is_without_newline : List ℕ → ℕ → LintLine → Bool
-is_without_newline bytes lines l = l.line == lines && is_unended bytes && says_something l.bytes
+is_without_newline bytes lines l = l.line == lines && is_unended bytes && ends_in_string l.bytes
+
+-- ---- the line before
+
+-- the bytes end in a backslash (code 92)
+abbrev pub ends_in_backslash : List ℕ → Bool
+ends_in_backslash line = starts_with nat_eq (reverse line) (92 ∷ [])
+
+-- of these lines of its file the one before the line ends in a backslash
+abbrev pub follows_backslash : List LintLine → LintLine → Bool
+follows_backslash lines l = nat_le 2 l.line && option_map_or (λ m. ends_in_backslash m.bytes) (slice_get lines (l.line - 2)) false
+
+-- libX11 joins the line to the comment before it
+abbrev pub is_joined : List LintLine → LintLine → Bool
+is_joined lines l = follows_backslash lines l && says_something l.bytes
 
 -- ---- blanks
 

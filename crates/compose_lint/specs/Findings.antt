@@ -7,19 +7,19 @@ use Rattle.compose_lint.specs.Productions.{Written, production_of}
 use Rattle.compose_read.specs.Lines.{Source}
 use Rattle.compose_read.specs.declared.ReadFault.{ReadFault}
 use Rattle.compose_lint.specs.Faults.{fault_kinds}
-use Rattle.compose_lint.specs.FileLines.{is_after_mark, is_without_newline, has_return, has_spaced_name}
+use Rattle.compose_lint.specs.FileLines.{is_after_mark, is_without_newline, is_joined, has_return, has_spaced_name}
 use Rattle.compose_lint.specs.Lines.{LintLine, SourceLines, all_lines, all_sources}
 use Rattle.compose_lint.specs.Counting.{last_defining}
 use Rattle.compose_lint.specs.Longer.{longer_place, place_of}
 use Rattle.compose_lint.specs.Comments.{has_misplaced_comment}
 use Rattle.compose_lint.specs.Texts.{repeats_mark, is_normal, has_other_character}
-use Rattle.compose_lint.specs.Readers.{has_ten_keysyms, has_eleven_keysyms, has_no_symbol, has_longest_text, has_wide_keysym, has_digit_name, has_no_string, has_letter_escape}
+use Rattle.compose_lint.specs.Readers.{has_ten_keysyms, has_eleven_keysyms, has_no_symbol, has_longest_text, has_nul, has_wide_keysym, has_digit_name, has_no_string, has_letter_escape}
 use Rattle.compose_lint.specs.declared.finding.Finding.{Finding}
 use Rattle.compose_lint.specs.declared.finding.Kind.{Kind}
 use Rattle.compose_lint.specs.declared.finding.Kind.TheVariants.{Overridden, Repeated, Prefix, Keysym, Mark, Form, Comment, Redundant, Reader}
 use Rattle.compose_lint.specs.declared.reader.Readers.{Readers}
 use Rattle.compose_lint.specs.declared.reader.Reader.TheVariants.{LibX11, Libxkbcommon, Gtk3, Gtk4}
-use Rattle.compose_lint.specs.declared.reader.Class.TheVariants.{ByteOrderMark, NoNewline, CarriageReturn, SpacedName, ManyKeysyms, NoSymbol, LongestText, WideKeysym, DigitName, NoString, LetterEscape}
+use Rattle.compose_lint.specs.declared.reader.Class.TheVariants.{ByteOrderMark, NoNewline, Joined, CarriageReturn, SpacedName, ManyKeysyms, NoSymbol, LongestText, Nul, WideKeysym, DigitName, NoString, LetterEscape}
 
 abbrev pub when : Bool → Kind → List Kind
 when b kind = if b then kind ∷ [] else []
@@ -45,13 +45,17 @@ text_kinds names p d = when (has_other_character names p d) Keysym ++ when (repe
 -- ---- the readers that are asked for
 
 abbrev pub libx11_kinds : Readers → Definition → List Kind
-libx11_kinds readers d = when (readers.libx11 && has_ten_keysyms d) (Reader LibX11 ManyKeysyms) ++ when (readers.libx11 && has_no_symbol d) (Reader LibX11 NoSymbol)
+libx11_kinds readers d =
+    when (readers.libx11 && has_ten_keysyms d) (Reader LibX11 ManyKeysyms)
+    ++ when (readers.libx11 && has_no_symbol d) (Reader LibX11 NoSymbol)
+    ++ when (readers.libx11 && has_nul d) (Reader LibX11 Nul)
 
 abbrev pub libxkbcommon_kinds : Readers → Written → Definition → List Kind
 libxkbcommon_kinds readers p d =
     when (readers.libxkbcommon && has_eleven_keysyms d) (Reader Libxkbcommon ManyKeysyms)
     ++ when (readers.libxkbcommon && has_no_symbol d) (Reader Libxkbcommon NoSymbol)
     ++ when (readers.libxkbcommon && has_longest_text d) (Reader Libxkbcommon LongestText)
+    ++ when (readers.libxkbcommon && has_nul d) (Reader Libxkbcommon Nul)
     ++ when (readers.libxkbcommon && has_digit_name p) (Reader Libxkbcommon DigitName)
     ++ when (readers.libxkbcommon && has_letter_escape p) (Reader Libxkbcommon LetterEscape)
 
@@ -62,11 +66,12 @@ gtk_kinds readers p d =
     ++ when (readers.gtk4 && has_no_string p) (Reader Gtk4 NoString)
 
 -- how the file is written
-abbrev pub file_kinds : Readers → List ℕ → ℕ → LintLine → List Kind
+abbrev pub file_kinds : Readers → List ℕ → List LintLine → LintLine → List Kind
 file_kinds readers bytes lines l =
     when (readers.libx11 && is_after_mark bytes l) (Reader LibX11 ByteOrderMark)
     ++ when (readers.libxkbcommon && is_after_mark bytes l) (Reader Libxkbcommon ByteOrderMark)
-    ++ when (readers.libxkbcommon && is_without_newline bytes lines l) (Reader Libxkbcommon NoNewline)
+    ++ when (readers.libxkbcommon && is_without_newline bytes (length lines) l) (Reader Libxkbcommon NoNewline)
+    ++ when (readers.libx11 && is_joined lines l) (Reader LibX11 Joined)
 
 -- blanks in a production
 abbrev pub blank_kinds : Readers → List ℕ → Written → List Kind
@@ -86,7 +91,7 @@ kinds_if names readers lines l _ _ = []
 -- what is found in a line of the file with these bytes by that file alone: its first fault, how it is written, and, where it gives a definition, what is found of this
 abbrev pub own_kinds : KeysymNames → Readers → List ReadFault → List ℕ → List LintLine → LintLine → List Kind
 own_kinds names readers faults bytes lines l =
-    fault_kinds faults l ++ file_kinds readers bytes (length lines) l ++ kinds_if names readers lines l (production_of l.bytes) l.definition
+    fault_kinds faults l ++ file_kinds readers bytes lines l ++ kinds_if names readers lines l (production_of l.bytes) l.definition
 
 -- ---- the lines of all files
 

@@ -7,11 +7,13 @@ use Rattle.compose_lint.specs.declared.finding.Kind.{Kind}
 use Rattle.compose_lint.specs.declared.finding.Kind.TheVariants.{Reader}
 use Rattle.compose_lint.specs.declared.reader.Readers.{Readers}
 use Rattle.compose_lint.specs.declared.reader.Reader.TheVariants.{LibX11, Libxkbcommon}
-use Rattle.compose_lint.specs.declared.reader.Class.TheVariants.{LetterEscape}
+use Rattle.compose_lint.specs.declared.reader.Class.TheVariants.{Nul, LetterEscape}
 
 -- the reader skips the whole line
 abbrev pub skips_line : Kind → Bool
+skips_line (Reader LibX11 Nul) = false
 skips_line (Reader LibX11 class) = true
+skips_line (Reader Libxkbcommon Nul) = false
 skips_line (Reader Libxkbcommon LetterEscape) = false
 skips_line (Reader Libxkbcommon class) = true
 skips_line kind = false

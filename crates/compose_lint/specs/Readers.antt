@@ -22,6 +22,10 @@ has_no_symbol d = list_any (λ k. k == 0) d.sequence
 abbrev pub has_longest_text : Definition → Bool
 has_longest_text d = nat_le 255 (length d.text)
 
+-- libX11 and libxkbcommon cut a text at a byte 0
+abbrev pub has_nul : Definition → Bool
+has_nul d = list_any (λ b. b == 0) d.text
+
 -- GTK 4 matches no key above 0xffff
 abbrev pub has_wide_keysym : Definition → Bool
 has_wide_keysym d = list_any (λ k. nat_lt 0xffff k) d.sequence

@@ -12,7 +12,7 @@ use Rattle.compose_lint.specs.declared.finding.Kind.TheVariants.{Fault, Overridd
 use Rattle.compose_lint.specs.declared.reader.Reader.{Reader as ReaderName}
 use Rattle.compose_lint.specs.declared.reader.Reader.TheVariants.{LibX11, Libxkbcommon, Gtk3, Gtk4}
 use Rattle.compose_lint.specs.declared.reader.Class.{Class}
-use Rattle.compose_lint.specs.declared.reader.Class.TheVariants.{ByteOrderMark, NoNewline, CarriageReturn, SpacedName, ManyKeysyms, NoSymbol, LongestText, WideKeysym, DigitName, NoString, LetterEscape}
+use Rattle.compose_lint.specs.declared.reader.Class.TheVariants.{ByteOrderMark, NoNewline, Joined, CarriageReturn, SpacedName, ManyKeysyms, NoSymbol, LongestText, Nul, WideKeysym, DigitName, NoString, LetterEscape}
 
 abbrev pub reader_word : ReaderName → List ℕ
 reader_word LibX11 = codes "libX11"
@@ -23,11 +23,13 @@ reader_word Gtk4 = codes "gtk4"
 abbrev pub class_said : Class → List ℕ
 class_said ByteOrderMark = codes "the line is skipped, as it follows a byte order mark"
 class_said NoNewline = codes "the line is skipped, as no newline follows it"
+class_said Joined = codes "the line is skipped, as the line before it ends in a backslash"
 class_said CarriageReturn = codes "the line is skipped, as it has a carriage return"
 class_said SpacedName = codes "the line is skipped, as a blank stands beside the name of a key"
 class_said ManyKeysyms = codes "the line is skipped, as its sequence has more keysyms than are read"
 class_said NoSymbol = codes "the line is skipped, as its sequence has the keysym 0"
 class_said LongestText = codes "the line is skipped, as its text has 255 bytes"
+class_said Nul = codes "the text is cut, as it has a byte 0"
 class_said WideKeysym = codes "the sequence is never typed, as a keysym of it is above 0xffff"
 class_said DigitName = codes "the line is skipped, as the name of its result begins with a digit"
 class_said NoString = codes "the line is skipped, as it has no string"

@@ -38,6 +38,13 @@ pub(crate) fn has_longest_text(definition: &LineDefinition) -> bool
     definition.text().len() >= 255
 }
 
+/// Whether the text has a byte 0. O(bytes).
+pub(crate) fn has_nul(definition: &LineDefinition) -> bool
+    ensures { result ≡ words.has_nul definition.now }
+{
+    definition.text().as_bytes().iter().any(|byte| *byte == 0)
+}
+
 /// Whether a keysym above 0xffff is in the sequence. O(keysyms).
 pub(crate) fn has_wide_keysym(definition: &LineDefinition) -> bool
     ensures { result ≡ words.has_wide_keysym definition.now }

@@ -1,9 +1,10 @@
 //! How a line is written, where other readers of Compose files mind it.
-ghost use Rattle.std.specs.Prelude.{◌≡◌, ◌==◌, take, drop, position, option_copied, false};
+ghost use Rattle.std.specs.Prelude.{◌≡◌, ◌==◌, take, drop, position, option_copied, false, not, is_some};
 ghost use Rattle.std.specs.List.{list_any};
 ghost use Rattle.std.specs.Option.{option_map_or};
 ghost use Rattle.compose_text.specs.Bytes.{is_blank};
 ghost use Rattle.compose_read.specs.Visits.{raw_include};
+ghost use Rattle.compose_lint.specs.Productions.{production_of};
 ghost use Rattle.compose_lint.specs.FileLines as words;
 
 use crate::lines::LintLine;
@@ -56,11 +57,60 @@ fn is_unended(bytes: &[u8]) -> bool
     }
 }
 
+/// Whether the line reads as a definition without the name of a result, or as an include.
+/// O(bytes).
+fn ends_in_string(line: &[u8]) -> bool
+    ensures { result ≡ words.ends_in_string line.now }
+{
+    is_nameless(line) || raw_include(line).is_some()
+}
+
+/// Whether the line reads as a definition without the name of a result.
+fn is_nameless(line: &[u8]) -> bool
+    ensures { result
+        ≡ option_map_or (λ p. not (is_some p.name)) (production_of line.now) false }
+{
+    match production_of(line) {
+        Some(production) => production.result_name().is_none(),
+        None => false,
+    }
+}
+
 /// Whether the line is the last one of these bytes, without a newline. O(bytes of the line).
 pub(crate) fn is_without_newline(bytes: &[u8], lines: usize, line: &LintLine<'_>) -> bool
     ensures { result ≡ words.is_without_newline bytes.now lines line.now }
 {
-    line.line() == lines && is_unended(bytes) && says_something(line.bytes())
+    line.line() == lines && is_unended(bytes) && ends_in_string(line.bytes())
+}
+
+/// Whether the bytes end in a backslash.
+fn ends_in_backslash(line: &[u8]) -> bool
+    ensures { result ≡ words.ends_in_backslash line.now }
+{
+    match line.last() {
+        Some(byte) => *byte == b'\\',
+        None => false,
+    }
+}
+
+/// Whether of these lines of its file the one before the line ends in a backslash.
+fn follows_backslash(lines: &[LintLine<'_>], line: &LintLine<'_>) -> bool
+    ensures { result ≡ words.follows_backslash lines.now line.now }
+{
+    if line.line() < 2 {
+        return false;
+    }
+    match lines.get(line.line() - 2) {
+        Some(before) => ends_in_backslash(before.bytes()),
+        None => false,
+    }
+}
+
+/// Whether the line is joined to the comment before it. O(bytes of the line).
+pub(crate) fn is_joined(lines: &[LintLine<'_>], line: &LintLine<'_>) -> bool
+    ensures { result ≡ words.is_joined lines.now line.now }
+{
+    follows_backslash(lines, line) && says_something(line.bytes())
 }
 
 /// Whether the byte begins a string or a comment.

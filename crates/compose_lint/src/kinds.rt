@@ -13,14 +13,16 @@ ghost use Rattle.compose_lint.specs.Findings as words;
 
 use crate::classes::{
     has_digit_name, has_eleven_keysyms, has_letter_escape, has_longest_text, has_no_string,
-    has_no_symbol, has_ten_keysyms, has_wide_keysym,
+    has_no_symbol, has_nul, has_ten_keysyms, has_wide_keysym,
 };
 use crate::comments::has_misplaced_comment;
 use crate::commonest::Leaders;
 use crate::counting::{LastLines, last_lines};
 use crate::definition::LineDefinition;
 use crate::faults::push_fault_kinds;
-use crate::file_lines::{has_return, has_spaced_name, is_after_mark, is_without_newline};
+use crate::file_lines::{
+    has_return, has_spaced_name, is_after_mark, is_joined, is_without_newline,
+};
 use crate::finding::{Finding, Kind};
 use crate::lines::LintLine;
 use crate::longer::LongerPlaces;
@@ -141,7 +143,9 @@ fn push_libx11_kinds(
     let many = readers.libx11 && has_ten_keysyms(definition);
     push_when(kinds, many, Kind::Reader(reader, Class::ManyKeysyms))?;
     let none = readers.libx11 && has_no_symbol(definition);
-    push_when(kinds, none, Kind::Reader(reader, Class::NoSymbol))
+    push_when(kinds, none, Kind::Reader(reader, Class::NoSymbol))?;
+    let nul = readers.libx11 && has_nul(definition);
+    push_when(kinds, nul, Kind::Reader(reader, Class::Nul))
 }
 
 /// Adds what libxkbcommon doesn't take.
@@ -163,6 +167,8 @@ fn push_libxkbcommon_kinds(
     push_when(kinds, none, Kind::Reader(reader, Class::NoSymbol))?;
     let long = readers.libxkbcommon && has_longest_text(definition);
     push_when(kinds, long, Kind::Reader(reader, Class::LongestText))?;
+    let nul = readers.libxkbcommon && has_nul(definition);
+    push_when(kinds, nul, Kind::Reader(reader, Class::Nul))?;
     let digit = readers.libxkbcommon && has_digit_name(production);
     push_when(kinds, digit, Kind::Reader(reader, Class::DigitName))?;
     let letter = readers.libxkbcommon && has_letter_escape(production);
@@ -200,12 +206,12 @@ fn push_file_kinds(
     kinds: &mut Vec<Kind>,
     readers: Readers,
     bytes: &[u8],
-    lines: usize,
+    lines: &[LintLine<'_>],
     line: &LintLine<'_>,
 ) -> Result<(), AllocError>
     ensures { OnOk result
         (kinds.new.items
-        ≡ kinds.old.items ++ words.file_kinds readers bytes.now lines line.now) }
+        ≡ kinds.old.items ++ words.file_kinds readers bytes.now lines.now line.now) }
 {
     let marked = is_after_mark(bytes, line);
     let class = Class::ByteOrderMark;
@@ -216,12 +222,14 @@ fn push_file_kinds(
     )?;
     let is_lost = readers.libxkbcommon && marked;
     push_when(kinds, is_lost, Kind::Reader(Reader::Libxkbcommon, class))?;
-    let is_last = readers.libxkbcommon && is_without_newline(bytes, lines, line);
+    let is_last = readers.libxkbcommon && is_without_newline(bytes, lines.len(), line);
     push_when(
         kinds,
         is_last,
         Kind::Reader(Reader::Libxkbcommon, Class::NoNewline),
-    )
+    )?;
+    let joined = readers.libx11 && is_joined(lines, line);
+    push_when(kinds, joined, Kind::Reader(Reader::LibX11, Class::Joined))
 }
 
 /// Adds what other readers make of blanks in a production.
@@ -329,7 +337,7 @@ fn own_kinds(
 {
     let mut kinds = Vec::new(alloc);
     push_fault_kinds(&mut kinds, file.faults, line)?;
-    push_file_kinds(&mut kinds, file.readers, file.bytes, file.lines.len(), line)?;
+    push_file_kinds(&mut kinds, file.readers, file.bytes, file.lines, line)?;
     push_kinds_if(alloc, &mut kinds, file, last, line)?;
     Ok(kinds)
 }

@@ -25,6 +25,8 @@ pub enum Class {
     ByteOrderMark,
     /// The last line, without a newline.
     NoNewline,
+    /// The line before it ends in a backslash.
+    Joined,
     /// A carriage return outside of the string and the comment.
     CarriageReturn,
     /// A blank between `<` or `>` and the name of a key.
@@ -35,6 +37,8 @@ pub enum Class {
     NoSymbol,
     /// A text of 255 bytes.
     LongestText,
+    /// A byte 0 in the text.
+    Nul,
     /// A keysym above 0xffff in the sequence.
     WideKeysym,
     /// A name of the result that begins with a digit.

@@ -29,6 +29,7 @@ fn class_sentence(class: Class) -> &'static str
     match class {
         Class::ByteOrderMark => "the line is skipped, as it follows a byte order mark",
         Class::NoNewline => "the line is skipped, as no newline follows it",
+        Class::Joined => "the line is skipped, as the line before it ends in a backslash",
         Class::CarriageReturn => "the line is skipped, as it has a carriage return",
         Class::SpacedName => "the line is skipped, as a blank stands beside the name of a key",
         Class::ManyKeysyms => {
@@ -36,6 +37,7 @@ fn class_sentence(class: Class) -> &'static str
         }
         Class::NoSymbol => "the line is skipped, as its sequence has the keysym 0",
         Class::LongestText => "the line is skipped, as its text has 255 bytes",
+        Class::Nul => "the text is cut, as it has a byte 0",
         Class::WideKeysym => "the sequence is never typed, as a keysym of it is above 0xffff",
         Class::DigitName => "the line is skipped, as the name of its result begins with a digit",
         Class::NoString => "the line is skipped, as it has no string",
