@@ -22,8 +22,8 @@ behind x before after =
 row_more : {X : Type 0} (change : Change) (typed : Bool) (x : X) (all lost otherwise starts additions : List X)
     → IsPermutation all (lost ++ (otherwise ++ (starts ++ additions)))
     → IsPermutation (cond (not (is_same change Kept)) (x ∷ all) all)
-      (cond (is_loss change && not typed) (x ∷ lost) lost ++ (cond (is_loss change && typed) (x ∷ otherwise) otherwise
-      ++ (cond (is_same change NewStart) (x ∷ starts) starts ++ cond (is_same change Added) (x ∷ additions) additions)))
+    (cond (is_loss change && not typed) (x ∷ lost) lost ++ (cond (is_loss change && typed) (x ∷ otherwise) otherwise
+    ++ (cond (is_same change NewStart) (x ∷ starts) starts ++ cond (is_same change Added) (x ∷ additions) additions)))
 row_more Kept typed x all lost otherwise starts additions same = same
 row_more Changed false x all lost otherwise starts additions same = IsPermutation-cons x _ _ same
 row_more Waiting false x all lost otherwise starts additions same = IsPermutation-cons x _ _ same

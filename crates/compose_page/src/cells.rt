@@ -96,7 +96,8 @@ fn push_bold(text: &mut String, markup: Markup, inside: &str) -> Result<(), Allo
     text.push_str("</b>")
 }
 
-/// Appends the cell for the keys of a sequence to the text, or two: one for its keys, and one for those of the sequence that gives its text now.
+/// Appends the cell for the keys of a sequence to the text, or two: one for its keys, and one for
+/// those of the sequence that gives its text now.
 fn push_keys_cells(text: &mut String, markup: Markup, row: &DiffRow) -> Result<(), AllocError>
     ensures { OnOk result
         (string_bytes text.new ≡ string_bytes text.old ++ words.keys_cells markup row.now) }
@@ -168,11 +169,7 @@ fn push_happens(text: &mut String, markup: Markup, row: &DiffRow) -> Result<(), 
 }
 
 /// Appends the text that the new table has for a sequence to the text.
-fn push_new_text(
-    text: &mut String,
-    markup: Markup,
-    entry: &Option<Entry>,
-) -> Result<(), AllocError>
+fn push_new_text(text: &mut String, markup: Markup, entry: &Option<Entry>) -> Result<(), AllocError>
     ensures { OnOk result
         (string_bytes text.new ≡ string_bytes text.old ++ words.changed_to markup entry.now) }
 {
@@ -200,7 +197,8 @@ fn push_longer(
     }
 }
 
-/// Appends the cell for the places of a sequence, of the longer one, and of the one that gives its text now, to the text.
+/// Appends the cell for the places of a sequence, of the longer one, and of the one that gives its
+/// text now, to the text.
 fn push_places_cell(text: &mut String, markup: Markup, row: &DiffRow) -> Result<(), AllocError>
     ensures { OnOk result
         (string_bytes text.new ≡ string_bytes text.old ++ words.places_cell markup row.now) }
@@ -244,12 +242,7 @@ fn push_sequence_place(
 }
 
 /// Appends a path and a line in it, after a blank, to the text.
-fn push_place(
-    text: &mut String,
-    markup: Markup,
-    path: &str,
-    line: usize,
-) -> Result<(), AllocError>
+fn push_place(text: &mut String, markup: Markup, path: &str, line: usize) -> Result<(), AllocError>
     ensures { OnOk result
         (string_bytes text.new ≡ string_bytes text.old ++ words.place_part markup path.now line) }
 {

@@ -35,7 +35,8 @@ fn push_between(
     Ok(())
 }
 
-/// Appends the keys of the old sequence of a text, those struck that the new one doesn't have at their place, to the text.
+/// Appends the keys of the old sequence of a text, those struck that the new one doesn't have at
+/// their place, to the text.
 pub(crate) fn push_old_keys(
     text: &mut String,
     markup: Markup,
@@ -50,7 +51,8 @@ pub(crate) fn push_old_keys(
     push_marked(text, markup, " <del><kbd>", old, "</kbd></del>", new)
 }
 
-/// Appends the keys of the new sequence of a text, those underlined that the old one doesn't have at their place, to the text.
+/// Appends the keys of the new sequence of a text, those underlined that the old one doesn't have
+/// at their place, to the text.
 pub(crate) fn push_new_keys(
     text: &mut String,
     markup: Markup,
@@ -65,7 +67,8 @@ pub(crate) fn push_new_keys(
     push_marked(text, markup, " <ins><kbd>", new, "</kbd></ins>", old)
 }
 
-/// Appends the keys to the text. Those between the keys with which others begin too, and those with which they end too, are each between the two texts.
+/// Appends the keys to the text. Those between the keys with which others begin too, and those with
+/// which they end too, are each between the two texts.
 fn push_marked(
     text: &mut String,
     markup: Markup,
@@ -83,10 +86,38 @@ fn push_marked(
     let start = common_start(keys, others);
     let (shared, rest) = keys.split_at(start);
     let (_, other_rest) = others.split_at(start);
-    let (own, end) = rest.split_at(rest.len() - common_end(rest, other_rest));
     push_keys(text, markup, shared)?;
+    push_after(text, markup, before, rest, after, other_rest)
+}
+
+/// Appends the keys to the text, but for those at the end with which others end too each between
+/// the two texts.
+fn push_after(
+    text: &mut String,
+    markup: Markup,
+    before: &str,
+    rest: &[&str],
+    after: &str,
+    others: &[&str],
+) -> Result<(), AllocError>
+    ensures { OnOk result
+        (string_bytes text.new
+        ≡ string_bytes text.old
+        ++ words.marked_after markup before.now after.now (map (λ key. key.now) rest.now)
+        (map (λ key. key.now) others.now)) }
+{
+    let (own, end) = rest.split_at(own_count(rest, others));
     push_between(text, markup, before, own, after)?;
     push_keys(text, markup, end)
+}
+
+/// How many keys come before those with which others end too.
+fn own_count(rest: &[&str], others: &[&str]) -> usize
+    ensures value { result
+        ≡ words.own_count (map (λ key. key.now) rest.now) (map (λ key. key.now) others.now) }
+    ensures fits { result ≤ length rest.now }
+{
+    rest.len() - common_end(rest, others)
 }
 
 /// With how many keys both sequences begin.

@@ -31,7 +31,8 @@ pub(crate) fn push_escaped(
     Ok(())
 }
 
-/// Appends a character to the text: by its number, if it may steer a terminal or the direction of writing.
+/// Appends a character to the text: by its number, if it may steer a terminal or the direction of
+/// writing.
 fn push_character(text: &mut String, markup: Markup, character: char) -> Result<(), AllocError>
     ensures { OnOk result
         (string_bytes text.new ≡ string_bytes text.old ++ words.character_text markup character) }
@@ -51,9 +52,7 @@ fn is_mark(markup: Markup, number: u32) -> bool
     ensures { result ≡ words.is_mark markup number }
 {
     match markup {
-        Markup::Markdown => {
-            matches!(number, 33..=36 | 38..=42 | 60 | 62 | 91..=96 | 123..=126)
-        }
+        Markup::Markdown => { matches!(number, 33..=36 | 38..=42 | 60 | 62 | 91..=96 | 123..=126) }
         Markup::Html => matches!(number, 34 | 38 | 39 | 60 | 62),
     }
 }

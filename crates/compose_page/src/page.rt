@@ -10,11 +10,13 @@ use std::alloc::{AllocError, Global};
 use std::fmt::Write;
 
 /// What an HTML page begins with.
-const HTML_BEGIN: &str = "<!DOCTYPE html>\n<html lang=\"en\">\n<head>\n<meta charset=\"utf-8\">\n<meta name=\"viewport\" content=\"width=device-width\">\n<title>Changes of a Compose table</title>\n<style>\n:root { color-scheme: light dark }\nbody { font-family: sans-serif; line-height: 1.5; margin: 1em auto; max-width: 80em; padding: 0 1em }\ntable { border-collapse: collapse; margin: 1em 0 }\ncaption { text-align: left; padding: .3em 0 }\nth, td { border: 1px solid #888; padding: .2em .6em; text-align: left }\nb { font-size: 2em; font-weight: normal; line-height: 1.2 }\nkbd { border: 1px solid; border-radius: .3em; padding: 0 .3em; white-space: nowrap }\ndel { color: #b00000; text-decoration: line-through }\nins { color: #006000; text-decoration: underline }\nsummary { font-size: 1.5em; font-weight: bold }\npre { white-space: pre-wrap }\n@media (prefers-color-scheme: dark) { del { color: #ff9090 } ins { color: #90e090 } }\n</style>\n</head>\n<body>\n<h1>Changes of a Compose table</h1>\n";
+const HTML_BEGIN: &str =
+    "<!DOCTYPE html>\n<html lang=\"en\">\n<head>\n<meta charset=\"utf-8\">\n<meta name=\"viewport\" content=\"width=device-width\">\n<title>Changes of a Compose table</title>\n<style>\n:root { color-scheme: light dark }\nbody { font-family: sans-serif; line-height: 1.5; margin: 1em auto; max-width: 80em; padding: 0 1em }\ntable { border-collapse: collapse; margin: 1em 0 }\ncaption { text-align: left; padding: .3em 0 }\nth, td { border: 1px solid #888; padding: .2em .6em; text-align: left }\nb { font-size: 2em; font-weight: normal; line-height: 1.2 }\nkbd { border: 1px solid; border-radius: .3em; padding: 0 .3em; white-space: nowrap }\ndel { color: #b00000; text-decoration: line-through }\nins { color: #006000; text-decoration: underline }\nsummary { font-size: 1.5em; font-weight: bold }\npre { white-space: pre-wrap }\n@media (prefers-color-scheme: dark) { del { color: #ff9090 } ins { color: #90e090 } }\n</style>\n</head>\n<body>\n<h1>Changes of a Compose table</h1>\n";
 
-/// The page on the rows that are left of all rows: a heading and a table for each part ([`Section`]), or for that of the lost texts alone, the
-/// folded ones in `<details>` unless nothing is to be folded; then the [`Overlaps`] and the [`Counts`] of all that are left, as `diff` has them. O(bytes +
-/// rows × log rows).
+/// The page on the rows that are left of all rows: a heading and a table for each part
+/// ([`Section`]), or for that of the lost texts alone, the folded ones in `<details>` unless
+/// nothing is to be folded; then the [`Overlaps`] and the [`Counts`] of all that are left, as
+/// `diff` has them. O(bytes + rows × log rows).
 pub fn page_text(
     alloc: Global,
     rows: &[DiffRow],

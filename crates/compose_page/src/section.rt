@@ -69,9 +69,7 @@ pub(crate) fn caption(section: Section) -> &'static str
         Section::Otherwise => {
             "The new keys are the shortest sequence of the new table that types the text."
         }
-        Section::Starts => {
-            "No sequence of the old table begins with the first key."
-        }
+        Section::Starts => { "No sequence of the old table begins with the first key." }
         Section::Additions => "Nobody who types with the old table meets these.",
     }
 }
