@@ -1,8 +1,10 @@
 #!/usr/bin/env python3
-"""valid_pages.py PROGRAM [--pictures FOLDER]: whether the validator `tidy` takes the pages of `diff` and of `ci.sh` in HTML. With --pictures a
-browser (chromium, headless) draws them into FOLDER, in light and dark colours, for somebody to look at. Without the validator only a strict reader
-takes the pages, and the last line says so; it is `N passed, M failed` else."""
+"""valid_pages.py PROGRAM [--pictures FOLDER]: whether the validator `tidy` takes the pages of `diff` and of `ci.sh` in HTML, and whether those in
+Markdown have the same cells once GitHub's renderer (`cmark-gfm`) made HTML of them. With --pictures a browser (chromium, headless) draws them into
+FOLDER, in light and dark colours, for somebody to look at. The last line is `N passed, M failed`, and names a program of these that isn't there."""
+import html
 import os
+import re
 import shutil
 import subprocess
 import sys
@@ -39,12 +41,12 @@ PAIRS = {"all parts": (OLD, NEW), "nothing": (OLD, OLD), "everything is gone": (
 ENGLISH, OTHERS = OLD, {"fi_FI": 'include "%S/en_US.UTF-8/Compose"\n', "cs_CZ": 'include "%S/en_US.UTF-8/Compose"\n<Multi_key> <o> <e> : "ö"\n'}
 
 
-def diff_pages(program, folder):
-    """Yields the pages of `diff`, by their names."""
+def diff_pages(program, folder, form):
+    """Yields the pages of `diff` in a form, by their names."""
     for name, (old, new) in PAIRS.items():
         write(folder, {"old & <new>'s": old, "new": new})
         for options in ([], ["--no-fold"], ["--lost"]):
-            words = [program, "diff", "--format", "html", *options, "old & <new>'s", "new"]
+            words = [program, "diff", "--format", form, *options, "old & <new>'s", "new"]
             yield " ".join([name, *options]), subprocess.run(words, cwd=folder, capture_output=True, text=True, timeout=60).stdout
 
 
@@ -58,6 +60,17 @@ def report(program, folder):
     settings = {**os.environ, "COMPOSECHECK": program, "ACCEPTED": "meant"}
     words = ["sh", os.path.join(TOP, "share", "composecheck", "ci.sh"), "old", "new", "--format", "html"]
     return subprocess.run(words, cwd=folder, env=settings, capture_output=True, text=True, timeout=120).stdout
+
+
+def cells_of(page):
+    """What the cells of a page in HTML have, with their tags."""
+    return [html.unescape(it).strip() for it in re.findall("<td>(.*?)</td>", page, re.S)]
+
+
+def rendered(page):
+    """What the renderer makes of a page in Markdown."""
+    words = ["cmark-gfm", "--unsafe", "-e", "table", "-e", "strikethrough", "-e", "autolink"]
+    return subprocess.run(words, input=page, capture_output=True, text=True, check=True, timeout=60).stdout
 
 
 def complaints(page):
@@ -78,7 +91,7 @@ def main():
     program, results = os.path.abspath(sys.argv[1]), Results()
     pictures = os.path.abspath(sys.argv[3]) if sys.argv[2:3] == ["--pictures"] else None
     with tempfile.TemporaryDirectory(prefix="pages-") as folder:
-        pages = dict(diff_pages(program, folder))
+        pages, sources = dict(diff_pages(program, folder, "html")), dict(diff_pages(program, folder, "markdown"))
         for name, page in pages.items():
             parts, last_lines = read_html(page)
             results.expect(f"{name}: the strict reader", (len(parts), last_lines[-1][:6]), (1 if "--lost" in name else 4, "diff: "))
@@ -90,11 +103,16 @@ def main():
         for name in ("all parts --no-fold", "a report of ci.sh"):
             draw(pages[name], os.path.join(pictures, f"{name}.png"))
             draw(pages[name], os.path.join(pictures, f"{name}, dark.png"), "--blink-settings=preferredColorScheme=0")
-    if not shutil.which("tidy"):
-        print(f"{results.passed} passed, {results.failed} failed, and no page was validated: Debian's package tidy isn't installed")
-        return 1 if results.failed else 0
+    missing = [it for it in ("tidy", "cmark-gfm") if not shutil.which(it)]
     for name, page in pages.items():
-        results.expect(f"{name}: tidy", complaints(page), (0, ""))
+        if "tidy" not in missing:
+            results.expect(f"{name}: tidy", complaints(page), (0, ""))
+    for name, source in sources.items():
+        if "cmark-gfm" not in missing:
+            results.expect(f"{name}: cmark-gfm", cells_of(rendered(source)), cells_of(pages[name]))
+    if missing:
+        print(f"{results.passed} passed, {results.failed} failed, and nothing was tried with {' and '.join(missing)}: Debian has them, and they aren't installed")
+        return 1 if results.failed else 0
     return results.end()
 
 
