@@ -363,9 +363,73 @@ def check_sources(program, results):
             results.expect("a preprocessor that ends with a fault", (printed, said.startswith("ci.sh: false refuses "), status), ("", True, 2))
 
 
+TABLES = """
+## en_US.UTF-8, fi_FI.UTF-8
+
+### Texts that can't be typed any more (1 sequence)
+
+No sequence of the new table types the text.
+
+| Text | Characters | Keys | What happens | Places |
+|---|---|---|---|---|
+| <b>y</b> | U+0079 | <kbd>Multi\\_key</kbd> <kbd>b</kbd> | removed | old/en\\_US.UTF-8/Compose:2 |
+
+## fi_FI.UTF-8
+
+<details>
+<summary>Added (2 sequences)</summary>
+
+Nobody who types with the old table meets these.
+
+| Text | Characters | Keys | Places |
+|---|---|---|---|
+| <b>c</b> | U+0063 | <kbd>Multi\\_key</kbd> <kbd>c</kbd> | new/fi\\_FI.UTF-8/Compose:2 |
+| <b>d</b> | U+0064 | <kbd>Multi\\_key</kbd> <kbd>d</kbd> | new/fi\\_FI.UTF-8/Compose:3 |
+
+</details>
+
+<details>
+<summary>Lines of lists of intended changes</summary>
+
+### en_US.UTF-8, fi_FI.UTF-8
+
+    removed: <Multi_key> <b> "y" old/en_US.UTF-8/Compose:2 now: none
+
+### fi_FI.UTF-8
+
+    added: <Multi_key> .. 2 sequences "c" "d" .. new/fi_FI.UTF-8/Compose:2
+
+</details>
+"""
+MORE = INCLUDING + '<Multi_key> <c> : "c"\n<Multi_key> <d> : "d"\n'
+
+
+def check_forms(program, results):
+    """The report in Markdown with tables, and in HTML, whose tables have the same."""
+    with Trees(OLD, {**NEW, "fi_FI.UTF-8": MORE}, {}) as trees:
+        printed, said, status = trees.compare(program, "--format", "markdown")
+        results.expect("the counts come first", printed.startswith(f"{HEADING}\n## Counts\n"), True)
+        report, counts = parted(printed)
+        results.expect("Markdown", (report, said, status), (HEADING + TABLES + THREE, "", 1))
+        results.expect("the counts of Markdown", counts["all"], {"kept": 4, "removed": 2, "added": 2, "texts lost": 2})
+        printed, said, status = trees.compare(program, "--format=html")
+        results.expect("HTML: what is said", (said, status, printed.startswith("<!DOCTYPE html>"), printed.endswith("</html>\n")), ("", 1, True, True))
+        rows = re.findall(r"<tr>(.*)</tr>", printed)
+        results.expect("HTML: the first row of counts", rows[1], '<th scope="row">cs_CZ.UTF-8</th><td>2</td><td>0</td><td>0</td><td>0</td><td>0</td><td>0</td><td>0</td><td>0</td>')
+        lost = "<td> <b>y</b></td><td> U+0079</td><td> <kbd>Multi_key</kbd> <kbd>b</kbd></td><td> removed</td><td> old/en_US.UTF-8/Compose:2</td>"
+        results.expect("HTML: the row of a lost text", rows.count(lost), 1)
+        results.expect("HTML: the lines", "<pre>\nremoved: &#60;Multi_key&#62; &#60;b&#62; &#34;y&#34; old/en_US.UTF-8/Compose:2 now: none\n</pre>" in printed, True)
+        for words in (["--format"], ["--format", "json"]):
+            printed, said, status = trees.compare(program, *words)
+            results.expect(f"{words} is refused", (printed, said.startswith("ci.sh: --format "), status), ("", True, 2))
+    with Trees(OLD, NEW, {"all": DROPPED}) as trees:
+        report, _ = parted(trees.compare(program, "--format", "markdown")[0])
+        results.expect("Markdown, where the changes are intended", report, HEADING + BOTH_ACCEPTED + THREE)
+
+
 def main():
     program, results = os.path.abspath(sys.argv[1]), Results()
-    checks = [check_reports, check_refused_tables, check_folders, check_program, check_output, check_lists, check_copied, check_counts, check_headings, check_order, check_tables_of_locales]
+    checks = [check_reports, check_refused_tables, check_folders, check_program, check_output, check_lists, check_copied, check_counts, check_headings, check_order, check_tables_of_locales, check_forms]
     if shutil.which("cpp"):
         checks.append(check_sources)
     for check in checks:

@@ -1,5 +1,5 @@
 #!/usr/bin/env python3
-"""diff.py PROGRAM [COUNT]: what `diff` tells of random tables, against a second reading of what happens to a sequence.
+"""diff.py PROGRAM [COUNT]: what `diff` tells of random tables, in each form, against a second reading of what happens to a sequence.
 
 Both tables of a pair are files of some lines with few keysyms, some of them written in several ways, with repeated and overlapping sequences, and
 comments; the new one is mostly the old one with some lines changed. What is told of each sequence is worked out here by going
@@ -11,12 +11,14 @@ import subprocess
 import sys
 import tempfile
 
+from pages import page_of, read_html, read_markdown
+
 SEED = 27
 # The keysyms of these tables: how they are written, their numbers, and the text of each.
 WRITTEN = {"a": ["a", "U0061", "0x61"], "b": ["b", "U0062"], "D": ["dead_acute", "0xfe51"], "E": ["dead_grave"]}
 NUMBER = {"a": 0x61, "b": 0x62, "D": 0xFE51, "E": 0xFE50}
 OWN_TEXT = {"a": "a", "b": "b", "D": "", "E": ""}
-TEXTS = ["x", "y", "\u00e9", "a", "b", 'q"q', "\\"]
+TEXTS = ["x", "y", "\u00e9", "a", "b", 'q"q', "\\", "a|b\\|*_`", "&lt;<b>'$", "\u202ex"]
 LOSSES = ["changed", "waiting", "removed"]
 GROUPS = ["changed", "waiting", "removed", "new start", "added"]
 
@@ -160,7 +162,7 @@ def told(old, new, fresh):
 
 
 def quoted(text):
-    return '"' + text.replace("\\", "\\\\").replace('"', '\\"') + '"'
+    return '"' + text.replace("\\", "\\\\").replace('"', '\\"').replace("\u202e", "\\u{202e}") + '"'
 
 
 def line_of(row, with_places=True):
@@ -276,6 +278,15 @@ class Trial:
     def run(self, folder, *arguments):
         return subprocess.run([self.program, "diff", *arguments, "old", "new"], cwd=folder, capture_output=True, text=True)
 
+    def pages(self, folder, rows, last_lines, *options):
+        """Reads the pages of these rows in both forms."""
+        for name, read in {"markdown": read_markdown, "html": read_html}.items():
+            for more, its in {(): {}, ("--no-fold",): {"folds": False}, ("--lost",): {"lost_alone": True}}.items():
+                ran = self.run(folder, "--format", name, *more, *options)
+                self.expect(f"{name} {more} {options}", (page_of(rows_in_order(rows), last_lines, **its), ""), (read(ran.stdout), ran.stderr))
+                status = 1 if any(it["change"] not in ("kept", "added") for it in rows) else 0
+                self.expect(f"{name} {more} {options}: status", status, ran.returncode)
+
     def pair(self, number, chance):
         """Tries one pair: every sequence as JSON, the lines, the list of accepted ones, and one that is not there."""
         old, new, fresh = random_pair(chance)
@@ -302,6 +313,7 @@ class Trial:
             ran = self.run(folder, "--no-fold", "--lost", *options)
             self.expect(f"{number}: lost ones", [*map(line_of, rows_in_order(lost)), *overlaps, counts_of(rows)], ran.stdout.splitlines())
             self.expect(f"{number}: status with --lost", 1 if losses else 0, ran.returncode)
+            self.pages(folder, rows, [*overlaps, counts_of(rows)], *options)
             ran = self.run(folder, "--write-accept", *options)
             self.expect(f"{number}: accepted ones", [line_of(it, False) for it in rows_in_order(losses)], ran.stdout.splitlines())
             with open(os.path.join(folder, "accepted"), "w", encoding="utf-8") as file:
@@ -310,6 +322,7 @@ class Trial:
             others = [it for it in rows if it not in losses]
             self.expect(f"{number}: all accepted", ([*map(line_of, rows_in_order(others)), *overlaps, counts_of(others, len(losses))], 0), (ran.stdout.splitlines(), ran.returncode))
             ran = self.run(folder, "--accept", "accepted", *options)
+            self.pages(folder, others, [*overlaps, counts_of(others, len(losses))], "--accept", "accepted", *options)
             self.expect(f"{number}: all accepted, folded", [*folded_lines(rows, others), *overlaps, counts_of(others, len(losses))], ran.stdout.splitlines())
             with open(os.path.join(folder, "accepted"), "a", encoding="utf-8") as file:
                 file.write('removed: <a> <a> <a> <a> "x"\n')

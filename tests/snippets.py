@@ -63,12 +63,16 @@ def check_repositories(program, results):
             with open(its.settings["GITHUB_STEP_SUMMARY"], encoding="utf-8") as file:
                 report = file.read()
             results.expect(f"GitHub, {accepted=}", (status, f"{ROW}.pre:3" in report, report.endswith("1 locale was compared.\n")), wanted)
+            results.expect(f"GitHub: tables, {accepted=}", "\n### Texts that can't be typed any more (1 sequence)\n" in report, not accepted)
         with tempfile.TemporaryDirectory(prefix="snippets-") as folder:
             its = Repository(program, folder, accepted)
             its.git("remote", "add", "origin", ".")
             its.settings["CI_MERGE_REQUEST_DIFF_BASE_SHA"] = its.git("rev-parse", "HEAD^")
             status, printed = run(its.top, its.here(block_of("gitlab.yml", r"- \|")), its.settings)
             results.expect(f"GitLab, {accepted=}", (status, f"{ROW}.pre:3" in printed, printed.endswith("1 locale was compared.\n")), wanted)
+            with open(os.path.join(its.top, "report.html"), encoding="utf-8") as file:
+                report = file.read()
+            results.expect(f"GitLab: tables, {accepted=}", ("<h3>Texts that can't be typed any more (1 sequence)</h3>" in report, report.endswith("</html>\n")), (not accepted, True))
 
 
 # Commands of a machine with the new package, whose archive has an old one.

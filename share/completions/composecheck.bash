@@ -13,7 +13,11 @@ _composecheck() {
         --system|--root|--state) COMPREPLY=($(compgen -d -- "$word")); return ;;
         --overlap) COMPREPLY=($(compgen -W "longest refuse" -- "$word")); return ;;
         --sort) COMPREPLY=($(compgen -W "keys text file" -- "$word")); return ;;
-        --format) COMPREPLY=($(compgen -W "text json" -- "$word")); return ;;
+        --format)
+            COMPREPLY=($(compgen -W "text json" -- "$word"))
+            if [ "${COMP_WORDS[1]}" = diff ]; then COMPREPLY=($(compgen -W "text json markdown html" -- "$word")); fi
+            return
+            ;;
         --color) COMPREPLY=($(compgen -W "auto always never" -- "$word")); return ;;
         --reader) COMPREPLY=($(compgen -W "libX11 libxkbcommon gtk3 gtk4" -- "$word")); return ;;
         --mode) COMPREPLY=($(compgen -W "600 660 666" -- "$word")); return ;;

@@ -1,7 +1,7 @@
 #!/bin/sh
-# Prints what a new tree of Compose tables changes for the people who type with the tables of an old tree, as Markdown.
+# Prints what a new tree of Compose tables changes for the people who type with the tables of an old tree, as Markdown or HTML.
 #
-#   ci.sh OLDDIR NEWDIR [OPTION..]
+#   ci.sh OLDDIR NEWDIR [--format FORMAT] [OPTION..]
 #
 # OLDDIR and NEWDIR are folders such as /usr/share/X11/locale, or source trees of libX11, whose tables the C preprocessor makes of
 # nls/*/Compose.pre. Each LOCALE.UTF-8/Compose of OLDDIR is compared with that of NEWDIR by `composecheck diff --overlap longest`, which gets
@@ -24,6 +24,9 @@
 #
 #     16 locales were compared.
 #
+# With `--format markdown` the counts come first, and then the tables of `composecheck diff --format markdown`: the texts that can't be typed any
+# more, those that are typed otherwise, and folded the rest and the lines above. With `--format html` the same is one file of HTML.
+#
 # COMPOSECHECK is the program, and RAWCPP the C preprocessor; by default they are looked for on the path, as composecheck and cpp. ACCEPTED is a
 # folder of intended changes: lines of the report, in a file LOCALE.UTF-8 those of that locale, and in the file `all` those of any locales and
 # the lines of locales with another table. They are then shown below 'Intended'.
@@ -39,6 +42,49 @@ tab=$(printf '\t') return=$(printf '\r')
 refuse() {
     printf 'ci.sh: %s\n' "$1" >&2
     exit 2
+}
+
+# Prints what is read, so that no character of it is taken for HTML.
+as_html() {
+    sed -e 's/&/\&#38;/g' -e 's/"/\&#34;/g' -e "s/'/\&#39;/g" -e 's/</\&#60;/g' -e 's/>/\&#62;/g'
+}
+
+# Prints a heading of the second level.
+print_heading() {
+    case $form in
+    html) printf '<h2>%s</h2>\n' "$1" ;;
+    *) printf '\n## %s\n' "$1" ;;
+    esac
+}
+
+# Prints lines as they are.
+print_block() {
+    case $form in
+    html)
+        echo '<pre>'
+        as_html
+        echo '</pre>'
+        ;;
+    *)
+        echo
+        sed 's|^|    |'
+        ;;
+    esac
+}
+
+# Prints a sentence.
+print_words() {
+    case $form in
+    html) printf '<p>%s</p>\n' "$1" ;;
+    *) printf '\n%s\n' "$1" ;;
+    esac
+}
+
+# Prints what is read under words that unfold it.
+print_folded() {
+    printf '\n<details>\n<summary>%s</summary>\n' "$1"
+    cat
+    printf '\n</details>\n'
 }
 
 # Says whether a file is there, be it a link that leads nowhere: that one is left to `diff`, which refuses it.
@@ -134,6 +180,14 @@ take_accepted() {
     done
 }
 
+# Prints what is read as a page shows it, which has no control.
+as_shown() {
+    case $form in
+    html) as_html ;;
+    *) LC_ALL=C sed 's/[]!-$&-*<>[\\^_`{-~]/\\&/g' ;;
+    esac
+}
+
 # Prints words as the pattern, or with `&` added to the marks as the text, of an `s` in sed that `|` delimits.
 quoted() {
     printf '%s\n' "$1" | sed "s/[][\\.*^\$|$2]/\\\\&/g"
@@ -141,21 +195,28 @@ quoted() {
 
 # Prints a file, with `old` and `new` for the two trees, and each list of intended changes by its path.
 shorten() {
-    place=$(quoted "$room" '') lists=$(quoted "$accepted" '&')
-    set -- "$1" -e "s|$place/accepted|$lists|g"
-    for tree in old new; do
-        if [ -e "$room/$tree.is_source" ]; then set -- "$@" -e "s|$place/$tree/$system/\([^/]*\)/Compose|$tree/\1/Compose.pre|g"; fi
-        set -- "$@" -e "s|$place/$tree/$system|$tree|g"
+    lists=$(quoted "$accepted" '&')
+    set -- "$1" -e "s|$(quoted "$room" '')/accepted|$lists|g"
+    for place in "$room" "$(printf '%s\n' "$room" | as_shown)"; do
+        place=$(quoted "$place" '')
+        for tree in old new; do
+            if [ -e "$room/$tree.is_source" ]; then set -- "$@" -e "s|$place/$tree/$system/\([^/]*\)/Compose|$tree/\1/Compose.pre|g"; fi
+            set -- "$@" -e "s|$place/$tree/$system|$tree|g"
+        done
+        set -- "$@" -e "s|$place/||g"
     done
     file=$1
     shift
-    sed "$@" -e "s|$place/||g" "$file"
+    sed "$@" "$file"
 }
 
 # Prints what is wrong with a locale, in the words of a file.
 report_fault() {
-    printf '\n**%s:**\n\n' "$1"
-    sed 's|^|    |' "$2"
+    case $form in
+    html) print_words "<strong>$1:</strong>" ;;
+    *) print_words "**$1:**" ;;
+    esac
+    print_block < "$2"
     worst=2
 }
 
@@ -224,6 +285,10 @@ compare() {
         ;;
     esac
     if [ -e "$list" ]; then note_intended "$locale" "$list" "$@"; fi
+    if [ $form != text ]; then
+        if [ -e "$list" ]; then set -- "$@" --accept "$list"; fi
+        diff_locale "$locale" "$@" --format $form > "$room/pages/$locale" 2> /dev/null || :
+    fi
     if grep '^note: .* lies outside of ' "$room/errors" > "$room/notes"; then
         report_fault "$locale reads files outside of its tree" "$room/notes"
     fi
@@ -237,7 +302,7 @@ compare_trees() {
     done
     for table in "$new"/*.UTF-8/Compose; do
         folder=${table%/Compose}
-        if is_there "$table" && ! is_compared "${folder##*/}"; then printf '\n%s is new.\n' "${folder##*/}"; fi
+        if is_there "$table" && ! is_compared "${folder##*/}"; then print_words "${folder##*/} is new."; fi
     done
 }
 
@@ -294,8 +359,8 @@ print_other_tables() {
     if [ -e "$room/accepted/all" ]; then accepted_by_all "$room/whole" > "$room/intended_tables"; fi
     without "$room/intended_tables" "$room/whole" > "$room/other_tables"
     if [ -s "$room/other_tables" ]; then
-        printf '\n## Locales with another table\n\n'
-        sed 's|^|    |' "$room/other_tables"
+        print_heading 'Locales with another table'
+        print_block < "$room/other_tables"
         [ $worst = 2 ] || worst=1
     fi
     while read -r _ table _; do
@@ -322,42 +387,107 @@ print_includes() {
     done
 }
 
+# In awk: how the includes are read, which locales share a heading, and how parts of a report are printed.
+grouping='
+    FILENAME == ARGV[1] { includes[$1, $2]; including[$2]++; next }
+    # Whether each other one of the locales includes the table of this one.
+    function is_included(locale, names, count,    n) {
+        for (n = 1; n <= count; n++) if (names[n] != locale && !((names[n], locale) in includes)) return 0
+        return 1
+    }
+    # Puts a locale among those that have something, and returns them all.
+    function with(others, locale) { return others ? others ", " locale : locale }
+    function as_html(line) {
+        gsub(/&/, "\\&#38;", line)
+        gsub(/"/, "\\&#34;", line)
+        gsub(/\047/, "\\&#39;", line)
+        gsub(/</, "\\&#60;", line)
+        gsub(/>/, "\\&#62;", line)
+        return line
+    }
+    function print_heading(level, words) {
+        if (form == "html") print "<h" level ">" words "</h" level ">"
+        else print "\n" substr("######", 1, level) " " words
+    }
+    function print_group(level, group,    names, count, n, m, locale, rest) {
+        count = split(group, names, ", ")
+        for (n = 1; n <= count && count > 3; n++) {
+            locale = names[n]
+            if (!is_included(locale, names, count)) continue
+            for (m = 1; m <= count; m++) if (m != n) rest = rest (rest ? ", " : "") names[m]
+            print_heading(level, locale " and " count - 1 (count - 1 < including[locale] ? " of the " including[locale] : "") " that include it")
+            print (form == "html" ? "<p>" rest "</p>" : "\n" rest)
+            return
+        }
+        print_heading(level, group)
+    }
+'
+
 # Prints each line of the files ./LOCALE once, below the locales that have it, as headings of a level, and says whether there is one. The lines that
 # count are left out. Lost texts (`now: none`) come first, then what is typed otherwise (`now:` and keys), then the rest.
 print_lines() {
     level=$1
     shift
-    awk -v level="$level" '
-        FILENAME == ARGV[1] { includes[$1, $2]; including[$2]++; next }
+    awk -v level="$level" -v form=$form "$grouping"'
         /^(diff|overlaps): / { next }
         { locale = substr(FILENAME, 3) }
-        !($0 in locales) { lines[++count] = $0; locales[$0] = locale; next }
-        { locales[$0] = locales[$0] ", " locale }
-        # Whether each other one of the locales includes the table of this one.
-        function is_included(locale, names, count,    n) {
-            for (n = 1; n <= count; n++) if (names[n] != locale && !((names[n], locale) in includes)) return 0
-            return 1
-        }
-        function heading(group,    names, count, n, m, locale, rest) {
-            count = split(group, names, ", ")
-            for (n = 1; n <= count && count > 3; n++) {
-                locale = names[n]
-                if (!is_included(locale, names, count)) continue
-                for (m = 1; m <= count; m++) if (m != n) rest = rest (rest ? ", " : "") names[m]
-                return locale " and " count - 1 (count - 1 < including[locale] ? " of the " including[locale] : "") " that include it\n\n" rest
-            }
-            return group
-        }
+        !($0 in locales) { lines[++count] = $0 }
+        { locales[$0] = with(locales[$0], locale) }
         END {
             for (kind = 1; kind <= 3; kind++)
                 for (n = 1; n <= count; n++) {
                     group = locales[lines[n]]
                     if (kind != (lines[n] ~ / now: none$/ ? 1 : lines[n] ~ / now: </ ? 2 : 3)) continue
                     if (!(group in seen)) { seen[group]; groups[++number] = group }
-                    below[group] = below[group] "    " lines[n] "\n"
+                    below[group] = below[group] (form == "html" ? as_html(lines[n]) : "    " lines[n]) "\n"
                 }
-            for (n = 1; n <= number; n++) printf "\n%s %s\n\n%s", level, heading(groups[n]), below[groups[n]]
+            for (n = 1; n <= number; n++) {
+                print_group(level, groups[n])
+                printf (form == "html" ? "<pre>\n%s</pre>\n" : "\n%s"), below[groups[n]]
+            }
             exit (number == 0)
+        }' "$room/includes" "$@"
+}
+
+# Prints each row of the pages ./LOCALE once, in the tables of the locales that have it.
+print_rows() {
+    awk -v form=$form "$grouping"'
+        { locale = substr(FILENAME, 3) }
+        /^(## |<h2>|<summary>).* \([0-9]+ sequences?\)/ {
+            title = $0
+            gsub(/^(## |<h2>|<summary>)| \([0-9]+ sequences?\).*$/, "", title)
+            if (!(title in caption)) { caption[title]; titles[++parts] = title }
+            if (/^<summary>/) folded[title]
+        }
+        /^(<caption>|[A-Z])/ { caption[title] = $0 }
+        /^(<thead>|\| Text )/ { head[title] = $0 }
+        !/^(<tr><td>|\| <b>)/ { next }
+        !((title, $0) in locales) { rows[title, ++count[title]] = $0 }
+        { locales[title, $0] = with(locales[title, $0], locale) }
+        function print_table(title, number, its,    rule) {
+            words = title " (" number (number == 1 ? " sequence)" : " sequences)")
+            if (title in folded) print "\n<details>\n<summary>" words "</summary>"
+            else print_heading(3, words)
+            rule = head[title]
+            gsub(/[^|]+/, "---", rule)
+            if (form == "html") printf "<table>\n%s\n%s\n<tbody>\n%s</tbody>\n</table>\n", caption[title], head[title], its
+            else printf "\n%s\n\n%s\n%s\n%s", caption[title], head[title], rule, its
+            if (title in folded) print "\n</details>"
+        }
+        END {
+            for (part = 1; part <= parts; part++)
+                for (n = 1; n <= count[titles[part]]; n++) {
+                    row = rows[titles[part], n]
+                    group = locales[titles[part], row]
+                    if (!(group in seen)) { seen[group]; groups[++number] = group }
+                    below[group, part] = below[group, part] row "\n"
+                    sums[group, part]++
+                }
+            for (n = 1; n <= number; n++) {
+                print_group(2, groups[n])
+                for (part = 1; part <= parts; part++)
+                    if ((groups[n], part) in below) print_table(titles[part], sums[groups[n], part], below[groups[n], part])
+            }
         }' "$room/includes" "$@"
 }
 
@@ -369,11 +499,22 @@ is_something_intended() {
 # Prints the changes of all locales that were compared.
 print_changes() (
     cd "$room/changes"
-    if print_lines '##' ./* || [ -s "$room/other_tables" ]; then return; fi
-    if is_something_intended; then
-        printf '\nNothing changes but what is intended.\n'
+    code=0
+    print_lines $1 ./* > "$room/lines" || code=1
+    if [ $code = 0 ]; then
+        if [ $form = text ]; then
+            cat "$room/lines"
+        else
+            cd "$room/pages"
+            print_rows ./*
+            print_folded 'Lines of lists of intended changes' < "$room/lines"
+        fi
+    elif [ -s "$room/other_tables" ]; then
+        return
+    elif is_something_intended; then
+        print_words 'Nothing changes but what is intended.'
     else
-        printf '\nNothing changes for people, and nothing is added.\n'
+        print_words 'Nothing changes for people, and nothing is added.'
     fi
 )
 
@@ -381,20 +522,17 @@ print_changes() (
 print_intended() (
     cd "$room/intended"
     if ! is_something_intended; then return; fi
-    printf '\n## Intended\n'
-    if [ -s "$room/intended_tables" ]; then
-        echo
-        sed 's|^|    |' "$room/intended_tables"
-    fi
+    print_heading Intended
+    if [ -s "$room/intended_tables" ]; then print_block < "$room/intended_tables"; fi
     set -- ./*
-    if [ -e "$1" ]; then print_lines '###' "$@" || :; fi
+    if [ -e "$1" ]; then print_lines 3 "$@" || :; fi
 )
 
 # Prints how many sequences of each locale have which word, as a table.
 print_counts() (
     cd "$room/changes"
-    printf '\n## Counts\n\n'
-    awk '
+    print_heading Counts
+    awk -v form=$form '
         /^overlaps: / { overlaps[FILENAME] = ", " $2 " overlaps before, " $7 " overlaps" }
         /^diff: / {
             locales[++number] = substr(FILENAME, 3)
@@ -409,15 +547,24 @@ print_counts() (
                 sums[word] += parts[n]
             }
         }
+        function row_of(name, numbers) {
+            if (form != "html") return "| " name numbers " |"
+            gsub(/ \| /, "</td><td>", numbers)
+            return "<tr><th scope=\"row\">" name "</th>" substr(numbers, 6) "</td></tr>"
+        }
         END {
             for (n = 1; n <= columns; n++) { head = head " | " words[n]; rule = rule "---:|"; all = all " | " sums[words[n]] }
-            print "| Locale" head " |\n|---|" rule
+            if (form == "html") {
+                gsub(/ \| /, "</th><th scope=\"col\">", head)
+                print "<table>\n<thead><tr><th scope=\"col\">Locale" head "</th></tr></thead>\n<tbody>"
+            } else print "\n| Locale" head " |\n|---|" rule
             for (m = 1; m <= number; m++) {
-                row = "| " locales[m]
+                row = ""
                 for (n = 1; n <= columns; n++) row = row " | " counts[m, words[n]] + 0
-                print row " |"
+                print row_of(locales[m], row)
             }
-            if (number > 1) print "| all" all " |"
+            if (number > 1) print row_of("all", all)
+            if (form == "html") print "</tbody>\n</table>"
         }' ./*
 )
 
@@ -426,20 +573,39 @@ print_compared() {
     set -- "$room/changes"/*
     if [ -e "$1" ]; then
         print_includes > "$room/includes"
-        print_changes
+        if [ $form = text ]; then
+            print_changes 2
+        else
+            print_counts
+            print_changes 3
+        fi
     else
         shift
     fi
     print_intended
-    if [ $# != 0 ]; then print_counts; fi
+    if [ $form = text ] && [ $# != 0 ]; then print_counts; fi
     case $# in
-    1) printf '\n1 locale was compared.\n' ;;
-    *) printf '\n%s locales were compared.\n' $# ;;
+    1) print_words '1 locale was compared.' ;;
+    *) print_words "$# locales were compared." ;;
     esac
 }
 
+# Prints the whole report, of the options for `diff`.
+print_report() {
+    compare_trees "$@"
+    print_other_tables
+    if [ -e "$room/accepted/all" ]; then check_all; fi
+    print_compared
+}
+
+# Prints what stands before a report in HTML: what stands before that of an empty table.
+begin_html() {
+    : > "$room/empty"
+    { "$composecheck" diff --format html "$room/empty" "$room/empty" || refuse "can't run $composecheck"; } | sed -e '/^<body>$/q' -e 's/ a Compose table/ Compose tables/'
+}
+
 if [ $# -lt 2 ]; then
-    echo "usage: ci.sh OLDDIR NEWDIR [OPTION..]" >&2
+    echo "usage: ci.sh OLDDIR NEWDIR [--format FORMAT] [OPTION..]" >&2
     exit 2
 fi
 composecheck=${COMPOSECHECK:-composecheck}
@@ -454,18 +620,37 @@ old=$room/old/$system new=$room/new/$system
 lay old "$1"
 lay new "$2"
 shift 2
-mkdir "$room/changes" "$room/accepted" "$room/lists" "$room/intended"
+form=text count=$#
+while [ $count != 0 ]; do
+    option=$1 count=$((count - 1))
+    shift
+    case $option in
+    --format=*) form=${option#*=} ;;
+    --format)
+        if [ $count = 0 ]; then refuse '--format without a form'; fi
+        form=$1 count=$((count - 1))
+        shift
+        ;;
+    *) set -- "$@" "$option" ;;
+    esac
+done
+case $form in
+text | markdown | html) ;;
+*) refuse "--format $form: no such form of a report" ;;
+esac
+mkdir "$room/changes" "$room/pages" "$room/accepted" "$room/lists" "$room/intended"
 : > "$room/noted"
 : > "$room/includes"
 if [ -n "$accepted" ]; then take_accepted; fi
 # (%S is the folder that each tree has below the room)
 unset XLOCALEDIR
-{
-    echo "# Changes of Compose tables"
-    compare_trees "$@"
-    print_other_tables
-    if [ -e "$room/accepted/all" ]; then check_all; fi
-    print_compared
-} > "$room/report"
+if [ $form = html ]; then
+    begin_html > "$room/report"
+    echo '<h1>Changes of Compose tables</h1>' >> "$room/report"
+else
+    echo '# Changes of Compose tables' > "$room/report"
+fi
+print_report "$@" >> "$room/report"
+if [ $form = html ]; then printf '</body>\n</html>\n' >> "$room/report"; fi
 shorten "$room/report"
 status=$worst

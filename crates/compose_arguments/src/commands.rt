@@ -250,10 +250,10 @@ static DIFF: CommandRow = CommandRow {
             letter: None,
             takes: Takes::OneOf {
                 name: "FORMAT",
-                values: &["text", "json"],
+                values: &["text", "json", "markdown", "html"],
                 default: "text",
             },
-            help: "Lines for people, or json: an object for each sequence, the kept ones too",
+            help: "Lines, or a page of tables (markdown, html), or an object for each sequence, the kept ones too (json)",
         },
         OptionRow {
             name: "color",

@@ -28,6 +28,10 @@ pub enum DiffForm {
     Json,
     /// The list that accepts them.
     AcceptList,
+    /// A page in Markdown, some of whose parts may be folded.
+    Markdown { folds: bool },
+    /// The same in HTML.
+    Html { folds: bool },
 }
 
 /// When `diff` tells changes in colours.
@@ -55,13 +59,14 @@ fn form_of(given: &ArgMatches<'_>) -> DiffForm {
     if given.get_flag("write-accept") {
         return DiffForm::AcceptList;
     }
-    if given.get_str("format") == Some("json") {
-        return DiffForm::Json;
+    let folds = !given.get_flag("no-fold");
+    match (given.get_str("format"), folds) {
+        (Some("json"), _) => DiffForm::Json,
+        (Some("markdown"), _) => DiffForm::Markdown { folds },
+        (Some("html"), _) => DiffForm::Html { folds },
+        (_, true) => DiffForm::Folded,
+        (_, false) => DiffForm::Lines,
     }
-    if given.get_flag("no-fold") {
-        return DiffForm::Lines;
-    }
-    DiffForm::Folded
 }
 
 /// When they are to be told in colours.

@@ -194,8 +194,8 @@ fn push_character(text: &mut String, character: char) -> Result<(), AllocError>
     text.push(character)
 }
 
-/// Whether a terminal may take the character for an instruction.
-fn is_unsafe(number: u32) -> bool
+/// Whether a terminal may take the character for an instruction. O(1).
+pub fn is_unsafe(number: u32) -> bool
     ensures { result ≡ shown.is_unsafe number }
 {
     matches!(number, 0..=0x1f | 0x7f..=0x9f | 0x202a..=0x202e | 0x2066..=0x2069)

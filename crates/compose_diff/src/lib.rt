@@ -43,12 +43,12 @@ pub use answer::{Printed, answer_diff};
 pub use color::colored_text;
 pub use counts::{Counts, loses_nothing};
 pub use fold::{diff_text, folded_text};
-pub use json::{json_text, push_json_string};
+pub use json::{is_unsafe, json_text, push_json_string};
 pub use json_counts::json_answer;
 pub use line::is_loss;
 pub use lost::{is_lost, lost_rows};
 pub use order::sort_rows;
-pub use overlaps::Overlaps;
+pub use overlaps::{Overlaps, push_overlaps};
 pub use row::{DiffRow, Entry, NewSequence};
 
 /// Each group of rows has all that fold together with one row, in the order in which they were, or is a row alone that folds together

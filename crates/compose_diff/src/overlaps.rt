@@ -12,8 +12,8 @@ pub struct Overlaps {
     pub new: usize,
 }
 
-/// Appends the line that counts overlaps, if there are any, to the text.
-pub(crate) fn push_overlaps(text: &mut String, overlaps: Overlaps) -> Result<(), AllocError>
+/// Appends the line that counts overlaps, if there are any, to the text. O(1).
+pub fn push_overlaps(text: &mut String, overlaps: Overlaps) -> Result<(), AllocError>
     ensures { OnOk result
         (string_bytes text.new ≡ string_bytes text.old ++ words.overlaps_line overlaps) }
 {

@@ -28,9 +28,10 @@ use Rattle.compose_diff.specs.Told.{answer_text}
 use Rattle.compose_diff.specs.declared.accepted.AcceptFault.TheVariants.{Stale, BadLine, NoMemory}
 use Rattle.compose_diff.specs.declared.overlaps.Overlaps.{Overlaps}
 use Rattle.compose_diff.specs.declared.row.DiffRow.{DiffRow}
+use Rattle.compose_page.specs.Page.{page_text}
 use Rattle.compose_diff_rows.specs.Rows.{Written, told_row, told_rows, kept_rows}
 use Rattle.compose_diff_rows.specs.declared.asking.Form.{Form}
-use Rattle.compose_diff_rows.specs.declared.asking.Form.TheVariants.{Folded, Lines, Json, AcceptList}
+use Rattle.compose_diff_rows.specs.declared.asking.Form.TheVariants.{Folded, Lines, Json, AcceptList, Page}
 use Rattle.compose_diff_rows.specs.declared.asking.DiffInput.{DiffInput}
 use Rattle.compose_diff_rows.specs.declared.asking.DiffFault.{DiffFault}
 use Rattle.compose_diff_rows.specs.declared.asking.DiffFault.TheVariants.{Input, Accept}
@@ -130,6 +131,7 @@ form_text Folded lost_alone overlaps rows left = answer_text (record { folds = t
 form_text Lines lost_alone overlaps rows left = answer_text (record { folds = false; lost_alone = lost_alone }) overlaps rows left
 form_text Json lost_alone overlaps rows left = json_answer lost_alone overlaps rows left
 form_text AcceptList lost_alone overlaps rows left = accept_lines (shown_rows lost_alone left)
+form_text (Page markup folds) lost_alone overlaps rows left = page_text markup (record { folds = folds; lost_alone = lost_alone }) overlaps rows left
 
 -- yes where nobody meets any of the rows that are left
 abbrev pub IsTold : Form → Bool → Overlaps → List DiffRow → List DiffRow → Answer → Type 0

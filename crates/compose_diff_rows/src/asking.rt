@@ -2,6 +2,7 @@
 use compose_answer::Refusal;
 use compose_diff::AcceptFault;
 use compose_migration::MigrationInput;
+use compose_page::Markup;
 use std::alloc::{AllocError, AllocFailed};
 use thiserror::Error;
 
@@ -16,6 +17,8 @@ pub enum Form {
     Json,
     /// As the list that accepts them.
     AcceptList,
+    /// As a page that people read, some of whose parts may be folded.
+    Page { markup: Markup, folds: bool },
 }
 
 /// What `diff` is asked.

@@ -25,6 +25,7 @@ use compose_diff::{
 };
 use compose_fresh::check_fresh;
 use compose_lookup::TextIndex;
+use compose_page::page_text;
 use compose_tree::ComposeTable;
 use keysym_core::{Keysym, Names};
 use std::alloc::{AllocError, Global};
@@ -138,7 +139,7 @@ fn tells_kept(form: Form) -> bool
 {
     match form {
         Form::Json => true,
-        Form::Folded | Form::Lines | Form::AcceptList => false,
+        Form::Folded | Form::Lines | Form::AcceptList | Form::Page { .. } => false,
     }
 }
 
@@ -198,6 +199,12 @@ fn answer_rows(
             let left = accepted.leave_out(alloc, rows)?;
             let shown = shown_rows(alloc, &left, lost_alone)?;
             Ok(answer_on(&left, accept_text(alloc, &shown)?))
+        }
+        Form::Page { markup, folds } => {
+            let printed = Printed { folds, lost_alone };
+            let left = accepted.leave_out(alloc, rows)?;
+            let text = page_text(alloc, rows, &left, markup, printed, overlaps)?;
+            Ok(answer_on(&left, text))
         }
     }
 }

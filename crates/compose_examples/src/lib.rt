@@ -40,6 +40,8 @@ mod making;
 #[cfg(test)]
 mod messages;
 #[cfg(test)]
+mod paging;
+#[cfg(test)]
 mod places;
 #[cfg(test)]
 mod rows;

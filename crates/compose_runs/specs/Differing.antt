@@ -18,7 +18,8 @@ use Rattle.compose_diff_rows.specs.Answers.{Asked, AnswersDiff}
 use Rattle.compose_diff_rows.specs.declared.asking.DiffFault.{DiffFault}
 use Rattle.compose_diff_rows.specs.declared.asking.DiffFault.TheVariants.{Input, Accept}
 use Rattle.compose_diff_rows.specs.declared.asking.Form.{Form}
-use Rattle.compose_diff_rows.specs.declared.asking.Form.TheVariants.{Folded, Lines, Json, AcceptList}
+use Rattle.compose_diff_rows.specs.declared.asking.Form.TheVariants.{Folded, Lines, Json, AcceptList, Page}
+use Rattle.compose_page.specs.declared.markup.Markup.TheVariants.{Markdown, Html}
 use Rattle.compose_details.specs.Files.{said_at}
 use Rattle.compose_details.specs.Given.{IsGiven, parts_of}
 use Rattle.compose_details.specs.declared.given.Given.{Given}
@@ -38,6 +39,8 @@ form_of forms.Folded = Folded
 form_of forms.Lines = Lines
 form_of forms.Json = Json
 form_of forms.AcceptList = AcceptList
+form_of (forms.Markdown folds) = Page Markdown folds
+form_of (forms.Html folds) = Page Html folds
 
 abbrev pub diff_asked : DiffFiles → DiffArguments → List (List ℕ) → Asked
 diff_asked files arguments fresh = record {
@@ -49,7 +52,7 @@ diff_asked files arguments fresh = record {
   form = form_of arguments.form;
 }
 
--- ---- colours: the forms for programs never have them
+-- ---- colours: pages and the forms for programs never have them
 
 abbrev pub colored_by : Environment → DiffColor → Said Bool
 colored_by environment Always = Ok true
@@ -59,6 +62,8 @@ colored_by environment Auto = wants_color environment
 abbrev pub is_colored_in : Environment → DiffForm → DiffColor → Said Bool
 is_colored_in environment forms.Json color = Ok false
 is_colored_in environment forms.AcceptList color = Ok false
+is_colored_in environment (forms.Markdown folds) color = Ok false
+is_colored_in environment (forms.Html folds) color = Ok false
 is_colored_in environment form color = colored_by environment color
 
 abbrev pub is_colored : Environment → DiffArguments → Said Bool

@@ -19,6 +19,7 @@ use compose_diff_rows::{DiffFault, DiffInput, Form, diff_migration};
 use compose_folder::{Folder, ReadOnce};
 use compose_input::{Fault, NameFiles, read_text};
 use compose_messages::{FileMessage, Message, Position};
+use compose_page::Markup;
 use compose_report::{Outcome, outcome_of, outcome_with};
 use compose_tree::ComposeTable;
 use std::alloc::{AllocError, Global};
@@ -127,15 +128,29 @@ fn form_of(form: DiffForm) -> Form
         DiffForm::Lines => Form::Lines,
         DiffForm::Json => Form::Json,
         DiffForm::AcceptList => Form::AcceptList,
+        DiffForm::Markdown { folds } => Form::Page {
+            markup: Markup::Markdown,
+            folds,
+        },
+        DiffForm::Html { folds } => Form::Page {
+            markup: Markup::Html,
+            folds,
+        },
     }
 }
 
-/// Whether the lines are in colours: those for programs never are.
+/// Whether the lines are in colours: a page and what is for programs never is.
 fn is_colored(environment: &Environment, arguments: &DiffArguments<'_>) -> Result<bool, Fault>
     ensures { GivesColor result (words.is_colored environment.now arguments.now) }
 {
     match (arguments.form, arguments.color) {
-        (DiffForm::Json | DiffForm::AcceptList, _) => Ok(false),
+        (
+            DiffForm::Json
+            | DiffForm::AcceptList
+            | DiffForm::Markdown { .. }
+            | DiffForm::Html { .. },
+            _,
+        ) => Ok(false),
         (_, DiffColor::Always) => Ok(true),
         (_, DiffColor::Never) => Ok(false),
         (_, DiffColor::Auto) => environment.wants_color(),

@@ -1,0 +1,158 @@
+//! The keys of sequences, and in which keys two sequences differ.
+ghost use Rattle.std.specs.Prelude.{◌≡◌, ◌≤◌, ◌++◌, length, map, OnOk, string_bytes};
+ghost use Rattle.compose_page.specs.Keys as words;
+
+use crate::markup::{Markup, push_escaped};
+use std::alloc::AllocError;
+
+/// Appends each key, after a blank, to the text.
+pub(crate) fn push_keys(text: &mut String, markup: Markup, keys: &[&str]) -> Result<(), AllocError>
+    ensures { OnOk result
+        (string_bytes text.new
+        ≡ string_bytes text.old ++ words.keys_part markup (map (λ key. key.now) keys.now)) }
+{
+    push_between(text, markup, " <kbd>", keys, "</kbd>")
+}
+
+/// Appends each key between two texts to the text.
+fn push_between(
+    text: &mut String,
+    markup: Markup,
+    before: &str,
+    keys: &[&str],
+    after: &str,
+) -> Result<(), AllocError>
+    ensures { OnOk result
+        (string_bytes text.new
+        ≡ string_bytes text.old
+        ++ words.keys_between markup before.now after.now (map (λ key. key.now) keys.now)) }
+{
+    for key in keys {
+        text.push_str(before)?;
+        push_escaped(text, markup, key)?;
+        text.push_str(after)?;
+    }
+    Ok(())
+}
+
+/// Appends the keys of the old sequence of a text, those struck that the new one doesn't have at
+/// their place, to the text.
+pub(crate) fn push_old_keys(
+    text: &mut String,
+    markup: Markup,
+    old: &[&str],
+    new: &[&str],
+) -> Result<(), AllocError>
+    ensures { OnOk result
+        (string_bytes text.new
+        ≡ string_bytes text.old
+        ++ words.old_keys markup (map (λ key. key.now) old.now) (map (λ key. key.now) new.now)) }
+{
+    push_marked(text, markup, " <del><kbd>", old, "</kbd></del>", new)
+}
+
+/// Appends the keys of the new sequence of a text, those underlined that the old one doesn't have
+/// at their place, to the text.
+pub(crate) fn push_new_keys(
+    text: &mut String,
+    markup: Markup,
+    old: &[&str],
+    new: &[&str],
+) -> Result<(), AllocError>
+    ensures { OnOk result
+        (string_bytes text.new
+        ≡ string_bytes text.old
+        ++ words.new_keys markup (map (λ key. key.now) old.now) (map (λ key. key.now) new.now)) }
+{
+    push_marked(text, markup, " <ins><kbd>", new, "</kbd></ins>", old)
+}
+
+/// Appends the keys to the text. Those between the keys with which others begin too, and those with
+/// which they end too, are each between the two texts.
+fn push_marked(
+    text: &mut String,
+    markup: Markup,
+    before: &str,
+    keys: &[&str],
+    after: &str,
+    others: &[&str],
+) -> Result<(), AllocError>
+    ensures { OnOk result
+        (string_bytes text.new
+        ≡ string_bytes text.old
+        ++ words.marked_keys markup before.now after.now (map (λ key. key.now) keys.now)
+        (map (λ key. key.now) others.now)) }
+{
+    let start = common_start(keys, others);
+    let (shared, rest) = keys.split_at(start);
+    let (_, other_rest) = others.split_at(start);
+    push_keys(text, markup, shared)?;
+    push_after(text, markup, before, rest, after, other_rest)
+}
+
+/// Appends the keys to the text, but for those at the end with which others end too each between
+/// the two texts.
+fn push_after(
+    text: &mut String,
+    markup: Markup,
+    before: &str,
+    rest: &[&str],
+    after: &str,
+    others: &[&str],
+) -> Result<(), AllocError>
+    ensures { OnOk result
+        (string_bytes text.new
+        ≡ string_bytes text.old
+        ++ words.marked_after markup before.now after.now (map (λ key. key.now) rest.now)
+        (map (λ key. key.now) others.now)) }
+{
+    let (own, end) = rest.split_at(own_count(rest, others));
+    push_between(text, markup, before, own, after)?;
+    push_keys(text, markup, end)
+}
+
+/// How many keys come before those with which others end too.
+fn own_count(rest: &[&str], others: &[&str]) -> usize
+    ensures value { result
+        ≡ words.own_count (map (λ key. key.now) rest.now) (map (λ key. key.now) others.now) }
+    ensures fits { result ≤ length rest.now }
+{
+    rest.len() - common_end(rest, others)
+}
+
+/// With how many keys both sequences begin.
+fn common_start(keys: &[&str], others: &[&str]) -> usize
+    ensures value { result
+        ≡ words.common_start (map (λ key. key.now) keys.now) (map (λ key. key.now) others.now) }
+    ensures fits { result ≤ length keys.now }
+    ensures fits_other { result ≤ length others.now }
+{
+    let Some((key, keys)) = keys.split_first() else {
+        return 0;
+    };
+    let Some((other, others)) = others.split_first() else {
+        return 0;
+    };
+    if key != other {
+        return 0;
+    }
+    1 + common_start(keys, others)
+}
+
+/// With how many keys both sequences end.
+fn common_end(keys: &[&str], others: &[&str]) -> usize
+    ensures value { result
+        ≡ words.common_end (map (λ key. key.now) keys.now) (map (λ key. key.now) others.now) }
+    ensures fits { result ≤ length keys.now }
+{
+    let Some((key, keys)) = keys.split_last() else {
+        return 0;
+    };
+    let Some((other, others)) = others.split_last() else {
+        return 0;
+    };
+    if key != other {
+        return 0;
+    }
+    1 + common_end(keys, others)
+}
