@@ -16,4 +16,5 @@ pub mod Reports
 pub mod WrittenKeys
 pub mod Listing
 pub mod HowTo
+pub mod Stored
 pub mod Updating

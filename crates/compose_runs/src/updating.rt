@@ -5,9 +5,9 @@ ghost use Rattle.compose_runs.specs.Updating.{FailsStored, IsRepertoire, IsUpdat
 ghost use Rattle.compose_update.specs.Update.{given_update};
 
 use crate::environment::{Environment, PlaceArguments};
+use crate::stored::read_stored;
 use compose_answer::{Ended, Refusal};
 use compose_arguments::UpdateArguments;
-use compose_bundle::{BundleFault, read_bundle};
 use compose_details::{Given, GivenTable};
 use compose_folder::{Folder, ReadOnce};
 use compose_input::{Fault, NameFiles, TableFiles, read_text};
@@ -127,14 +127,9 @@ fn update_stored<T: ComposeTable>(
         (Some stored.now) run) }
     ensures fault { IfErr result (λ fault. FailsStored (Some stored.now) fault) }
 {
-    match read_bundle(alloc, stored) {
-        Ok(bundle) => {
-            let current = Some(&bundle.sources);
-            Ok(update_of::<T>(alloc, files, verbose, fresh, current)?)
-        }
-        Err(BundleFault::NoMemory) => Err(Fault::NoMemory),
-        Err(fault) => Err(Fault::refused("state", format!(in alloc; "{fault}"))),
-    }
+    let bundle = read_stored(alloc, "", stored)?;
+    let current = Some(&bundle.sources);
+    Ok(update_of::<T>(alloc, files, verbose, fresh, current)?)
 }
 
 /// What an update does with these files, where a table of these sources is in use.
