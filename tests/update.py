@@ -89,7 +89,8 @@ def try_decisions(program, tell):
         write(folder, "repertoire", "keys 0x20 0x7e\nU+2260\n")
         unreachable = (1, "unreachable U+2260\n", "")
         tell.check("a character that can't be typed", update(program, folder, "follows", "--repertoire", "repertoire"), unreachable)
-        tell.check("what is kept is no bundle", (write(os.path.join(folder, "state"), "table", "x"), update(program, folder, "old")[0])[1], 2)
+        write(os.path.join(folder, "state"), "table", "x")
+        tell.check("what is kept is no bundle", update(program, folder, "old"), (2, "", "refused: state: 1 Form\n"))
 
 
 def try_meant(program, tell):

@@ -4,23 +4,17 @@ use crate::at_once::serve_many;
 use crate::connection_ends::{EndLines, print_text};
 use crate::next_connection::next_connection;
 use crate::output::put;
-use compose_answer::{Answer, Ended, Refusal};
-use compose_arguments::{ServeArguments, Served};
-use compose_bundle::{BundleFault, read_bundle};
-use compose_details::{Given, GivenTable};
+use compose_answer::Ended;
+use compose_arguments::ServeArguments;
 use compose_folder::{Folder, ReadOnce};
 use compose_hub::ConnectionEnd;
-use compose_input::{Fault, NameFiles, TableFiles, read_text};
-use compose_model::Rule;
-use compose_read::Sources;
-use compose_report::{Outcome, outcome_of, outcome_with};
+use compose_input::Fault;
 use compose_runs::Options;
 use compose_serve::{Device, serve};
 use compose_service::Service;
-use compose_serving::{BeginFault, BeginInput, allow_fresh, begin};
+use compose_service_runs::start_service;
 use compose_socket::{SocketFault, SocketFile, listener_of_systemd};
 use compose_tree::ComposeTable;
-use std::alloc::{AllocError, Global};
 use std::fs;
 use std::net::Net;
 use std::os::unix::net::UnixListener;
@@ -35,20 +29,9 @@ pub fn serve_files<T: ComposeTable, F: Folder>(
     arguments: &ServeArguments<'_>,
     allowed: Option<&[&str]>,
 ) -> Result<Ended, Fault> {
-    let begun = ServiceFiles::read(files, rt.alloc(), options.names, arguments)?;
-    match begun.begin_allowing::<T>(rt.alloc(), allowed) {
+    match start_service::<T, F>(rt.alloc(), files, options, arguments, allowed)? {
         Ok(mut service) => serve_on_socket(rt, process_id, &mut service, arguments),
-        Err(fault) => {
-            let outcome = start_outcome::<T, F>(
-                rt.alloc(),
-                files,
-                options,
-                arguments,
-                allowed,
-                fault,
-            );
-            put(rt, options.verbose, outcome)
-        }
+        Err(outcome) => put(rt, options.verbose, Ok(outcome)),
     }
 }
 
@@ -81,171 +64,6 @@ fn serve_listener<T: ComposeTable>(
         (None, Some(_)) => serve_many(rt, listener, service, arguments, 1),
         (None, None) => serve_connections(rt, &listener, service, arguments),
     }
-}
-
-/// The files of a service.
-#[derive(Drop)]
-struct ServiceFiles<'n> {
-    names: NameFiles<'n>,
-    table: TableFiles,
-    repertoire: Vec<u8>,
-    certificate: Vec<u8>,
-}
-
-impl<'n> ServiceFiles<'n> {
-    /// Reads the names, the table, the repertoire and the certificate.
-    fn read<F: Folder>(
-        files: &mut ReadOnce<F>,
-        alloc: Global,
-        names: &[&'n str],
-        arguments: &ServeArguments<'_>,
-    ) -> Result<ServiceFiles<'n>, Fault> {
-        match arguments.served {
-            Served::Files {
-                table,
-                repertoire,
-                certificate,
-            } => {
-                let names = NameFiles::read(files, alloc, names)?;
-                let table = TableFiles::listed(files, alloc, "table", table)?;
-                let repertoire = read_text(files, alloc, repertoire)?;
-                let certificate = read_text(files, alloc, certificate)?;
-                Ok(ServiceFiles {
-                    names,
-                    table,
-                    repertoire,
-                    certificate,
-                })
-            }
-            Served::State { folder } => ServiceFiles::kept(files, alloc, folder),
-        }
-    }
-
-    /// Reads the table that `update` keeps in the folder at this path, with the names that are built in and an empty repertoire.
-    fn kept<F: Folder>(
-        files: &mut ReadOnce<F>,
-        alloc: Global,
-        folder: &str,
-    ) -> Result<ServiceFiles<'n>, Fault> {
-        let builtin: &'n str = "builtin";
-        let names = NameFiles::read(files, alloc, &[builtin])?;
-        let path = format!(in alloc; "{folder}/table")?;
-        let bytes = read_text(files, alloc, &path)?;
-        match read_bundle(alloc, &bytes) {
-            Ok(bundle) => Ok(ServiceFiles {
-                names,
-                table: kept_table(alloc, path, bundle.sources)?,
-                repertoire: Vec::new(alloc),
-                certificate: Vec::from_slice(alloc, bundle.certificate)?,
-            }),
-            Err(BundleFault::NoMemory) => Err(Fault::NoMemory),
-            Err(fault) => Err(Fault::refused("state", format!(in alloc; "{path}: {fault}"))),
-        }
-    }
-
-    /// The service that begins with them, whose loads may list these keysyms alone as fresh, if some are given.
-    fn begin_allowing<T: ComposeTable>(
-        self,
-        alloc: Global,
-        allowed: Option<&[&str]>,
-    ) -> Result<Service<T>, BeginFault> {
-        let service = self.begin::<T>(alloc)?;
-        let Some(key_names) = allowed else {
-            return Ok(service);
-        };
-        match allow_fresh(alloc, service, key_names) {
-            Ok(service) => Ok(service),
-            Err(refusal) => Err(BeginFault::Refused(refusal)),
-        }
-    }
-
-    /// The service that begins with them.
-    fn begin<T: ComposeTable>(self, alloc: Global) -> Result<Service<T>, BeginFault> {
-        let (sources, rule) = self.table.into_parts();
-        let input = BeginInput {
-            header: &self.names.lines,
-            repertoire: &self.repertoire,
-            rule,
-            certificate: &self.certificate,
-        };
-        begin::<T>(alloc, &input, sources)
-    }
-}
-
-/// A table that is kept at this path, whose sources are called as they were when it was taken into use.
-fn kept_table(alloc: Global, path: String, sources: Sources) -> Result<TableFiles, AllocError> {
-    let mut paths = Vec::new(alloc);
-    for index in 0..sources.count() {
-        paths.push(String::from_str(alloc, sources.name(index).unwrap_or(""))?)?;
-    }
-    Ok(TableFiles {
-        path,
-        paths,
-        sources,
-        rule: Rule::Longest,
-        note: String::new(alloc),
-    })
-}
-
-/// The paths of the repertoire and of the certificate; those of a table that is kept are in its own file.
-fn other_paths<'a>(served: &Served<'a>) -> (&'a str, &'a str) {
-    match served {
-        Served::Files {
-            repertoire,
-            certificate,
-            ..
-        } => (*repertoire, *certificate),
-        Served::State { folder } => (*folder, *folder),
-    }
-}
-
-/// What is answered where no service begins.
-fn answered(fault: BeginFault) -> Result<Answer, Refusal> {
-    match fault {
-        BeginFault::Invalid(fault) => Ok(Answer::Invalid(fault)),
-        BeginFault::Refused(refusal) => Err(refusal),
-    }
-}
-
-/// The outcome where no service begins with the files. With `-v` the files are read again, of what was read, since the service took
-/// their bytes over.
-fn start_outcome<T: ComposeTable, F: Folder>(
-    alloc: Global,
-    files: &mut ReadOnce<F>,
-    options: Options<'_>,
-    arguments: &ServeArguments<'_>,
-    allowed: Option<&[&str]>,
-    fault: BeginFault,
-) -> Result<Outcome, Fault> {
-    let key_names = allowed.unwrap_or(&[]);
-    if !options.verbose {
-        return Ok(outcome_with(alloc, key_names, answered(fault), String::new(alloc))?);
-    }
-    let read = ServiceFiles::read(files, alloc, options.names, arguments)?;
-    Ok(detailed_outcome::<T>(alloc, arguments, key_names, &read, fault)?)
-}
-
-/// The same outcome, with what there is to say of it.
-fn detailed_outcome<T: ComposeTable>(
-    alloc: Global,
-    arguments: &ServeArguments<'_>,
-    key_names: &[&str],
-    files: &ServiceFiles<'_>,
-    fault: BeginFault,
-) -> Result<Outcome, AllocError> {
-    let table = GivenTable::of(&files.table);
-    let (repertoire, certificate) = other_paths(&arguments.served);
-    let given = Given {
-        headers: &files.names.files,
-        header: &files.names.lines,
-        arguments: key_names,
-        tables: &[table, table],
-        repertoire,
-        certificate,
-        certificate_text: &files.certificate,
-        all: false,
-    };
-    outcome_of::<T>(alloc, true, &given, answered(fault))
 }
 
 /// The listener that systemd hands over, or else one on a new socket file.

@@ -14,6 +14,8 @@ mod checking;
 #[cfg(test)]
 mod differing;
 #[cfg(test)]
+mod exchanging;
+#[cfg(test)]
 mod explaining;
 #[cfg(test)]
 mod faults;

@@ -16,5 +16,6 @@ pub mod Reports
 pub mod WrittenKeys
 pub mod Listing
 pub mod HowTo
+pub mod Stored
 pub mod Updating
 pub mod Linting

@@ -29,6 +29,7 @@ use Rattle.compose_update.specs.declared.deciding.UpdateFault.{UpdateFault}
 use Rattle.compose_update.specs.declared.deciding.UpdateFault.TheVariants.{Input, TooLarge}
 use Rattle.compose_runs.specs.Differing.{IsAcceptRefusal}
 use Rattle.compose_runs.specs.Environment.{IsPlaced}
+use Rattle.compose_runs.specs.Stored.{IsDamaged}
 use Rattle.compose_runs.specs.declared.environment.Environment.{Environment}
 use Rattle.compose_runs.specs.declared.environment.PlaceArguments.{PlaceArguments}
 use Rattle.compose_runs.specs.declared.updating.MeantChanges.{MeantChanges}
@@ -153,8 +154,7 @@ pub record IsUpdateRun (verbose : Bool) (files : UpdateFiles) (fresh : List (Lis
   pub is_current : IsCurrent stored current
   pub is : IsUpdateOf verbose files fresh current run
 
--- what is stored is no bundle: the fault says that the state is refused, and why, in words of which nothing is said; or memory ran out
+-- what is stored is no bundle, and nothing more is said of where it is; or memory ran out
 abbrev pub FailsStored : Option (List ℕ) → Fault → Type 0
-FailsStored stored faults.NoMemory = Unit {0}
-FailsStored (Some bytes) (faults.Refused part why) = ((bundle : Bundle) → ¬ (IsBundle bytes bundle)) × (part.now ≡ codes "state")
-FailsStored stored fault = ⊥
+FailsStored None fault = fault ≡ faults.NoMemory
+FailsStored (Some bytes) fault = IsDamaged [] bytes fault

@@ -7,9 +7,9 @@ ghost use Rattle.compose_update.specs.Update.{Updates, given_update};
 
 use crate::differing::accept_outcome;
 use crate::environment::{Environment, PlaceArguments};
+use crate::stored::read_stored;
 use compose_answer::{Answer, Ended, Refusal};
 use compose_arguments::UpdateArguments;
-use compose_bundle::{BundleFault, read_bundle};
 use compose_details::{Given, GivenTable};
 use compose_diff_rows::{DiffFault, DiffInput, Form, diff_migration};
 use compose_folder::{Folder, ReadOnce};
@@ -172,14 +172,9 @@ fn update_stored<T: ComposeTable>(
         (Some stored.now) run) }
     ensures fault { IfErr result (λ fault. FailsStored (Some stored.now) fault) }
 {
-    match read_bundle(alloc, stored) {
-        Ok(bundle) => {
-            let current = Some(&bundle.sources);
-            Ok(update_of::<T>(alloc, files, verbose, fresh, current)?)
-        }
-        Err(BundleFault::NoMemory) => Err(Fault::NoMemory),
-        Err(fault) => Err(Fault::refused("state", format!(in alloc; "{fault}"))),
-    }
+    let bundle = read_stored(alloc, "", stored)?;
+    let current = Some(&bundle.sources);
+    Ok(update_of::<T>(alloc, files, verbose, fresh, current)?)
 }
 
 /// What an update does with these files, where a table of these sources is in use.

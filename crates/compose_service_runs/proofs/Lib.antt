@@ -1,0 +1,2 @@
+pub mod SourceNames
+pub mod Underway

@@ -1,0 +1,84 @@
+-- An exchange that is underway.
+use Rattle.std.proofs.Common.{◌≡◌, ◌∙◌, ◌<◌, ◌+◌, ap, sym, refl, ℕ, Bool, true, false, if◌then◌else◌, List, [], ◌∷◌, ◌++◌, drop, length, get_or, append-nil}
+use Rattle.std.specs.Prelude.{Option, Some, None}
+use Rattle.std.proofs.lemmas.List.{append_assoc, drop_more}
+use Rattle.compose_wire.specs.declared.request.Request.{Request}
+use Rattle.compose_wire.specs.declared.reply.Reply.{Reply}
+use Rattle.compose_service_runs.specs.Turns.{Turn, is_refusal, then_turns, turns_of}
+
+-- the turns so far; and whatever is replied to the requests that are left comes after them
+pub record IsUnderway (before now : Option (List Turn)) (requests : List Request) (index : ℕ) (replies : List Reply) : Type 0 where
+  pub done : List Turn
+  pub turns : now ≡ then_turns before done
+  pub goes_on : (more : List Reply) → turns_of requests (replies ++ more) ≡ done ++ turns_of (drop index requests) more
+
+abbrev turn : Request → Option Reply → Turn
+turn q r = record { request = q; reply = r }
+
+none_more : (turns : Option (List Turn)) → turns ≡ then_turns turns []
+none_more None = refl
+none_more (Some turns) = ap Some (sym (append-nil turns))
+
+then_more : (turns : Option (List Turn)) (a b : List Turn) → then_turns (then_turns turns a) b ≡ then_turns turns (a ++ b)
+then_more None a b = refl
+then_more (Some turns) a b = ap Some (append_assoc turns a b)
+
+-- nothing is sent
+pub begin_turns : (before : Option (List Turn)) (requests : List Request) → IsUnderway before before requests 0 []
+begin_turns before requests = record { done = []; turns = none_more before; goes_on = λ more. refl }
+
+-- what comes of the next request and these replies
+next_turns : (before now : Option (List Turn)) (requests : List Request) (i : ℕ) (d : Request) (replies more : List Reply) → (u : IsUnderway before now requests i replies) → i < length requests
+    → turns_of requests (replies ++ more) ≡ u.done ++ turns_of (get_or requests i d ∷ drop (i + 1) requests) more
+next_turns before now requests i d replies more u within = u.goes_on more ∙ ap (λ rest. u.done ++ turns_of rest more) (drop_more requests i d within)
+
+goes_on_by : (b : Bool) (a : Turn) (rest : List Turn) → b ≡ false → a ∷ (if b then [] else rest) ≡ a ∷ rest
+goes_on_by false a rest is = refl
+goes_on_by true a rest is = cc
+
+ends_by : (b : Bool) (a : Turn) (rest : List Turn) → b ≡ true → a ∷ (if b then [] else rest) ≡ a ∷ []
+ends_by true a rest is = refl
+ends_by false a rest is = cc
+
+-- the next request is answered
+pub next_answered : (before now after : Option (List Turn)) (requests : List Request) (i : ℕ) (d : Request) (replies : List Reply) (r : Reply)
+    → IsUnderway before now requests i replies → i < length requests → is_refusal r.answer ≡ false
+    → after ≡ then_turns now (turn (get_or requests i d) (Some r) ∷ []) → IsUnderway before after requests (i + 1) (replies ++ r ∷ [])
+next_answered before now after requests i d replies r u within goes is =
+    let q = get_or requests i d in let one = turn q (Some r) in
+    record {
+      done = u.done ++ one ∷ [];
+      turns = is ∙ (ap (λ turns. then_turns turns (one ∷ [])) u.turns ∙ then_more before u.done (one ∷ []));
+      goes_on = λ more.
+          ap (turns_of requests) (append_assoc replies (r ∷ []) more)
+          ∙ (next_turns before now requests i d replies (r ∷ more) u within
+          ∙ (ap (λ turns. u.done ++ turns) (goes_on_by (is_refusal r.answer) one (turns_of (drop (i + 1) requests) more) goes)
+          ∙ sym (append_assoc u.done (one ∷ []) (turns_of (drop (i + 1) requests) more))));
+    }
+
+-- it is refused
+pub next_refused : (before now after : Option (List Turn)) (requests : List Request) (i : ℕ) (d : Request) (replies : List Reply) (r : Reply)
+    → IsUnderway before now requests i replies → i < length requests → is_refusal r.answer ≡ true
+    → after ≡ then_turns now (turn (get_or requests i d) (Some r) ∷ []) → after ≡ then_turns before (turns_of requests (replies ++ r ∷ []))
+next_refused before now after requests i d replies r u within ends is =
+    let one = turn (get_or requests i d) (Some r) in
+    is ∙ (ap (λ turns. then_turns turns (one ∷ [])) u.turns
+    ∙ (then_more before u.done (one ∷ [])
+    ∙ ap (then_turns before) (sym (next_turns before now requests i d replies (r ∷ []) u within
+    ∙ ap (λ turns. u.done ++ turns) (ends_by (is_refusal r.answer) one (turns_of (drop (i + 1) requests) []) ends)))))
+
+-- the other side closes before it is answered
+pub next_closed : (before now after : Option (List Turn)) (requests : List Request) (i : ℕ) (d : Request) (replies : List Reply)
+    → IsUnderway before now requests i replies → i < length requests
+    → after ≡ then_turns now (turn (get_or requests i d) None ∷ []) → after ≡ then_turns before (turns_of requests replies)
+next_closed before now after requests i d replies u within is =
+    let one = turn (get_or requests i d) None in
+    is ∙ (ap (λ turns. then_turns turns (one ∷ [])) u.turns
+    ∙ (then_more before u.done (one ∷ [])
+    ∙ ap (then_turns before) (sym (ap (turns_of requests) (sym (append-nil replies)) ∙ next_turns before now requests i d replies [] u within))))
+
+-- none is left
+pub all_answered : (before now : Option (List Turn)) (requests : List Request) (i : ℕ) (replies : List Reply)
+    → IsUnderway before now requests i replies → drop i requests ≡ [] → now ≡ then_turns before (turns_of requests replies)
+all_answered before now requests i replies u none =
+    u.turns ∙ ap (then_turns before) (sym (ap (turns_of requests) (sym (append-nil replies)) ∙ (u.goes_on [] ∙ (ap (λ rest. u.done ++ turns_of rest []) none ∙ append-nil u.done))))

@@ -1,0 +1,132 @@
+-- What `load` and `session` send, and what they print of the replies (this project's profile: docs/PROTOCOL.md).
+use Rattle.std.specs.Prelude.{◌≡◌, ◌⊎◌, ◌<◌, ℕ, Bool, true, false, List, [], ◌∷◌, ◌++◌, map, length, Option, Some, None, option_map, if◌then◌else◌, Result, Ok, Err, codes}
+use Rattle.keysym_core.specs.Core.{core_names}
+use Rattle.compose_folder.specs.Content.{Entry, File, IsHeld}
+use Rattle.compose_model.specs.declared.Rule.{Rule}
+use Rattle.compose_bundle.specs.Bundle.{Bundle, BundleFits, bundle_bytes}
+use Rattle.compose_bundle.specs.Written.{max_payload}
+use Rattle.compose_migration.specs.Migration.{NamedParts}
+use Rattle.compose_wire.specs.declared.request.Request.{Request}
+use Rattle.compose_wire.specs.declared.reply.Reply.{Reply}
+use Rattle.compose_session.specs.Asked.{LoadGives, asks, bodies_of}
+use Rattle.compose_session.specs.Told.{report_of, reported}
+use Rattle.compose_session.specs.declared.asked.Asked.{Asked}
+use Rattle.compose_session.specs.declared.told.Report.{Report}
+use Rattle.compose_answer.specs.Parts.{given_key_names}
+use Rattle.compose_answer.specs.Refused.{IsRefused}
+use Rattle.compose_answer.specs.declared.refusal.Refusal.{Refusal}
+use Rattle.compose_arguments.specs.declared.client_arguments.LoadArguments.{LoadArguments}
+use Rattle.compose_arguments.specs.declared.client_arguments.SessionArguments.{SessionArguments}
+use Rattle.compose_details.specs.Given.{IsGiven, parts_of}
+use Rattle.compose_details.specs.declared.given.Given.{Given}
+use Rattle.compose_input.specs.Names.{AreNames}
+use Rattle.compose_input.specs.Tables.{IsListed}
+use Rattle.compose_input.specs.Texts.{IsRead}
+use Rattle.compose_input.specs.Faults.{FailNames, FailsListed}
+use Rattle.compose_input.specs.declared.fault.Fault.{Fault}
+use Rattle.compose_input.specs.declared.fault.Fault.TheVariants as faults
+use Rattle.compose_input.specs.declared.names.NameFiles.{NameFiles}
+use Rattle.compose_input.specs.declared.tables.TableFiles.{TableFiles}
+use Rattle.compose_report.specs.Exchange.{IsExchangeOutcome}
+use Rattle.compose_report.specs.Outcomes.{IsReported}
+use Rattle.compose_report.specs.declared.outcome.Outcome.{Outcome}
+use Rattle.compose_runs.specs.Faults.{OrMemory, HasListed}
+use Rattle.compose_service_runs.specs.Turns.{Turn, then_turns, turns_of}
+use Rattle.compose_service_runs.specs.declared.client.ClientRequests.{ClientRequests}
+use Rattle.compose_runs.specs.declared.options.Options.{Options}
+
+-- ---- load: one request, without keys
+
+-- the bundle of the table and this certificate
+abbrev pub bundle_of : TableFiles → List ℕ → Bundle
+bundle_of table certificate = record { sources = table.sources; certificate = certificate }
+
+-- one request, which loads the bundle by the table's rule
+pub record LoadsTable (table : TableFiles) (certificate : List ℕ) (sent : ClientRequests) : Type 0 where
+  pub names : sent.names ≡ core_names
+  pub request : Request
+  pub one : sent.requests.items ≡ request ∷ []
+  pub loads : LoadGives (Ok request) table.rule (bundle_of table certificate)
+
+-- no load can carry the bundle
+abbrev pub IsUnsendable : Bundle → Fault → Type 0
+IsUnsendable bundle (faults.Refused part why) = (part.now ≡ codes "load") × (BundleFits bundle → max_payload < length (bundle_bytes bundle))
+IsUnsendable bundle faults.NoMemory = Unit {0}
+IsUnsendable bundle fault = ⊥
+
+-- the table of the manifest, and the certificate, at the paths that are given
+pub record IsLoadRun (folder : Option (List Entry)) (arguments : LoadArguments) (sent : ClientRequests) : Type 0 where
+  pub table : TableFiles
+  pub is_table : IsListed folder arguments.new.now table
+  pub certificate : List ℕ
+  pub is_certificate : IsHeld folder arguments.certificate.now (File certificate)
+  pub loads : LoadsTable table certificate sent
+
+-- both are read, and no load can carry them
+pub record IsUnsendableLoad (folder : Option (List Entry)) (arguments : LoadArguments) (fault : Fault) : Type 0 where
+  pub table : TableFiles
+  pub is_table : IsListed folder arguments.new.now table
+  pub certificate : List ℕ
+  pub is_certificate : IsHeld folder arguments.certificate.now (File certificate)
+  pub unsendable : IsUnsendable (bundle_of table certificate) fault
+
+-- the table, the certificate, the load
+abbrev pub FailsLoad : Option (List Entry) → LoadArguments → Fault → Type 0
+FailsLoad folder arguments fault =
+    OrMemory (λ f. FailsListed folder (codes "new") arguments.new.now f
+    ⊎ ((HasListed folder arguments.new.now × IsRead folder arguments.certificate.now (Err f)) ⊎ IsUnsendableLoad folder arguments f)) fault
+
+-- ---- session
+
+-- what the arguments ask for, with these keysyms
+pub record IsAsked (keys : List ℕ) (arguments : SessionArguments) (asked : Asked) : Type 0 where
+  pub session : asked.session ≡ arguments.session
+  pub opens : asked.open ≡ arguments.open
+  pub resets : asked.reset ≡ arguments.reset
+  pub typed : asked.keys.now ≡ keys
+  pub asks_state : asked.ask ≡ arguments.ask
+  pub closes : asked.close ≡ arguments.close
+
+-- its requests, in order
+pub record AsksSession (n : NamedParts) (arguments : SessionArguments) (sent : ClientRequests) : Type 0 where
+  pub names : sent.names ≡ n.names
+  pub asked : Asked
+  pub is_asked : IsAsked n.keys arguments asked
+  pub requests : sent.requests.items ≡ map (asks asked.session) (bodies_of asked)
+
+-- a refusal of the names or of the keys, reported
+pub record IsKeysReported (verbose : Bool) (names : NameFiles) (keys : List (List ℕ)) (refusal : Refusal) (outcome : Outcome) : Type 0 where
+  pub given : Given
+  pub parts : IsGiven (parts_of names keys []) given
+  pub reported : IsReported verbose given (Err refusal) outcome
+
+-- the names or the keys are refused
+abbrev pub IsKeysRefused : Bool → NameFiles → List (List ℕ) → Outcome → Type 0
+IsKeysRefused verbose names keys outcome =
+    (refusal : Refusal) × IsRefused refusal (given_key_names names.lines.items keys) × IsKeysReported verbose names keys refusal outcome
+
+-- by these names; or what is printed where they or the keys are refused
+abbrev pub IsSessionOf : Bool → NameFiles → SessionArguments → Result ClientRequests Outcome → Type 0
+IsSessionOf verbose names arguments (Ok sent) = (n : NamedParts) × (given_key_names names.lines.items (map (λ key. key.now) arguments.keys.items) ≡ Ok n) × AsksSession n arguments sent
+IsSessionOf verbose names arguments (Err outcome) = IsKeysRefused verbose names (map (λ key. key.now) arguments.keys.items) outcome
+
+-- the same by the names that the folder has
+pub record IsSessionRun (folder : Option (List Entry)) (options : Options) (arguments : SessionArguments) (started : Result ClientRequests Outcome) : Type 0 where
+  pub names : NameFiles
+  pub are_names : AreNames folder (map (λ name. name.now) options.names.now) names
+  pub is : IsSessionOf options.verbose names arguments started
+
+-- ---- the exchange
+
+-- each request is sent once all before it are answered, and none of them refused; then the report on the replies is printed
+pub record IsExchange (sent : ClientRequests) (before after : Option (List Turn)) (outcome : Outcome) : Type 0 where
+  pub replies : List Reply
+  pub turns : after ≡ then_turns before (turns_of sent.requests.items replies)
+  pub report : Report
+  pub is_report : report_of report ≡ reported sent.names sent.requests.items replies
+  pub printed : IsExchangeOutcome report outcome
+
+-- ---- why nothing is sent
+
+abbrev pub FailsSession : Option (List Entry) → List (List ℕ) → Fault → Type 0
+FailsSession folder names fault = OrMemory (FailNames folder names) fault

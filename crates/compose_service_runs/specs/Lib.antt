@@ -1,0 +1,4 @@
+pub mod Serving
+pub mod ServingFaults
+pub mod Turns
+pub mod Clients

@@ -1,0 +1,134 @@
+-- What `serve` begins with (this project's profile).
+use Rattle.std.specs.Prelude.{◌≡◌, ◌⊎◌, ℕ, Bool, true, false, List, [], ◌∷◌, ◌++◌, map, unwrap_or, Option, Some, None, Result, Ok, Err, string_bytes, codes}
+use Rattle.compose_folder.specs.Content.{Entry, File, IsHeld}
+use Rattle.compose_model.specs.declared.Rule.TheVariants.{Longest}
+use Rattle.compose_read.specs.Lines.{Source}
+use Rattle.compose_bundle.specs.Bundle.{IsBundle}
+use Rattle.compose_migration.specs.Keys.{keys_of}
+use Rattle.compose_machine.specs.Machine.{ServiceState}
+use Rattle.compose_answer.specs.declared.answer.Answer.{Answer}
+use Rattle.compose_answer.specs.declared.answer.Answer.TheVariants as answers
+use Rattle.compose_answer.specs.declared.refusal.Refusal.{Refusal}
+use Rattle.compose_arguments.specs.declared.serve_arguments.Served.{Served}
+use Rattle.compose_arguments.specs.declared.serve_arguments.Served.TheVariants.{Files, State}
+use Rattle.compose_details.specs.Given.{GivenParts, IsGiven, parts_of}
+use Rattle.compose_details.specs.declared.given.Given.{Given}
+use Rattle.compose_input.specs.Names.{AreNames}
+use Rattle.compose_input.specs.Tables.{IsListed}
+use Rattle.compose_input.specs.declared.tables.TableFiles.{TableFiles}
+use Rattle.compose_report.specs.Outcomes.{IsOutcome, IsReported}
+use Rattle.compose_report.specs.declared.outcome.Outcome.{Outcome}
+use Rattle.compose_serving.specs.Begin.{BeginGives, start_over}
+use Rattle.compose_serving.specs.Fresh.{Allows}
+use Rattle.compose_serving.specs.declared.start.BeginFault.{BeginFault}
+use Rattle.compose_serving.specs.declared.start.BeginFault.TheVariants.{Invalid, Refused}
+use Rattle.compose_runs.specs.Updating.{builtin}
+use Rattle.compose_runs.specs.declared.options.Options.{Options}
+use Rattle.compose_service_runs.specs.declared.serving.KeptBundle.{KeptBundle}
+use Rattle.compose_service_runs.specs.declared.serving.ServiceFiles.{ServiceFiles}
+
+-- ---- what is read
+
+-- the names, the table of the manifest, the repertoire and the certificate at these paths
+pub record AreGivenFiles (folder : Option (List Entry)) (names : List (List ℕ)) (table repertoire certificate : List ℕ) (files : ServiceFiles) : Type 0 where
+  pub are_names : AreNames folder names files.names
+  pub is_table : IsListed folder table files.table
+  pub is_repertoire : IsHeld folder repertoire (File files.repertoire.items)
+  pub is_certificate : IsHeld folder certificate (File files.certificate.items)
+
+-- where `update` keeps the table in use, in this folder
+abbrev pub kept_path : List ℕ → List ℕ
+kept_path state = state ++ codes "/table"
+
+-- a table of these sources that is kept at this path: the longest of overlapping sequences counts, and each file has the name of its source
+pub record IsKeptTable (path : List ℕ) (table : TableFiles) : Type 0 where
+  pub at : string_bytes table.path ≡ path
+  pub paths : map string_bytes table.paths.items ≡ map (λ source. source.name) table.sources
+  pub rule : table.rule ≡ Longest
+  pub note : string_bytes table.note ≡ []
+
+-- the table of these sources that is kept at this path, and this certificate
+pub record AreKeptParts (path : List ℕ) (sources : List Source) (certificate : List ℕ) (kept : KeptBundle) : Type 0 where
+  pub sources_kept : kept.table.sources ≡ sources
+  pub is_table : IsKeptTable path kept.table
+  pub certificate_kept : kept.certificate.items ≡ certificate
+
+-- those of the bundle that is kept there
+pub record IsKeptBundle (path bytes : List ℕ) (kept : KeptBundle) : Type 0 where
+  pub bundle : IsBundle bytes (record { sources = kept.table.sources; certificate = kept.certificate.items })
+  pub is_table : IsKeptTable path kept.table
+
+-- the built-in names, the table and the certificate of the bundle that is kept, and an empty repertoire
+pub record AreKeptFiles (folder : Option (List Entry)) (path : List ℕ) (files : ServiceFiles) : Type 0 where
+  pub are_names : AreNames folder builtin files.names
+  pub bytes : List ℕ
+  pub held : IsHeld folder path (File bytes)
+  pub bundle : IsBundle bytes (record { sources = files.table.sources; certificate = files.certificate.items })
+  pub is_table : IsKeptTable path files.table
+  pub repertoire : files.repertoire.items ≡ []
+
+abbrev pub AreServiceFiles : Option (List Entry) → List (List ℕ) → Served → ServiceFiles → Type 0
+AreServiceFiles folder names (Files table repertoire certificate) files = AreGivenFiles folder names table.now repertoire.now certificate.now files
+AreServiceFiles folder names (State state) files = AreKeptFiles folder (kept_path state.now) files
+
+-- ---- the service that begins
+
+-- with exactly these files
+abbrev pub Begins : ServiceFiles → Result ServiceState BeginFault → Type 0
+Begins files result =
+    BeginGives files.names.lines.items files.repertoire.items (start_over files.table.sources files.table.rule files.certificate.items) result
+
+-- its loads may list the keysyms of these names alone as fresh, where names are given
+abbrev pub AllowsAlone : Option (List (List ℕ)) → ServiceState → Result ServiceState BeginFault → Type 0
+AllowsAlone None begun result = result ≡ Ok begun
+AllowsAlone (Some names) begun (Ok service) = Allows begun (Ok service) (keys_of begun.names names)
+AllowsAlone (Some names) begun (Err (Refused refusal)) = Allows begun (Err refusal) (keys_of begun.names names)
+AllowsAlone (Some names) begun (Err (Invalid fault)) = ⊥
+
+-- a service begins with these files, and allows this; or none begins
+abbrev pub BeginsAllowing : ServiceFiles → Option (List (List ℕ)) → Result ServiceState BeginFault → Type 0
+BeginsAllowing files allowed result =
+    ((begun : ServiceState) × Begins files (Ok begun) × AllowsAlone allowed begun result) ⊎ ((fault : BeginFault) × Begins files (Err fault) × (result ≡ Err fault))
+
+-- ---- what is printed where none begins
+
+-- as `check` says that a certificate is not valid, or a refusal
+abbrev pub start_answer : BeginFault → Result Answer Refusal
+start_answer (Invalid fault) = Ok (answers.Invalid fault)
+start_answer (Refused refusal) = Err refusal
+
+-- the paths of the repertoire and of the certificate; both of a table that is kept are in the folder
+abbrev pub other_paths : Served → List ℕ × List ℕ
+other_paths (Files table repertoire certificate) = (repertoire.now, certificate.now)
+other_paths (State state) = (state.now, state.now)
+
+-- what was given to `serve`: one table for both
+abbrev pub service_given : ServiceFiles → Served → List (List ℕ) → GivenParts
+service_given files served fresh = record (parts_of files.names fresh (files.table ∷ files.table ∷ [])) {
+  repertoire = (other_paths served).0;
+  certificate = (other_paths served).1;
+  certificate_text = files.certificate.items;
+}
+
+-- the answer or the refusal, with each faulty line of these files
+pub record IsStartReported (files : ServiceFiles) (served : Served) (fresh : List (List ℕ)) (answered : Result Answer Refusal) (outcome : Outcome) : Type 0 where
+  pub given : Given
+  pub parts : IsGiven (service_given files served fresh) given
+  pub reported : IsReported true given answered outcome
+
+-- the answer or the refusal alone, or with each faulty line of the files that the folder has where that is asked for
+abbrev pub IsStartOutcome : Bool → Option (List Entry) → List (List ℕ) → Served → List (List ℕ) → Result Answer Refusal → Outcome → Type 0
+IsStartOutcome false folder names served fresh answered outcome = (own : List ℕ) × IsOutcome own fresh [] answered outcome
+IsStartOutcome true folder names served fresh answered outcome = (files : ServiceFiles) × AreServiceFiles folder names served files × IsStartReported files served fresh answered outcome
+
+-- the service that begins with these files, or what is printed where none begins
+abbrev pub IsStarted : Option (List Entry) → Options → Served → Option (List (List ℕ)) → ServiceFiles → Result ServiceState Outcome → Type 0
+IsStarted folder options served allowed files (Ok service) = BeginsAllowing files allowed (Ok service)
+IsStarted folder options served allowed files (Err outcome) =
+    (fault : BeginFault) × BeginsAllowing files allowed (Err fault)
+    × IsStartOutcome options.verbose folder (map (λ name. name.now) options.names.now) served (unwrap_or allowed []) (start_answer fault) outcome
+
+-- the same with the files that the folder has
+abbrev pub IsServiceStart : Option (List Entry) → Options → Served → Option (List (List ℕ)) → Result ServiceState Outcome → Type 0
+IsServiceStart folder options served allowed started =
+    (files : ServiceFiles) × AreServiceFiles folder (map (λ name. name.now) options.names.now) served files × IsStarted folder options served allowed files started

@@ -1,0 +1,34 @@
+-- Why `serve` can't read what it begins with: the first that is refused says it (this project's profile). Memory may run out at any time.
+use Rattle.std.specs.Prelude.{◌⊎◌, ℕ, List, ◌++◌, Option, Err, codes}
+use Rattle.compose_folder.specs.Content.{Entry, File, IsHeld}
+use Rattle.compose_arguments.specs.declared.serve_arguments.Served.{Served}
+use Rattle.compose_arguments.specs.declared.serve_arguments.Served.TheVariants.{Files, State}
+use Rattle.compose_input.specs.Faults.{FailNames}
+use Rattle.compose_input.specs.Texts.{IsRead}
+use Rattle.compose_input.specs.declared.fault.Fault.{Fault}
+use Rattle.compose_runs.specs.Faults.{OrMemory, HasFile, HasListed, HasNames, FailsType}
+use Rattle.compose_service_runs.specs.Serving.{kept_path}
+use Rattle.compose_runs.specs.Stored.{IsDamaged}
+use Rattle.compose_runs.specs.Updating.{builtin}
+
+-- the names, the table, the repertoire, the certificate
+abbrev pub FailsGiven : Option (List Entry) → List (List ℕ) → List ℕ → List ℕ → List ℕ → Fault → Type 0
+FailsGiven folder names table repertoire certificate fault =
+    OrMemory (λ f. FailsType folder names table f
+    ⊎ (HasNames folder names × (HasListed folder table × (IsRead folder repertoire (Err f) ⊎ (HasFile folder repertoire × IsRead folder certificate (Err f)))))) fault
+
+-- the words of where it is kept
+abbrev pub place_words : List ℕ → List ℕ
+place_words path = path ++ codes ": "
+
+-- the names that are built in, and then what is kept
+abbrev pub FailsKept : Option (List Entry) → List ℕ → Fault → Type 0
+FailsKept folder path fault =
+    OrMemory (λ f. FailNames folder builtin f ⊎ (HasNames folder builtin × (IsRead folder path (Err f) ⊎ ((bytes : List ℕ) × IsHeld folder path (File bytes) × IsDamaged (place_words path) bytes f)))) fault
+
+abbrev pub FailsServed : Option (List Entry) → List (List ℕ) → Served → Fault → Type 0
+FailsServed folder names (Files table repertoire certificate) fault = FailsGiven folder names table.now repertoire.now certificate.now fault
+FailsServed folder names (State state) fault = FailsKept folder (kept_path state.now) fault
+
+abbrev pub FailsServe : Option (List Entry) → List (List ℕ) → Served → Fault → Type 0
+FailsServe folder names served fault = OrMemory (FailsServed folder names served) fault

@@ -1,0 +1,25 @@
+-- What is sent and replied in an exchange with a service, in turn (this project's profile: docs/PROTOCOL.md).
+use Rattle.std.specs.Prelude.{Bool, true, false, if◌then◌else◌, List, [], ◌∷◌, ◌++◌, Option, Some, None, option_map}
+use Rattle.compose_wire.specs.declared.request.Request.{Request}
+use Rattle.compose_wire.specs.declared.reply.Answer.{Answer}
+use Rattle.compose_wire.specs.declared.reply.Answer.TheVariants.{Refused}
+use Rattle.compose_wire.specs.declared.reply.Reply.{Reply}
+
+-- a request, and its reply if there is one
+pub record Turn : Type 0 where
+  pub request : Request
+  pub reply : Option Reply
+
+abbrev pub is_refusal : Answer → Bool
+is_refusal (Refused code) = true
+is_refusal answer = false
+
+-- the turns of these requests with these replies: the one that is refused is the last, and so is one without a reply
+abbrev pub turns_of : List Request → List Reply → List Turn
+turns_of [] replies = []
+turns_of (q ∷ requests) [] = record { request = q; reply = None } ∷ []
+turns_of (q ∷ requests) (r ∷ replies) = record { request = q; reply = Some r } ∷ (if is_refusal r.answer then [] else turns_of requests replies)
+
+-- the same turns and these after them, where they are known
+abbrev pub then_turns : Option (List Turn) → List Turn → Option (List Turn)
+then_turns turns more = option_map (λ before. before ++ more) turns

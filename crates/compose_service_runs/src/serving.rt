@@ -1,0 +1,360 @@
+//! `serve`: the service that begins, or what is printed where none does.
+ghost use Rattle.std.specs.Prelude.{◌≡◌, ◌<◌, ◌++◌, Some, length, map, option_map, slice_get, IfOk, IfErr, true, string_bytes, codes};
+ghost use Rattle.compose_runs.specs.Checking.{allowed_names};
+ghost use Rattle.compose_runs.specs.Stored.{IsDamaged};
+ghost use Rattle.compose_service_runs.specs.Serving as words;
+ghost use Rattle.compose_service_runs.specs.Serving.{AllowsAlone, AreKeptParts, IsKeptBundle, IsKeptTable, IsServiceStart, IsStartOutcome, IsStartReported};
+ghost use Rattle.compose_service_runs.specs.ServingFaults.{FailsServe, place_words};
+
+use compose_answer::{Answer, Refusal};
+use compose_arguments::{ServeArguments, Served};
+use compose_bundle::Bundle;
+use compose_details::{Given, GivenTable};
+use compose_folder::{Folder, ReadOnce};
+use compose_input::{Fault, NameFiles, TableFiles, read_text};
+use compose_model::Rule;
+use compose_read::Sources;
+use compose_report::{Outcome, outcome_of, outcome_with};
+use compose_runs::{Options, read_stored};
+use compose_service::Service;
+use compose_serving::{BeginFault, BeginInput, allow_fresh, begin};
+use compose_tree::ComposeTable;
+use std::alloc::{AllocError, Global};
+
+/// The service that begins with the files that are given, or with the table that is kept in a folder: the names, the table, the repertoire and the
+/// certificate are read in this order. Its loads may list the keysyms of the allowed names alone as fresh, where these are given. Where no service
+/// begins, the outcome says why; with `verbose` the files are read again, of what was read, since the service took their bytes over. At the cost of
+/// reading the files, and of `begin`.
+pub fn start_service<T: ComposeTable, F: Folder>(
+    alloc: Global,
+    files: &mut ReadOnce<F>,
+    options: Options<'_>,
+    arguments: &ServeArguments<'_>,
+    allowed: Option<&[&str]>,
+) -> Result<Result<Service<T>, Outcome>, Fault>
+    ensures kept { files.new.holds ≡ files.old.holds }
+    ensures started { IfOk result
+        (λ started. IsServiceStart files.old.holds options.entry arguments.now.served
+        (allowed_names allowed.entry) started) }
+    ensures fault { IfErr result
+        (λ fault. FailsServe files.old.holds (map (λ name. name.now) options.entry.names.now)
+        arguments.now.served fault) }
+{
+    let read = ServiceFiles::read(files, alloc, options.names, arguments)?;
+    match read.begin_allowing::<T>(alloc, allowed) {
+        Ok(service) => Ok(Ok(service)),
+        Err(fault) => {
+            let key_names = allowed.unwrap_or(&[]);
+            let answered = start_answer(fault);
+            let outcome = start_outcome::<T, F>(
+                alloc, files, options, arguments, key_names, answered,
+            )?;
+            Ok(Err(outcome))
+        }
+    }
+}
+
+/// The files of a service.
+#[derive(Drop)]
+struct ServiceFiles<'n> {
+    names: NameFiles<'n>,
+    table: TableFiles,
+    repertoire: Vec<u8>,
+    certificate: Vec<u8>,
+}
+
+impl<'n> ServiceFiles<'n> {
+    ghost use Rattle.compose_service_runs.specs.Serving.{AreGivenFiles, AreKeptFiles, AreServiceFiles, Begins, BeginsAllowing, kept_path};
+    ghost use Rattle.compose_service_runs.specs.ServingFaults.{FailsGiven, FailsKept};
+
+    /// Reads the names, the table, the repertoire and the certificate, or the table that is kept.
+    fn read<F: Folder>(
+        files: &mut ReadOnce<F>,
+        alloc: Global,
+        names: &[&'n str],
+        arguments: &ServeArguments<'_>,
+    ) -> Result<ServiceFiles<'n>, Fault>
+        ensures kept { files.new.holds ≡ files.old.holds }
+        ensures read { IfOk result
+            (λ read. AreServiceFiles files.old.holds (map (λ name. name.now) names.now)
+            arguments.now.served read) }
+        ensures fault { IfErr result
+            (λ fault. FailsServe files.old.holds (map (λ name. name.now) names.now)
+            arguments.now.served fault) }
+    {
+        match arguments.served {
+            Served::Files {
+                table,
+                repertoire,
+                certificate,
+            } => ServiceFiles::given(files, alloc, names, table, repertoire, certificate),
+            Served::State { folder } => ServiceFiles::kept(files, alloc, folder),
+        }
+    }
+
+    /// Reads the names, the table of the manifest, the repertoire and the certificate at these paths.
+    fn given<F: Folder>(
+        files: &mut ReadOnce<F>,
+        alloc: Global,
+        names: &[&'n str],
+        table: &str,
+        repertoire: &str,
+        certificate: &str,
+    ) -> Result<ServiceFiles<'n>, Fault>
+        ensures kept { files.new.holds ≡ files.old.holds }
+        ensures read { IfOk result
+            (λ read. AreGivenFiles files.old.holds (map (λ name. name.now) names.now) table.now
+            repertoire.now certificate.now read) }
+        ensures fault { IfErr result
+            (λ fault. FailsGiven files.old.holds (map (λ name. name.now) names.now) table.now
+            repertoire.now certificate.now fault) }
+    {
+        let names = NameFiles::read(files, alloc, names)?;
+        let table = TableFiles::listed(files, alloc, "table", table)?;
+        let repertoire = read_text(files, alloc, repertoire)?;
+        let certificate = read_text(files, alloc, certificate)?;
+        Ok(ServiceFiles {
+            names,
+            table,
+            repertoire,
+            certificate,
+        })
+    }
+
+    /// Reads the table that `update` keeps in the folder at this path, with the names that are built in and an empty repertoire.
+    fn kept<F: Folder>(
+        files: &mut ReadOnce<F>,
+        alloc: Global,
+        folder: &str,
+    ) -> Result<ServiceFiles<'n>, Fault>
+        ensures kept { files.new.holds ≡ files.old.holds }
+        ensures read { IfOk result
+            (λ read. AreKeptFiles files.old.holds (kept_path folder.now) read) }
+        ensures fault { IfErr result
+            (λ fault. FailsKept files.old.holds (kept_path folder.now) fault) }
+    {
+        let builtin: &'n str = "builtin";
+        let names = NameFiles::read(files, alloc, &[builtin])?;
+        let path = format!(in alloc; "{folder}/table")?;
+        let bytes = read_text(files, alloc, &path)?;
+        let kept = kept_bundle(alloc, path, &bytes)?;
+        Ok(ServiceFiles {
+            names,
+            table: kept.table,
+            repertoire: Vec::new(alloc),
+            certificate: kept.certificate,
+        })
+    }
+
+    /// The service that begins with them, whose loads may list these keysyms alone as fresh, if some are given.
+    fn begin_allowing<T: ComposeTable>(
+        self,
+        alloc: Global,
+        allowed: Option<&[&str]>,
+    ) -> Result<Service<T>, BeginFault>
+        ensures { BeginsAllowing self.entry (allowed_names allowed.entry) result }
+    {
+        match self.begin::<T>(alloc) {
+            Ok(service) => allow_alone(alloc, service, allowed),
+            Err(fault) => Err(fault),
+        }
+    }
+
+    /// The service that begins with them.
+    fn begin<T: ComposeTable>(self, alloc: Global) -> Result<Service<T>, BeginFault>
+        ensures { Begins self.entry result }
+    {
+        let (sources, rule) = self.table.into_parts();
+        let input = BeginInput {
+            header: &self.names.lines,
+            repertoire: &self.repertoire,
+            rule,
+            certificate: &self.certificate,
+        };
+        begin::<T>(alloc, &input, sources)
+    }
+}
+
+/// The service, whose loads may list the keysyms of these names alone as fresh, if names are given.
+fn allow_alone<T: ComposeTable>(
+    alloc: Global,
+    service: Service<T>,
+    allowed: Option<&[&str]>,
+) -> Result<Service<T>, BeginFault>
+    ensures { AllowsAlone (allowed_names allowed.entry) service result }
+{
+    let Some(key_names) = allowed else {
+        return Ok(service);
+    };
+    match allow_fresh(alloc, service, key_names) {
+        Ok(service) => Ok(service),
+        Err(refusal) => Err(BeginFault::Refused(refusal)),
+    }
+}
+
+/// A table that is kept, and the certificate of it against itself.
+#[derive(Drop)]
+struct KeptBundle {
+    table: TableFiles,
+    certificate: Vec<u8>,
+}
+
+/// The table and the certificate of the bundle that is kept at this path.
+fn kept_bundle(alloc: Global, path: String, bytes: &[u8]) -> Result<KeptBundle, Fault>
+    ensures kept { IfOk result
+        (λ kept. IsKeptBundle (string_bytes path) bytes.now kept) }
+    ensures fault { IfErr result
+        (λ fault. IsDamaged (place_words (string_bytes path)) bytes.now fault) }
+{
+    let place = place_of(alloc, &path)?;
+    let bundle = read_stored(alloc, &place, bytes)?;
+    Ok(kept_parts(alloc, path, bundle)?)
+}
+
+/// The table and the certificate of a bundle that is kept at this path.
+fn kept_parts(alloc: Global, path: String, bundle: Bundle<'_>) -> Result<KeptBundle, AllocError>
+    ensures { IfOk result
+        (λ kept. AreKeptParts (string_bytes path) bundle.entry.sources bundle.entry.certificate.now
+        kept) }
+{
+    let certificate = Vec::from_slice(alloc, bundle.certificate)?;
+    let table = kept_table(alloc, path, bundle.sources)?;
+    Ok(KeptBundle { table, certificate })
+}
+
+/// Where it is kept, as a fault says it.
+fn place_of(alloc: Global, path: &str) -> Result<String, AllocError>
+    ensures { IfOk result (λ place. string_bytes place ≡ place_words path.now) }
+{
+    format!(in alloc; "{path}: ")
+}
+
+/// A table of these sources that is kept at this path, each of which is called as it was when it was taken into use.
+fn kept_table(alloc: Global, path: String, sources: Sources) -> Result<TableFiles, AllocError>
+    ensures sources { IfOk result (λ table. table.sources ≡ sources) }
+    ensures kept { IfOk result (λ table. IsKeptTable (string_bytes path) table) }
+{
+    let paths = source_names(alloc, &sources)?;
+    Ok(TableFiles {
+        path,
+        paths,
+        sources,
+        rule: Rule::Longest,
+        note: String::new(alloc),
+    })
+}
+
+/// The names of these sources.
+fn source_names(alloc: Global, sources: &Sources) -> Result<Vec<String>, AllocError>
+    ensures { IfOk result
+        (λ names. map string_bytes names.items ≡ map (λ source. source.name) sources.now) }
+{
+    let mut names = Vec::new(alloc);
+    for index in 0..sources.count() {
+        names.push(String::from_str(alloc, source_name(sources, index))?)?;
+    }
+    Ok(names)
+}
+
+/// The name of the source at this index.
+fn source_name(sources: &Sources, index: usize) -> &str
+    requires { index < length sources.now }
+    ensures { option_map (λ source. source.name) (slice_get sources.now index) ≡ Some result.now }
+{
+    sources.name(index).unwrap()
+}
+
+/// The paths of the repertoire and of the certificate; both of a table that is kept are in the folder.
+fn other_paths<'a>(served: &Served<'a>) -> (&'a str, &'a str)
+    ensures repertoire { result.0.now ≡ (words.other_paths served.now).0 }
+    ensures certificate { result.1.now ≡ (words.other_paths served.now).1 }
+{
+    match served {
+        Served::Files {
+            repertoire,
+            certificate,
+            ..
+        } => (*repertoire, *certificate),
+        Served::State { folder } => (*folder, *folder),
+    }
+}
+
+/// What is answered where no service begins.
+fn start_answer(fault: BeginFault) -> Result<Answer, Refusal>
+    ensures { result ≡ words.start_answer fault }
+{
+    match fault {
+        BeginFault::Invalid(fault) => Ok(Answer::Invalid(fault)),
+        BeginFault::Refused(refusal) => Err(refusal),
+    }
+}
+
+/// The outcome where no service begins with the files, of what is answered then.
+fn start_outcome<T: ComposeTable, F: Folder>(
+    alloc: Global,
+    files: &mut ReadOnce<F>,
+    options: Options<'_>,
+    arguments: &ServeArguments<'_>,
+    key_names: &[&str],
+    answered: Result<Answer, Refusal>,
+) -> Result<Outcome, Fault>
+    ensures kept { files.new.holds ≡ files.old.holds }
+    ensures outcome { IfOk result
+        (λ outcome. IsStartOutcome options.entry.verbose files.old.holds
+        (map (λ name. name.now) options.entry.names.now) arguments.now.served
+        (map (λ name. name.now) key_names.now) answered outcome) }
+    ensures fault { IfErr result
+        (λ fault. FailsServe files.old.holds (map (λ name. name.now) options.entry.names.now)
+        arguments.now.served fault) }
+{
+    if options.verbose {
+        detailed_start::<T, F>(alloc, files, options.names, arguments, key_names, answered)
+    } else {
+        Ok(outcome_with(alloc, key_names, answered, String::new(alloc))?)
+    }
+}
+
+/// The outcome with each faulty line of the files, which are read again.
+fn detailed_start<T: ComposeTable, F: Folder>(
+    alloc: Global,
+    files: &mut ReadOnce<F>,
+    names: &[&str],
+    arguments: &ServeArguments<'_>,
+    key_names: &[&str],
+    answered: Result<Answer, Refusal>,
+) -> Result<Outcome, Fault>
+    ensures kept { files.new.holds ≡ files.old.holds }
+    ensures outcome { IfOk result
+        (λ outcome. IsStartOutcome true files.old.holds (map (λ name. name.now) names.now)
+        arguments.now.served (map (λ name. name.now) key_names.now) answered outcome) }
+    ensures fault { IfErr result
+        (λ fault. FailsServe files.old.holds (map (λ name. name.now) names.now)
+        arguments.now.served fault) }
+{
+    let read = ServiceFiles::read(files, alloc, names, arguments)?;
+    Ok(reported_start::<T>(alloc, arguments, key_names, &read, answered)?)
+}
+
+/// The outcome with each faulty line of these files.
+fn reported_start<T: ComposeTable>(
+    alloc: Global,
+    arguments: &ServeArguments<'_>,
+    key_names: &[&str],
+    files: &ServiceFiles<'_>,
+    answered: Result<Answer, Refusal>,
+) -> Result<Outcome, AllocError>
+    ensures { IfOk result
+        (λ outcome. IsStartReported files.now arguments.now.served
+        (map (λ name. name.now) key_names.now) answered outcome) }
+{
+    let tables = [GivenTable::of(&files.table), GivenTable::of(&files.table)];
+    let listed = Given::of(&files.names, key_names, &tables);
+    let (repertoire, certificate) = other_paths(&arguments.served);
+    let given = Given {
+        repertoire,
+        certificate,
+        certificate_text: &files.certificate,
+        ..listed
+    };
+    outcome_of::<T>(alloc, true, &given, answered)
+}
