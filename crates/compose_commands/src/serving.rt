@@ -3,7 +3,7 @@
 use crate::at_once::serve_many;
 use crate::connection_ends::{EndLines, print_text};
 use crate::next_connection::next_connection;
-use crate::output::put;
+use crate::output::{Telling, put};
 use compose_answer::{Answer, Ended, Refusal};
 use compose_arguments::{ServeArguments, Served};
 use compose_bundle::{BundleFault, read_bundle};
@@ -47,7 +47,7 @@ pub fn serve_files<T: ComposeTable, F: Folder>(
                 allowed,
                 fault,
             );
-            put(rt, options.verbose, outcome)
+            put(rt, Telling::Line, outcome)
         }
     }
 }

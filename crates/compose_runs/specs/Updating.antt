@@ -1,5 +1,5 @@
 -- What `update` reads, and what it then does with the table in use (this project's profile).
-use Rattle.std.specs.Prelude.{◌≡◌, ℕ, Bool, List, [], ◌∷◌, map, Option, Some, None, option_copied, Result, Ok, Err, string_bytes, codes}
+use Rattle.std.specs.Prelude.{◌≡◌, ℕ, true, false, List, [], ◌∷◌, map, Option, Some, None, option_copied, Result, Ok, Err, string_bytes, codes}
 use Rattle.compose_folder.specs.Content.{Entry, File, IsHeld}
 use Rattle.compose_model.specs.declared.Rule.TheVariants.{Longest}
 use Rattle.compose_read.specs.Lines.{Source}
@@ -14,7 +14,7 @@ use Rattle.compose_input.specs.Tables.{IsFoundOnSystem}
 use Rattle.compose_input.specs.declared.fault.Fault.{Fault}
 use Rattle.compose_input.specs.declared.fault.Fault.TheVariants as faults
 use Rattle.compose_input.specs.declared.places.Places.{Places}
-use Rattle.compose_report.specs.Outcomes.{IsReported, PrintsOutput, PrintsErrors}
+use Rattle.compose_report.specs.Outcomes.{IsWorded, PrintsOutput, PrintsErrors}
 use Rattle.compose_report.specs.declared.outcome.Outcome.{Outcome}
 use Rattle.compose_update.specs.Update.{GivenUpdate, Updates}
 use Rattle.compose_update.specs.declared.deciding.Update.{Update}
@@ -73,30 +73,30 @@ abbrev pub IsRefusedAs : (Outcome → Type 0) → UpdateRun → Type 0
 IsRefusedAs Prints (Refused outcome) = Prints outcome
 IsRefusedAs Prints (Replaced stored certificate) = ⊥
 
--- a part is refused; the new table stands for both, since the one in use was read when it was taken into use
-pub record IsUpdateRefusal (verbose : Bool) (files : UpdateFiles) (fresh : List (List ℕ)) (refusal : Refusal) (outcome : Outcome) : Type 0 where
+-- a part is refused, in words for people; the new table stands for both, since the one in use was read when it was taken into use
+pub record IsUpdateRefusal (files : UpdateFiles) (fresh : List (List ℕ)) (refusal : Refusal) (outcome : Outcome) : Type 0 where
   pub given : Given
   pub parts : IsGiven (parts_of files.names fresh (files.new ∷ files.new ∷ [])) given
-  pub is : IsReported verbose given (Err refusal) outcome
+  pub is : IsWorded false true given (Err refusal) outcome
 
 -- the bytes that are stored and the certificate are those of the decision; else the lines that `make` prints, or why nothing is decided
-abbrev pub IsUpdateDone : Bool → UpdateFiles → List (List ℕ) → Result Update UpdateFault → UpdateRun → Type 0
-IsUpdateDone verbose files fresh (Ok (updates.Replaced stored certificate)) run = run ≡ Replaced stored certificate
-IsUpdateDone verbose files fresh (Ok (updates.Refused text)) run = IsRefusedAs (PrintsOutput (string_bytes text) ends.No) run
-IsUpdateDone verbose files fresh (Err (Input refusal)) run = IsRefusedAs (IsUpdateRefusal verbose files fresh refusal) run
-IsUpdateDone verbose files fresh (Err TooLarge) run = IsRefusedAs (PrintsErrors (codes "refused: update: 1 TooLarge\n") ends.Refused) run
+abbrev pub IsUpdateDone : UpdateFiles → List (List ℕ) → Result Update UpdateFault → UpdateRun → Type 0
+IsUpdateDone files fresh (Ok (updates.Replaced stored certificate)) run = run ≡ Replaced stored certificate
+IsUpdateDone files fresh (Ok (updates.Refused text)) run = IsRefusedAs (PrintsOutput (string_bytes text) ends.No) run
+IsUpdateDone files fresh (Err (Input refusal)) run = IsRefusedAs (IsUpdateRefusal files fresh refusal) run
+IsUpdateDone files fresh (Err TooLarge) run = IsRefusedAs (PrintsErrors (codes "composecheck: the files and their certificate have more than 8,388,608 bytes\n") ends.Refused) run
 
 -- what is decided of the new table and of the one in use is done
-pub record IsUpdateOf (verbose : Bool) (files : UpdateFiles) (fresh : List (List ℕ)) (current : Option (List Source)) (run : UpdateRun) : Type 0 where
+pub record IsUpdateOf (files : UpdateFiles) (fresh : List (List ℕ)) (current : Option (List Source)) (run : UpdateRun) : Type 0 where
   pub decided : Result Update UpdateFault
   pub is : Updates (update_given files fresh current) decided
-  pub done : IsUpdateDone verbose files fresh decided run
+  pub done : IsUpdateDone files fresh decided run
 
 -- the same, where these bytes are stored of the table in use
-pub record IsUpdateRun (verbose : Bool) (files : UpdateFiles) (fresh : List (List ℕ)) (stored : Option (List ℕ)) (run : UpdateRun) : Type 0 where
+pub record IsUpdateRun (files : UpdateFiles) (fresh : List (List ℕ)) (stored : Option (List ℕ)) (run : UpdateRun) : Type 0 where
   pub current : Option (List Source)
   pub is_current : IsCurrent stored current
-  pub is : IsUpdateOf verbose files fresh current run
+  pub is : IsUpdateOf files fresh current run
 
 -- what is stored is no bundle: the fault says that the state is refused, and why, in words of which nothing is said; or memory ran out
 abbrev pub FailsStored : Option (List ℕ) → Fault → Type 0

@@ -4,6 +4,7 @@ use crate::environment::{Environment, PlaceArguments};
 use crate::one_table::{ChosenFile, file_or_own};
 use compose_answer::{Answer, Ended};
 use compose_arguments::LintArguments;
+use compose_details::Given;
 use compose_diff::AcceptFault;
 use compose_folder::{Folder, ReadOnce};
 use compose_input::{Fault, NameFiles, Places, TableFiles};
@@ -11,7 +12,7 @@ use compose_lint::{LintFault, LintForm, LintInput, LintTable, Readers, lint_tabl
 use compose_messages::{FileMessage, Message, Position};
 use compose_model::Rule;
 use compose_read::Sources;
-use compose_report::{Outcome, outcome_with};
+use compose_report::{Outcome, outcome_with, told_text, worded_refusal};
 use std::alloc::{AllocError, Global};
 
 /// The outcome of `lint`: what is found in the tables of the Compose files, in their order, and is not accepted. The files of names are read first,
@@ -137,7 +138,7 @@ fn lint_outcome(
     arguments: &LintArguments<'_>,
 ) -> Result<Outcome, AllocError> {
     let answered = lint_answer(alloc, files, arguments);
-    let printed = printed_outcome(alloc, arguments.accept, answered)?;
+    let printed = printed_outcome(alloc, files, arguments, answered)?;
     Ok(printed.with_notes(notes_of(alloc, &files.tables)?))
 }
 
@@ -251,39 +252,45 @@ fn readers_of(given: &[&str]) -> Readers {
 /// The outcome of what is answered, or refused, without notes.
 fn printed_outcome(
     alloc: Global,
-    accept: Option<&str>,
+    files: &LintFiles<'_>,
+    arguments: &LintArguments<'_>,
     answered: Result<Answer, LintFault>,
 ) -> Result<Outcome, AllocError> {
     match answered {
         Ok(answer) => outcome_with(alloc, &[], Ok(answer), String::new(alloc)),
         Err(LintFault::Input(refusal)) => {
-            outcome_with(alloc, &[], Err(refusal), String::new(alloc))
+            let given = Given::of(&files.names, &[], &[]);
+            worded_refusal(alloc, arguments.json, &given, refusal)
         }
-        Err(LintFault::Accept(fault)) => accept_outcome(alloc, accept, &fault),
+        Err(LintFault::Accept(fault)) => {
+            accept_outcome(alloc, arguments.json, arguments.accept, &fault)
+        }
     }
 }
 
-/// The outcome where the list of the findings that are accepted is refused.
+/// The outcome where the list of the findings that are accepted is refused, for people unless `numbered`.
 fn accept_outcome(
     alloc: Global,
+    numbered: bool,
     path: Option<&str>,
     fault: &AcceptFault,
 ) -> Result<Outcome, AllocError> {
     let own = format!(in alloc; "{fault}")?;
-    let lines = accept_lines(alloc, &own, path.unwrap_or(""), fault)?;
+    let lines = accept_lines(alloc, numbered, &own, path.unwrap_or(""), fault)?;
     Ok(Outcome::of_errors(alloc, lines, Ended::Refused))
 }
 
 /// The line of the refusal, by what the fault is printed as, and below it the line of the list.
 fn accept_lines(
     alloc: Global,
+    numbered: bool,
     own: &str,
     path: &str,
     fault: &AcceptFault,
 ) -> Result<String, AllocError> {
-    let mut lines = format!(in alloc; "refused: accept: {own}\n")?;
-    lines.push_str(&accept_details(alloc, path, fault)?)?;
-    Ok(lines)
+    let line = format!(in alloc; "refused: accept: {own}\n")?;
+    let details = accept_details(alloc, path, fault)?;
+    told_text(alloc, numbered, line, &details)
 }
 
 /// What is wrong with which line of the list of the findings that are accepted.

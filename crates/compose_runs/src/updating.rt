@@ -13,7 +13,7 @@ use compose_folder::{Folder, ReadOnce};
 use compose_input::{Fault, NameFiles, TableFiles, read_text};
 use compose_model::Rule;
 use compose_read::Sources;
-use compose_report::{Outcome, outcome_of};
+use compose_report::{Outcome, worded_refusal};
 use compose_tree::ComposeTable;
 use compose_update::{Update, UpdateFault, UpdateInput, decide_update};
 use std::alloc::{AllocError, Global};
@@ -99,18 +99,17 @@ fn read_repertoire<F: Folder>(
 pub fn run_update<T: ComposeTable>(
     alloc: Global,
     files: &UpdateFiles,
-    verbose: bool,
     fresh: &[&str],
     stored: Option<&[u8]>,
 ) -> Result<UpdateRun, Fault>
     ensures run { IfOk result
-        (λ run. IsUpdateRun verbose files.now (map (λ name. name.now) fresh.now)
+        (λ run. IsUpdateRun files.now (map (λ name. name.now) fresh.now)
         (option_copied stored.entry) run) }
     ensures fault { IfErr result (λ fault. FailsStored (option_copied stored.entry) fault) }
 {
     match stored {
-        Some(stored) => update_stored::<T>(alloc, files, verbose, fresh, stored),
-        None => Ok(update_of::<T>(alloc, files, verbose, fresh, None)?),
+        Some(stored) => update_stored::<T>(alloc, files, fresh, stored),
+        None => Ok(update_of::<T>(alloc, files, fresh, None)?),
     }
 }
 
@@ -118,19 +117,18 @@ pub fn run_update<T: ComposeTable>(
 fn update_stored<T: ComposeTable>(
     alloc: Global,
     files: &UpdateFiles,
-    verbose: bool,
     fresh: &[&str],
     stored: &[u8],
 ) -> Result<UpdateRun, Fault>
     ensures run { IfOk result
-        (λ run. IsUpdateRun verbose files.now (map (λ name. name.now) fresh.now)
+        (λ run. IsUpdateRun files.now (map (λ name. name.now) fresh.now)
         (Some stored.now) run) }
     ensures fault { IfErr result (λ fault. FailsStored (Some stored.now) fault) }
 {
     match read_bundle(alloc, stored) {
         Ok(bundle) => {
             let current = Some(&bundle.sources);
-            Ok(update_of::<T>(alloc, files, verbose, fresh, current)?)
+            Ok(update_of::<T>(alloc, files, fresh, current)?)
         }
         Err(BundleFault::NoMemory) => Err(Fault::NoMemory),
         Err(fault) => Err(Fault::refused("state", format!(in alloc; "{fault}"))),
@@ -141,12 +139,11 @@ fn update_stored<T: ComposeTable>(
 fn update_of<T: ComposeTable>(
     alloc: Global,
     files: &UpdateFiles,
-    verbose: bool,
     fresh: &[&str],
     current: Option<&Sources>,
 ) -> Result<UpdateRun, AllocError>
     ensures { IfOk result
-        (λ run. IsUpdateOf verbose files.now (map (λ name. name.now) fresh.now)
+        (λ run. IsUpdateOf files.now (map (λ name. name.now) fresh.now)
         (option_map (λ sources. sources.now) current.entry) run) }
 {
     let input = UpdateInput {
@@ -157,19 +154,18 @@ fn update_of<T: ComposeTable>(
         repertoire: &files.repertoire,
     };
     let decided = decide_update::<T>(alloc, &input);
-    update_done::<T>(alloc, files, verbose, fresh, decided)
+    update_done(alloc, files, fresh, decided)
 }
 
 /// The run of an update that is decided so.
-fn update_done<T: ComposeTable>(
+fn update_done(
     alloc: Global,
     files: &UpdateFiles,
-    verbose: bool,
     fresh: &[&str],
     decided: Result<Update, UpdateFault>,
 ) -> Result<UpdateRun, AllocError>
     ensures { IfOk result
-        (λ run. IsUpdateDone verbose files.now (map (λ name. name.now) fresh.now) decided run) }
+        (λ run. IsUpdateDone files.now (map (λ name. name.now) fresh.now) decided run) }
 {
     match decided {
         Ok(
@@ -186,11 +182,14 @@ fn update_done<T: ComposeTable>(
             Ok(UpdateRun::Refused(outcome))
         }
         Err(UpdateFault::Input(refusal)) => {
-            let outcome = refused_outcome::<T>(alloc, files, verbose, fresh, refusal)?;
+            let outcome = refused_outcome(alloc, files, fresh, refusal)?;
             Ok(UpdateRun::Refused(outcome))
         }
         Err(UpdateFault::TooLarge) => {
-            let line = String::from_str(alloc, "refused: update: 1 TooLarge\n")?;
+            let line = String::from_str(
+                alloc,
+                "composecheck: the files and their certificate have more than 8,388,608 bytes\n",
+            )?;
             let outcome = Outcome::of_errors(alloc, line, Ended::Refused);
             Ok(UpdateRun::Refused(outcome))
         }
@@ -198,18 +197,16 @@ fn update_done<T: ComposeTable>(
 }
 
 /// The outcome where a part is refused: the new table stands for both, since the one in use was read when it was taken into use.
-fn refused_outcome<T: ComposeTable>(
+fn refused_outcome(
     alloc: Global,
     files: &UpdateFiles,
-    verbose: bool,
     fresh: &[&str],
     refusal: Refusal,
 ) -> Result<Outcome, AllocError>
     ensures { IfOk result
-        (λ outcome. IsUpdateRefusal verbose files.now (map (λ name. name.now) fresh.now) refusal
-        outcome) }
+        (λ outcome. IsUpdateRefusal files.now (map (λ name. name.now) fresh.now) refusal outcome) }
 {
     let tables = [GivenTable::of(&files.new), GivenTable::of(&files.new)];
     let given = Given::of(&files.names, fresh, &tables);
-    outcome_of::<T>(alloc, verbose, &given, Err(refusal))
+    worded_refusal(alloc, false, &given, refusal)
 }
