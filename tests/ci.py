@@ -166,10 +166,10 @@ def check_reports(program, results):
 
 def check_refused_tables(program, results):
     """A table that is refused is shown with the reason, which is the program's to say; the other locales are compared."""
-    begin, end = f"{HEADING}\n**fi_FI.UTF-8 is refused:**\n\n    refused: ", UNCHANGED + TWO
+    begin, end = f"{HEADING}\n**fi_FI.UTF-8 is refused:**\n\n    composecheck: ", UNCHANGED + TWO
     with Trees(OLD, {**OLD, "fi_FI.UTF-8": "<a>\n"}, {}) as trees:
         printed, said, status = trees.answer(program)
-        results.expect("a table is refused", (printed.startswith(f"{begin}new: 1 Read: "), printed.endswith(end), said, status), (True, True, "", 2))
+        results.expect("a table is refused", (printed.startswith(f"{begin}new tree/fi_FI.UTF-8/Compose:1:4: "), printed.endswith(end), said, status), (True, True, "", 2))
     with Trees(RENAMED, OLD, {}) as trees:
         os.mkdir(os.path.join(trees.room, "old tree", "fi_FI.UTF-8"))
         os.symlink("nothing", os.path.join(trees.room, "old tree", "fi_FI.UTF-8", "Compose"))
@@ -237,7 +237,7 @@ def check_lists(program, results):
         results.expect("a line of `all` that matches nothing", trees.answer(program), (HEADING + stale + BOTH_ACCEPTED + THREE, "", 2))
     with Trees(OLD, NEW, {"all": DROPPED, "fi_FI.UTF-8": f"# one\n{DROPPED}removed: <Multi_key> <c> \"y\"\n"}) as trees:
         printed, said, status = trees.answer(program)
-        begin = f"{HEADING}\n**fi_FI.UTF-8 is refused:**\n\n    refused: accept: 1 Stale line=3\n    composecheck: intended changes/fi_FI.UTF-8:3:1: "
+        begin = f"{HEADING}\n**fi_FI.UTF-8 is refused:**\n\n    composecheck: intended changes/fi_FI.UTF-8:3:1: "
         results.expect("a line of a locale that matches nothing", (printed.startswith(begin), said, status), (True, "", 2))
 
 

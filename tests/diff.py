@@ -328,7 +328,7 @@ class Trial:
                 file.write('removed: <a> <a> <a> <a> "x"\n')
             ran = self.run(folder, "--accept", "accepted", *options)
             stale = len(losses) + 2
-            message = f"refused: accept: 1 Stale line={stale}\ncomposecheck: accepted:{stale}:1: no change of these tables is named by the line\n"
+            message = f"composecheck: accepted:{stale}:1: no change of these tables is named by the line\n"
             self.expect(f"{number}: a stale one", (message, 2), (ran.stderr, ran.returncode))
 
 

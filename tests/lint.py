@@ -194,9 +194,9 @@ def answers(chance, program, folder, wanted):
     yield "rest", run_in(folder, program, "--accept", "list", "--write-accept", "own"), (1 if left else 0, rest, "")
     twice = run_in(folder, program, "--accept", "list", "own", "own")
     yield "two tables", twice, (1 if left else 0, list(map(as_line, left)) * 2, "")
-    stale = f"refused: accept: 1 Stale line={len(accepted) + 1}\ncomposecheck: stale:{len(accepted) + 1}:1: {STALE}\n"
+    stale = f"composecheck: stale:{len(accepted) + 1}:1: {STALE}\n"
     yield "stale", run_in(folder, program, "--accept", "stale", "own"), (2, [], stale)
-    bad = f"refused: accept: 2 BadLine line={len(accepted) + 2}\ncomposecheck: bad:{len(accepted) + 2}:1: {BAD}\n"
+    bad = f"composecheck: bad:{len(accepted) + 2}:1: {BAD}\n"
     yield "bad line", run_in(folder, program, "--accept", "bad", "own"), (2, [], bad)
     status, lines, errors = run_in(folder, program, "--format", "json", "--accept", "list", "own")
     objects = [*map(as_object, left), counts(wanted, left)]

@@ -106,7 +106,7 @@ def try_meant(program, tell):
         tell.check("the table in use is still kept", list((kept(folder) or {}).values()), [OLD])
         write(folder, "stale", line.replace("ê", "e") + "\n")
         status, out, err = update(program, folder, "other", "--accept", "stale")
-        refusal = "refused: accept: 1 Stale line=1\ncomposecheck: stale:1:1: no change of these tables is named by the line\n"
+        refusal = "composecheck: stale:1:1: no change of these tables is named by the line\n"
         tell.check("a line that names no change", (status, out, err), (2, "", refusal))
         write(folder, "meant", line + "\n")
         note = "note: typing changes as it is meant to; a running service keeps its table until it starts again\n"

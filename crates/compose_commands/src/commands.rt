@@ -2,7 +2,7 @@
 //! its clients do more.
 use crate::client::{load_files, session_files};
 use crate::environment::read_environment;
-use crate::output::put;
+use crate::output::{Telling, put};
 use crate::serving::serve_files;
 use crate::updating::update_files;
 use compose_answer::Ended;
@@ -23,24 +23,24 @@ use std::fs::File;
 use std::net::Net;
 use std::rt::{Clock, Env, Files};
 
-/// Does what is asked for. An error is why what it was given can't be read, or is refused.
+/// Does what is asked for. An error is why what it was given can't be read, or is refused; where it is printed here, it is told so.
 pub fn answer<T: ComposeTable, F: Folder>(
     rt: &(impl Clock + Env + Files<File = File> + Net + Print + Eprint + AllocGlobal),
     files: &mut ReadOnce<F>,
     process_id: u32,
     is_terminal: bool,
+    telling: Telling,
     asked: &CommandLine<'_>,
 ) -> Result<Ended, Fault> {
     let options = Options {
         names: &asked.names,
         verbose: asked.verbose,
     };
-    let verbose = asked.verbose;
     match &asked.request {
         Request::Type { table, keys } => {
             put(
                 rt,
-                verbose,
+                telling,
                 type_keys::<T, F>(rt, files, is_terminal, options, table, keys),
             )
         }
@@ -57,42 +57,42 @@ pub fn answer<T: ComposeTable, F: Folder>(
             let allowed = fresh.as_deref();
             put(
                 rt,
-                verbose,
+                telling,
                 check::<T, F>(rt, files, is_terminal, options, tables, texts, allowed),
             )
         }
         Request::Explain { tables, fresh, all } => {
             put(
                 rt,
-                verbose,
+                telling,
                 explain::<T, F>(rt, files, is_terminal, options, tables, fresh, *all),
             )
         }
         Request::Diff { arguments, fresh } => {
             put(
                 rt,
-                verbose,
+                telling,
                 diff::<T, F>(rt, files, is_terminal, options, arguments, fresh),
             )
         }
         Request::How { arguments, texts } => {
             put(
                 rt,
-                verbose,
+                telling,
                 how::<T, F>(rt, files, is_terminal, options, arguments, texts),
             )
         }
         Request::List(arguments) => {
             put(
                 rt,
-                verbose,
+                telling,
                 list::<T, F>(rt, files, is_terminal, options, arguments),
             )
         }
         Request::Lint(arguments) => {
             put(
                 rt,
-                verbose,
+                telling,
                 lint(rt, files, is_terminal, options, arguments),
             )
         }
@@ -111,25 +111,25 @@ pub fn answer<T: ComposeTable, F: Folder>(
             };
             put(
                 rt,
-                verbose,
+                telling,
                 make::<T, F>(rt, files, is_terminal, options, tables, making),
             )
         }
         Request::Manifest(arguments) => {
-            put(rt, verbose, manifest(rt, files, is_terminal, arguments))
+            put(rt, telling, manifest(rt, files, is_terminal, arguments))
         }
         Request::Update { arguments, fresh } => {
-            update_files::<T, F>(rt, files, verbose, arguments, fresh)
+            update_files::<T, F>(rt, files, telling, arguments, fresh)
         }
         Request::Serve { arguments, fresh } => {
             let allowed = fresh.as_deref();
             serve_files::<T, F>(rt, files, options, process_id, arguments, allowed)
         }
-        Request::Load(arguments) => put(rt, verbose, load_files(rt, files, arguments)),
+        Request::Load(arguments) => put(rt, telling, load_files(rt, files, arguments)),
         Request::Session(arguments) => {
             put(
                 rt,
-                verbose,
+                telling,
                 session_files::<T, F>(rt, files, options, arguments),
             )
         }

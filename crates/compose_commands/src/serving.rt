@@ -3,7 +3,7 @@
 use crate::at_once::serve_many;
 use crate::connection_ends::{EndLines, print_text};
 use crate::next_connection::next_connection;
-use crate::output::put;
+use crate::output::{Telling, put};
 use compose_answer::Ended;
 use compose_arguments::ServeArguments;
 use compose_folder::{Folder, ReadOnce};
@@ -31,7 +31,7 @@ pub fn serve_files<T: ComposeTable, F: Folder>(
 ) -> Result<Ended, Fault> {
     match start_service::<T, F>(rt.alloc(), files, options, arguments, allowed)? {
         Ok(mut service) => serve_on_socket(rt, process_id, &mut service, arguments),
-        Err(outcome) => put(rt, options.verbose, Ok(outcome)),
+        Err(outcome) => put(rt, Telling::Line, Ok(outcome)),
     }
 }
 

@@ -2,7 +2,7 @@
 //! why what it was given can't be read, or is refused.
 use crate::client::load_outcome;
 use crate::environment::{read_environment, variable_text};
-use crate::output::put;
+use crate::output::{Telling, put};
 use crate::state_folder::StateFolder;
 use compose_answer::Ended;
 use compose_arguments::UpdateArguments;
@@ -20,7 +20,7 @@ use std::rt::{Clock, Env, Files};
 pub fn update_files<T: ComposeTable, F: Folder>(
     rt: &(impl Clock + Env + Files<File = File> + Net + Print + Eprint + AllocGlobal),
     files: &mut ReadOnce<F>,
-    verbose: bool,
+    telling: Telling,
     arguments: &UpdateArguments<'_>,
     fresh: &[&str],
 ) -> Result<Ended, Fault> {
@@ -29,13 +29,13 @@ pub fn update_files<T: ComposeTable, F: Folder>(
     let environment = read_environment(rt, false)?;
     let read = UpdateFiles::read(rt.alloc(), files, &environment, arguments)?;
     let _ = eprint!(rt; "{}", read.new.note);
-    update_read::<T>(rt, verbose, &folder, socket.as_deref(), &read, fresh)
+    update_read::<T>(rt, telling, &folder, socket.as_deref(), &read, fresh)
 }
 
 /// Takes the table of these files into use.
 fn update_read<T: ComposeTable>(
     rt: &(impl Files<File = File> + Net + Print + Eprint + AllocGlobal),
-    verbose: bool,
+    telling: Telling,
     folder: &StateFolder,
     socket: Option<&str>,
     read: &UpdateFiles,
@@ -43,32 +43,32 @@ fn update_read<T: ComposeTable>(
 ) -> Result<Ended, Fault> {
     let _lock = folder.lock(rt)?;
     let stored = folder.read(rt)?;
-    match run_update::<T>(rt.alloc(), read, verbose, fresh, stored.as_deref())? {
+    match run_update::<T>(rt.alloc(), read, fresh, stored.as_deref())? {
         UpdateRun::Replaced {
             stored,
             certificate,
         } => {
-            let loaded = load_running(rt, verbose, socket, read, certificate.as_deref())?;
+            let loaded = load_running(rt, telling, socket, read, certificate.as_deref())?;
             match loaded {
-                Ended::Yes => keep(rt, verbose, folder, &stored, ""),
+                Ended::Yes => keep(rt, telling, folder, &stored, ""),
                 ended => Ok(ended),
             }
         }
         UpdateRun::Meant { stored } => keep(
             rt,
-            verbose,
+            telling,
             folder,
             &stored,
             "note: typing changes as it is meant to; a running service keeps its table until it starts again\n",
         ),
-        UpdateRun::Refused(outcome) => put(rt, verbose, Ok(outcome)),
+        UpdateRun::Refused(outcome) => put(rt, telling, Ok(outcome)),
     }
 }
 
 /// Loads the table into the service that is running, if one is, by the certificate, if a table was in use.
 fn load_running(
     rt: &(impl Files + Net + Print + Eprint + AllocGlobal),
-    verbose: bool,
+    telling: Telling,
     socket: Option<&str>,
     read: &UpdateFiles,
     certificate: Option<&str>,
@@ -80,13 +80,13 @@ fn load_running(
         return Ok(Ended::Yes);
     }
     let outcome = load_outcome(rt, socket, &read.new, certificate.as_bytes());
-    put(rt, verbose, outcome)
+    put(rt, telling, outcome)
 }
 
 /// Keeps the bytes of the table for the next start of the service, with a note or none.
 fn keep(
     rt: &(impl Files<File = File> + Print + Eprint + AllocGlobal),
-    verbose: bool,
+    telling: Telling,
     folder: &StateFolder,
     stored: &[u8],
     note: &str,
@@ -95,7 +95,7 @@ fn keep(
     let text = String::from_str(rt.alloc(), "stored\n")?;
     let notes = String::from_str(rt.alloc(), note)?;
     let outcome = Outcome::of_output(rt.alloc(), text, Ended::Yes).with_notes(notes);
-    put(rt, verbose, Ok(outcome))
+    put(rt, telling, Ok(outcome))
 }
 
 /// The folder of the table in use: the argument's, or else that of the environment.

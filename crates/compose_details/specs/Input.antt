@@ -1,15 +1,19 @@
 -- Why what a command was given can't be read (this project's profile): a line that refuses it, and with `-v` below it where the fault is, and why.
 -- `own` is what the fault of a manifest, of a source or of a search is printed as: these texts are derived, and no contract speaks of them.
-use Rattle.std.specs.Prelude.{ℕ, Bool, if◌then◌else◌, List, [], ◌∷◌, ◌++◌, flat_map, None, string_bytes, codes}
+use Rattle.std.specs.Prelude.{ℕ, Bool, if◌then◌else◌, List, [], ◌∷◌, ◌++◌, flat_map, Option, None, string_bytes, codes}
 use Rattle.std.specs.Option.{option_map_or}
 use Rattle.compose_shown.specs.Shown.{shown_text}
 use Rattle.compose_find.specs.declared.found_source.FindFault.{FindFault}
+use Rattle.compose_find.specs.declared.found_source.FindFault.TheVariants.{MissingFile}
 use Rattle.compose_messages.specs.Faults.{open_said, source_said}
+use Rattle.compose_messages.specs.Hints.{include_hint}
+use Rattle.compose_messages.specs.declared.hints.Hint.{Hint}
 use Rattle.compose_input.specs.declared.fault.Unopened.{Unopened}
 use Rattle.compose_input.specs.declared.fault.Fault.{Fault}
 use Rattle.compose_input.specs.declared.fault.Fault.TheVariants.{Unread, Manifest, Source, Find, Refused, Word, NoMemory}
 use Rattle.compose_details.specs.Lines.{line}
 use Rattle.compose_details.specs.Files.{manifest_lines, find_said}
+use Rattle.compose_details.specs.Refusals.{hint_line}
 
 -- the line that refuses what was given (code 10 ends it)
 abbrev pub refusal_line : List ℕ → Fault → List ℕ
@@ -29,13 +33,30 @@ unopened_line unopened = line (string_bytes unopened.path) None (open_said unope
 abbrev pub include_line : FindFault → List ℕ
 include_line fault = option_map_or (λ said. said ++ 10 ∷ []) (find_said fault) []
 
+-- the hint against an include that leads to no file, where one helps
+abbrev pub find_hint : FindFault → Option Hint
+find_hint (MissingFile from n path) = include_hint (string_bytes path)
+find_hint fault = None
+
+-- which include leads to no file, why nothing is read where it was looked for, and the hint
+abbrev pub search_lines : FindFault → List Unopened → List ℕ
+search_lines fault tried = include_line fault ++ flat_map unopened_line tried ++ hint_line (find_hint fault)
+
 -- where the fault is, and why
 abbrev pub fault_details : Fault → List ℕ
 fault_details (Unread unopened) = unopened_line unopened
 fault_details (Manifest path bytes fault) = manifest_lines (string_bytes path) bytes.items fault
 fault_details (Source part path fault) = line (string_bytes path) None (source_said fault)
-fault_details (Find fault tried) = include_line fault ++ flat_map unopened_line tried.items
+fault_details (Find fault tried) = search_lines fault tried.items
 fault_details fault = []
 
 abbrev pub fault_lines : List ℕ → Bool → Fault → List ℕ
 fault_lines own verbose fault = refusal_line own fault ++ (if verbose then fault_details fault else [])
+
+-- for people: the details, or the line that refuses what was given where there are none
+abbrev pub details_or : List ℕ → List ℕ → List ℕ
+details_or line [] = line
+details_or line (b ∷ details) = b ∷ details
+
+abbrev pub fault_words : List ℕ → Fault → List ℕ
+fault_words own fault = details_or (refusal_line own fault) (fault_details fault)

@@ -1,8 +1,9 @@
 -- What is told of a refusal (this project's profile).
-use Rattle.std.specs.Prelude.{ℕ, Bool, not, if◌then◌else◌, List, [], ◌∷◌, ◌++◌, map, slice_get, Option, Some, None, Result, Ok, Err, codes}
+use Rattle.std.specs.Prelude.{◌≡◌, ℕ, Bool, not, if◌then◌else◌, List, [], ◌∷◌, ◌++◌, map, slice_get, Option, Some, None, Result, Ok, Err, codes}
 use Rattle.std.specs.Option.{option_map, option_map_or, option_and_then}
 use Rattle.keysym_core.specs.Names.{KeysymNames}
 use Rattle.keysym_core.specs.Header.{names_of}
+use Rattle.keysym_core.specs.Printed.{printed}
 use Rattle.keysym_core.specs.declared.fault.NameFault.{NameFault}
 use Rattle.compose_read.specs.declared.settling.SettleFault.TheVariants as settle_faults
 use Rattle.compose_tree.specs.declared.reading.TableFault.{TableFault}
@@ -13,8 +14,9 @@ use Rattle.compose_fresh.specs.declared.fault.CheckFault.TheVariants.{FreshIgnor
 use Rattle.compose_answer.specs.declared.refusal.Refusal.{Refusal}
 use Rattle.compose_answer.specs.declared.refusal.Refusal.TheVariants.{Names, Key, Table, Side, Repertoire, Certificate, Fresh, TooManyFresh}
 use Rattle.compose_messages.specs.Faults.{name_line, name_said, certificate_line, certificate_said, repertoire_line, repertoire_said}
-use Rattle.compose_messages.specs.Hints.{hint_text, name_hint, table_hint}
-use Rattle.compose_messages.specs.Messages.{quoting}
+use Rattle.compose_messages.specs.Hints.{certificate_hint, header_hint, hint_text, name_hint, table_hint}
+use Rattle.compose_messages.specs.Characters.{IsKeyOfText, character_hint, text_in_place}
+use Rattle.compose_messages.specs.Messages.{naming}
 use Rattle.compose_messages.specs.Overlaps.{events}
 use Rattle.compose_messages.specs.declared.hints.Hint.{Hint}
 use Rattle.compose_details.specs.Lines.{line, remark, whole_line, header_line, is_empty}
@@ -45,14 +47,15 @@ is_unnamed given = is_empty given.headers.now
 
 -- the argument that is no name
 abbrev pub argument_line : List (List ℕ) → ℕ → List ℕ
-argument_line arguments index = option_map_or (λ argument. remark (quoting (codes "no keysym has the name ") argument)) (slice_get arguments index) []
+argument_line arguments index = option_map_or (λ argument. remark (naming (codes "no keysym has the name ") argument)) (slice_get arguments index) []
 
 -- against the argument with this index; `are_given` says whether files of names are
 abbrev pub key_hint : Bool → List (List ℕ) → ℕ → Option Hint
 key_hint are_given arguments index = option_map (name_hint are_given) (slice_get arguments index)
 
-abbrev pub key_lines : Given → ℕ → List ℕ
-key_lines given index = argument_line (map (λ a. a.now) given.arguments.now) index ++ hint_line (key_hint (not (is_unnamed given)) (map (λ a. a.now) given.arguments.now) index)
+-- the argument with this index; nothing where there is none
+abbrev pub argument_text : List (List ℕ) → ℕ → List ℕ
+argument_text arguments index = option_map_or (λ argument. argument) (slice_get arguments index) []
 
 -- ---- tables
 
@@ -62,17 +65,22 @@ fault_lines names table (Settle (settle_faults.Overlap short long)) = overlap_li
 fault_lines names table (Build fault) = line table.manifest.now None (codes "the sequences have more than 1,048,576 nodes")
 fault_lines names table fault = []
 
--- the lines of a fault of a table that is read with the names of a header, if these can be read, and then the hint
+-- the lines of a fault of a table that is read with the names of a header, if these can be read
 abbrev pub lines_by : GivenTable → TableFault → Result KeysymNames NameFault → List ℕ
 lines_by table fault (Ok names) = fault_lines names table fault
 lines_by table fault (Err why) = []
 
-abbrev pub table_lines : Given → GivenTable → TableFault → List ℕ
-table_lines given table fault = lines_by table fault (names_of given.header.now) ++ hint_line (table_hint table.input.sources.now (not (is_unnamed given)) fault)
-
 -- of the table with this index
 abbrev pub numbered_lines : Given → ℕ → TableFault → List ℕ
-numbered_lines given index fault = option_map_or (λ table. table_lines given table fault) (slice_get given.tables.now index) []
+numbered_lines given index fault = option_map_or (λ table. lines_by table fault (names_of given.header.now)) (slice_get given.tables.now index) []
+
+-- the hint against the fault of the table with this index
+abbrev pub numbered_hint : Given → ℕ → TableFault → Option Hint
+numbered_hint given index fault = option_and_then (λ (table : GivenTable). table_hint table.input.sources.now (not (is_unnamed given)) fault) (slice_get given.tables.now index)
+
+-- what stands in the place of a keysym's name at the fault of the table with this index
+abbrev pub numbered_text : Given → ℕ → TableFault → List ℕ
+numbered_text given index fault = option_map_or (λ (table : GivenTable). text_in_place table.input.sources.now fault) (slice_get given.tables.now index) []
 
 -- ---- fresh keysyms
 
@@ -90,11 +98,11 @@ fresh_lines given (FreshIgnored k) = keysyms_line (codes "a compose state ignore
 fresh_lines given (FreshUsed k) = keysyms_line (codes "a sequence of the old table has the keysym") (k ∷ []) (names_of given.header.now)
 fresh_lines given fault = []
 
--- ---- all
+-- ---- all, but for the hint
 
 abbrev pub refusal_lines : Given → Refusal → List ℕ
 refusal_lines given (Names fault) = name_lines given.headers.now fault
-refusal_lines given (Key index) = key_lines given index
+refusal_lines given (Key index) = argument_line (map (λ a. a.now) given.arguments.now) index
 refusal_lines given (Table fault) = numbered_lines given 0 fault
 refusal_lines given (Side Old fault) = numbered_lines given 0 fault
 refusal_lines given (Side New fault) = numbered_lines given 1 fault
@@ -103,3 +111,49 @@ refusal_lines given (Certificate fault) = words_line given.certificate.now (cert
 refusal_lines given (Fresh fault) = fresh_lines given fault
 refusal_lines given TooManyFresh = remark (codes "there are more than 1,048,576 fresh keysyms")
 refusal_lines given refusal = []
+
+-- ---- the hint, which comes last
+
+-- against a refusal, where one helps; of the name of a key it says nothing
+abbrev pub refusal_hint : Given → Refusal → Option Hint
+refusal_hint given (Names fault) = header_hint fault
+refusal_hint given (Key index) = key_hint (not (is_unnamed given)) (map (λ a. a.now) given.arguments.now) index
+refusal_hint given (Table fault) = numbered_hint given 0 fault
+refusal_hint given (Side Old fault) = numbered_hint given 0 fault
+refusal_hint given (Side New fault) = numbered_hint given 1 fault
+refusal_hint given (Certificate fault) = certificate_hint given.certificate_text.now fault
+refusal_hint given refusal = None
+
+-- what stands in the place of a keysym's name, if the refusal is about one
+abbrev pub refused_text : Given → Refusal → List ℕ
+refused_text given (Key index) = argument_text (map (λ a. a.now) given.arguments.now) index
+refused_text given (Table fault) = numbered_text given 0 fault
+refused_text given (Side Old fault) = numbered_text given 0 fault
+refused_text given (Side New fault) = numbered_text given 1 fault
+refused_text given refusal = []
+
+-- the name of the key of the character that the text is, by these names; none where it is no character, or no key has it
+pub record IsCalled (names : KeysymNames) (text : List ℕ) (called : Option (List ℕ)) : Type 0 where
+  pub key : Option ℕ
+  pub is_key : IsKeyOfText names text key
+  pub is : called ≡ option_map (printed names) key
+
+-- by the names of a header, if these can be read
+abbrev pub CallsKey : Result KeysymNames NameFault → List ℕ → Option (List ℕ) → Type 0
+CallsKey (Ok names) text called = IsCalled names text called
+CallsKey (Err why) text called = called ≡ None
+
+-- the hint with the name of a key
+abbrev pub character_line : List ℕ → List ℕ
+character_line name = character_hint name ++ 10 ∷ []
+
+-- the name of the key of a character, if it has one, and else the hint
+abbrev pub last_hint : Option (List ℕ) → Option Hint → List ℕ
+last_hint (Some name) hint = character_line name
+last_hint None hint = hint_line hint
+
+-- what is told of a refusal, and then the hint
+pub record IsRefusalDetails (given : Given) (refusal : Refusal) (details : List ℕ) : Type 0 where
+  pub called : Option (List ℕ)
+  pub is_called : CallsKey (names_of given.header.now) (refused_text given refusal) called
+  pub lines : details ≡ refusal_lines given refusal ++ last_hint called (refusal_hint given refusal)

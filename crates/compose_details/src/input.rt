@@ -4,9 +4,10 @@ ghost use Rattle.compose_details.specs.Input as words;
 
 use crate::files::{find_message, manifest_details};
 use crate::lines::push_line;
+use crate::refusal::push_hint;
 use compose_find::FindFault;
 use compose_input::{Fault, Unopened};
-use compose_messages::{Message, open_words, source_words};
+use compose_messages::{Hint, Message, include_hint, open_words, source_words};
 use compose_shown::Shown;
 use std::alloc::{AllocError, Global};
 use std::fmt::Write;
@@ -19,6 +20,28 @@ pub fn fault_text(alloc: Global, verbose: bool, fault: &Fault) -> Result<String,
 {
     let own = own_text(alloc, fault)?;
     fault_lines(alloc, verbose, fault, &own)
+}
+
+/// The lines that say for people why what a command was given can't be read: where the fault is, and why, and the refusal only where nothing
+/// more is to be said. O(bytes of a refused manifest).
+pub fn fault_words(alloc: Global, fault: &Fault) -> Result<String, AllocError>
+    ensures { IfOk result
+        (λ text. (own : List ℕ) × (string_bytes text ≡ words.fault_words own fault.now)) }
+{
+    let own = own_text(alloc, fault)?;
+    worded_lines(alloc, fault, &own)
+}
+
+/// The same lines, by what the fault is printed as.
+fn worded_lines(alloc: Global, fault: &Fault, own: &str) -> Result<String, AllocError>
+    ensures { IfOk result (λ text. string_bytes text ≡ words.fault_words own.now fault.now) }
+{
+    let mut details = String::new(alloc);
+    push_details(alloc, &mut details, fault)?;
+    match details.as_bytes().first() {
+        Some(_) => Ok(details),
+        None => refusal_line(alloc, fault, own),
+    }
 }
 
 /// What the fault of a manifest, of a source or of a search is printed as; nothing of another fault.
@@ -80,15 +103,26 @@ fn push_details(alloc: Global, text: &mut String, fault: &Fault) -> Result<(), A
     }
 }
 
-/// Adds which include leads to no file, and why nothing is read where it was looked for.
+/// Adds which include leads to no file, why nothing is read where it was looked for, and a hint where one helps.
 fn push_search(text: &mut String, fault: &FindFault, tried: &[Unopened]) -> Result<(), AllocError>
     ensures { OnOk result
         (string_bytes text.new
         ≡ string_bytes text.old
-        ++ (words.include_line fault.now ++ flat_map words.unopened_line tried.now)) }
+        ++ words.search_lines fault.now tried.now) }
 {
     push_include(text, fault)?;
-    push_tried(text, tried)
+    push_tried(text, tried)?;
+    push_hint(text, find_hint(fault))
+}
+
+/// The hint against an include that leads to no file, where one helps.
+fn find_hint(fault: &FindFault) -> Option<Hint>
+    ensures { result ≡ words.find_hint fault.now }
+{
+    match fault {
+        FindFault::MissingFile { path, .. } => include_hint(path),
+        _ => None,
+    }
 }
 
 /// Adds which include leads to no file, if the fault is one of an include.

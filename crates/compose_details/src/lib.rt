@@ -25,5 +25,5 @@ mod sides;
 pub use answer::answer_details;
 pub use files::{find_message, manifest_details};
 pub use given::{Given, GivenTable};
-pub use input::fault_text;
+pub use input::{fault_text, fault_words};
 pub use refusal::refusal_details;

@@ -1,7 +1,9 @@
 //! What is told of a refusal.
-ghost use Rattle.std.specs.Prelude.{◌≡◌, ◌++◌, map, OnOk, IfOk, string_bytes};
+ghost use Rattle.std.specs.Prelude.{◌≡◌, ◌++◌, map, option_map, OnOk, IfOk, string_bytes};
 ghost use Rattle.keysym_core.specs.Header.{names_of};
+ghost use Rattle.keysym_core.specs.Printed.{printed};
 ghost use Rattle.compose_details.specs.Refusals as words;
+ghost use Rattle.compose_details.specs.Refusals.{CallsKey, IsCalled, IsRefusalDetails};
 
 use crate::definitions::push_overlap;
 use crate::faulty::push_faulty_lines;
@@ -11,8 +13,8 @@ use compose_answer::Refusal;
 use compose_check::CheckFault;
 use compose_input::Header;
 use compose_messages::{
-    FaultWords, Hint, Message, certificate_words, name_hint, name_words, push_events,
-    repertoire_words, table_hint,
+    CharacterHint, FaultWords, Hint, Message, certificate_hint, certificate_words, header_hint,
+    key_of_text, name_hint, name_words, push_events, repertoire_words, table_hint, text_in_place,
 };
 use compose_migration::Side;
 use compose_read::SettleFault;
@@ -22,7 +24,7 @@ use std::alloc::{AllocError, Global};
 use std::fmt::Write;
 
 /// What `-v` tells of a refusal, in lines: the faulty lines of a table, up to twenty, both places of an overlap, the line of another
-/// file, and a hint where one helps. Nothing where memory was refused. At the cost of reading the table once more, and
+/// file, and a hint where one helps. Nothing where memory was refused. At the cost of reading the table and the names once more, and
 /// O(bytes of the lines that are visited).
 pub fn refusal_details(
     alloc: Global,
@@ -30,11 +32,145 @@ pub fn refusal_details(
     refusal: &Refusal,
 ) -> Result<String, AllocError>
     ensures { IfOk result
-        (λ text. string_bytes text ≡ words.refusal_lines given.now refusal.now) }
+        (λ text. IsRefusalDetails given.now refusal.now (string_bytes text)) }
 {
+    let called = key_called(alloc, given.header, refused_text(given, refusal))?;
     let mut text = String::new(alloc);
     push_refusal(alloc, &mut text, given, refusal)?;
+    push_last_hint(&mut text, &called, refusal_hint(given, refusal))?;
     Ok(text)
+}
+
+/// The name of the key of the character that the text is, by the names of this header; none where it is no character, or no key has it.
+fn key_called(alloc: Global, header: &[u8], text: &str) -> Result<Option<String>, AllocError>
+    ensures { IfOk result
+        (λ called. CallsKey (names_of header.now) text.now (option_map string_bytes called)) }
+{
+    match Names::read(alloc, header) {
+        Ok(names) => called_by(alloc, &names, text),
+        Err(NameFault::NoMemory) => Err(AllocError),
+        Err(_) => Ok(None),
+    }
+}
+
+/// The name of the key of the character that the text is, by these names.
+fn called_by(alloc: Global, names: &Names, text: &str) -> Result<Option<String>, AllocError>
+    ensures { IfOk result
+        (λ called. IsCalled names.now text.now (option_map string_bytes called)) }
+{
+    match key_of_text(names, text) {
+        Some(keysym) => Ok(Some(printed(alloc, names, keysym)?)),
+        None => Ok(None),
+    }
+}
+
+/// How a keysym is printed.
+fn printed(alloc: Global, names: &Names, keysym: Keysym) -> Result<String, AllocError>
+    ensures { IfOk result (λ name. string_bytes name ≡ printed names.now keysym) }
+{
+    match names.print(alloc, keysym) {
+        Ok(name) => Ok(name),
+        Err(_) => Err(AllocError),
+    }
+}
+
+/// Adds the hint with the name of the key of a character, if it has one, and else the other one, if there is one.
+fn push_last_hint(
+    text: &mut String,
+    called: &Option<String>,
+    hint: Option<Hint>,
+) -> Result<(), AllocError>
+    ensures { OnOk result
+        (string_bytes text.new
+        ≡ string_bytes text.old
+        ++ words.last_hint (option_map string_bytes called.now) hint) }
+{
+    match called {
+        Some(name) => push_character_hint(text, name),
+        None => push_hint(text, hint),
+    }
+}
+
+/// Adds the hint with the name of the key of a character.
+fn push_character_hint(text: &mut String, name: &str) -> Result<(), AllocError>
+    ensures { OnOk result
+        (string_bytes text.new ≡ string_bytes text.old ++ words.character_line name.now) }
+{
+    let hint = CharacterHint(name);
+    writeln!(text, "{hint}")?;
+    Ok(())
+}
+
+/// What stands in the place of a keysym's name at a refusal, if it is about one; else nothing.
+fn refused_text<'a>(given: &Given<'a>, refusal: &Refusal) -> &'a str
+    ensures { result.now ≡ words.refused_text given.now refusal.now }
+{
+    match refusal {
+        Refusal::Key { index } => argument_text(given.arguments, *index),
+        Refusal::Table(fault) => table_text(given, 0, fault),
+        Refusal::Side {
+            side: Side::Old,
+            fault,
+        } => table_text(given, 0, fault),
+        Refusal::Side {
+            side: Side::New,
+            fault,
+        } => table_text(given, 1, fault),
+        _ => "",
+    }
+}
+
+/// The argument with this index; nothing where there is none.
+fn argument_text<'a>(arguments: &'a [&'a str], index: usize) -> &'a str
+    ensures { result.now ≡ words.argument_text (map (λ a. a.now) arguments.now) index }
+{
+    match arguments.get(index) {
+        Some(argument) => argument,
+        None => "",
+    }
+}
+
+/// What stands in the place of a keysym's name at a fault of the table with this index.
+fn table_text<'a>(given: &Given<'a>, index: usize, fault: &TableFault) -> &'a str
+    ensures { result.now ≡ words.numbered_text given.now index fault.now }
+{
+    match given.tables.get(index) {
+        Some(table) => text_in_place(table.input.sources, fault),
+        None => "",
+    }
+}
+
+/// The hint against a refusal, where one helps; of the name of a key it says nothing.
+fn refusal_hint(given: &Given<'_>, refusal: &Refusal) -> Option<Hint>
+    ensures { result ≡ words.refusal_hint given.now refusal.now }
+{
+    let are_given = !given.headers.is_empty();
+    match refusal {
+        Refusal::Names(fault) => header_hint(fault),
+        Refusal::Key { index } => key_hint(given.arguments, are_given, *index),
+        Refusal::Table(fault) => numbered_hint(given, 0, fault),
+        Refusal::Side {
+            side: Side::Old,
+            fault,
+        } => numbered_hint(given, 0, fault),
+        Refusal::Side {
+            side: Side::New,
+            fault,
+        } => numbered_hint(given, 1, fault),
+        Refusal::Certificate(fault) => certificate_hint(given.certificate_text, fault),
+        _ => None,
+    }
+}
+
+/// The hint against a fault of the table with this index.
+fn numbered_hint(given: &Given<'_>, index: usize, fault: &TableFault) -> Option<Hint>
+    ensures { result ≡ words.numbered_hint given.now index fault.now }
+{
+    let are_given = !given.headers.is_empty();
+    match given.tables.get(index) {
+        Some(table) => table_hint(table.input.sources, fault, are_given),
+        None => None,
+    }
 }
 
 /// Adds what is told of a refusal.
@@ -50,7 +186,7 @@ fn push_refusal(
 {
     match refusal {
         Refusal::Names(fault) => push_name_fault(text, given.headers, fault),
-        Refusal::Key { index } => push_key(text, given, *index),
+        Refusal::Key { index } => push_argument(text, given.arguments, *index),
         Refusal::Table(fault) => push_table(alloc, text, given, 0, fault),
         Refusal::Side {
             side: Side::Old,
@@ -119,17 +255,7 @@ fn push_name_fault(
     }
 }
 
-/// Adds what is said of an argument that names no keysym.
-fn push_key(text: &mut String, given: &Given<'_>, index: usize) -> Result<(), AllocError>
-    ensures { OnOk result
-        (string_bytes text.new ≡ string_bytes text.old ++ words.key_lines given.now index) }
-{
-    push_argument(text, given.arguments, index)?;
-    let are_given = !given.headers.is_empty();
-    push_hint(text, key_hint(given.arguments, are_given, index))
-}
-
-/// Adds the argument with this index, if there is one.
+/// Adds that the argument with this index names no keysym, if there is one.
 fn push_argument(text: &mut String, arguments: &[&str], index: usize) -> Result<(), AllocError>
     ensures { OnOk result
         (string_bytes text.new
@@ -137,7 +263,7 @@ fn push_argument(text: &mut String, arguments: &[&str], index: usize) -> Result<
         ++ words.argument_line (map (λ a. a.now) arguments.now) index) }
 {
     match arguments.get(index) {
-        Some(argument) => push_remark(text, &Message::Quoting("no keysym has the name ", argument)),
+        Some(argument) => push_remark(text, &Message::Naming("no keysym has the name ", argument)),
         None => Ok(()),
     }
 }
@@ -165,26 +291,9 @@ fn push_table(
         ≡ string_bytes text.old ++ words.numbered_lines given.now index fault.now) }
 {
     match given.tables.get(index) {
-        Some(table) => push_table_fault(alloc, text, given, table, fault),
+        Some(table) => push_by_header(alloc, text, given.header, table, fault),
         None => Ok(()),
     }
-}
-
-/// Adds what is said of a fault of a table.
-fn push_table_fault(
-    alloc: Global,
-    text: &mut String,
-    given: &Given<'_>,
-    table: &GivenTable<'_>,
-    fault: &TableFault,
-) -> Result<(), AllocError>
-    ensures { OnOk result
-        (string_bytes text.new
-        ≡ string_bytes text.old ++ words.table_lines given.now table.now fault.now) }
-{
-    push_by_header(alloc, text, given.header, table, fault)?;
-    let are_given = !given.headers.is_empty();
-    push_hint(text, table_hint(table.input.sources, fault, are_given))
 }
 
 /// Adds the lines of a fault of a table that is read with the names of this header.

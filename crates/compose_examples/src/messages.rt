@@ -3,9 +3,10 @@ use crate::tables::core;
 use compose_cert::{CertFault, RepertoireFault};
 use compose_manifest::ManifestFault;
 use compose_messages::{
-    FaultWords, FileMessage, Hint, Message, Position, certificate_words, fault_position,
-    manifest_hint, manifest_words, name_hint, name_words, open_words, overlap_words, read_message,
-    repertoire_words, source_words, table_hint,
+    CharacterHint, FaultWords, FileMessage, Hint, Message, Position, certificate_hint,
+    certificate_words, fault_position, header_hint, include_hint, key_of_text, manifest_hint,
+    manifest_words, name_hint, name_words, open_words, overlap_words, read_message,
+    repertoire_words, socket_words, source_words, table_hint, text_in_place,
 };
 use compose_read::{ReadFault, SourceFault, Sources, read_definitions};
 use compose_tree::{BuildFault, TableFault};
@@ -17,7 +18,7 @@ use std::test::Fail;
 
 /// The root's lines, those of the source `%L`, and what is printed of the first fault, where the path of a source is its name.
 #[rattlefmt::skip]
-static FAULTY: [(&str, &str, &str); 37] = [
+static FAULTY: [(&str, &str, &str); 38] = [
     ("<a> 5 : \"x\"", "", "r:1:5: expected \":\" or \"<\", found \"5\""),
     ("<a>\r\n", "", "r:1:5: expected \":\" or \"<\", found the end of the line"),
     ("<a> \t# é", "", "r:1:6: expected \":\" or \"<\", found \"#\""),
@@ -50,7 +51,8 @@ static FAULTY: [(&str, &str, &str); 37] = [
     ("\u{feff}<nosuch> : \"x\"\r\n", "", "r:1:1: no keysym has the name \"nosuch\""),
     ("<a> <Shift_L> : \"x\"", "", "r:1:5: a sequence can't have an ignored keysym, as \"Shift_L\""),
     ("include \"%H/\u{202e}\"", "", "r:1:9: the manifest does not list the included file \"%H/\\u{202e}\""),
-    ("include \"r\"", "", "r:1:9: more than eight includes lead to the file \"r\""),
+    ("include \"r\"", "", "r:1:9: the includes go in a circle: this file includes itself, as \"r\""),
+    ("include \"%L\"", "include \"r\"", "r:1:9: more than eight includes lead to the file \"%L\""),
     ("\n\n\n\n\n\n\n\n\n\n\n\n\n\n\n\n\n\n\n\n <b> <nosuch> : \"x\"\n\n", "", "r:21:6: no keysym has the name \"nosuch\""),
     ("<a> : \"x\"\n<nosuch> : \"x\"", "", "r:2:1: no keysym has the name \"nosuch\""),
     ("<a> : \"x\"\ninclude \"%L\"\n<b>", "\u{feff}# é\r\n<b> : \"é\" nosuch\r\n", "%L:2:11: no keysym has the name \"nosuch\""),
@@ -386,6 +388,21 @@ fn words_of_files(rt: HostRuntime) -> Result<(), Fail> {
 }
 
 #[test]
+fn words_of_sockets(rt: HostRuntime) {
+    let rows = [
+        (io::ErrorKind::NotFound, "no such file"),
+        (io::ErrorKind::PermissionDenied, "permission denied"),
+        (io::ErrorKind::ConnectionRefused, "nobody listens there"),
+        (io::ErrorKind::AlreadyExists, "a file is there already"),
+        (io::ErrorKind::InvalidInput, "the path is too long for a socket"),
+        (io::ErrorKind::NotSeekable, "can't be used as a socket"),
+    ];
+    for (kind, words) in &rows {
+        assert_eq!(rt; socket_words(*kind), *words);
+    }
+}
+
+#[test]
 fn words_of_an_overlap(rt: HostRuntime) -> Result<(), Fail> {
     let names = core(rt.alloc())?;
     let multi = Keysym::new(0xff20).ok_or("a keysym")?;
@@ -492,6 +509,94 @@ fn hints_of_names(rt: HostRuntime) {
 }
 
 #[test]
+fn hints_of_headers_and_includes(rt: HostRuntime) {
+    assert_eq!(rt; header_hint(&NameFault::NotUtf8 { line: 3 }), Some(Hint::NamesEncoding));
+    assert_eq!(rt; header_hint(&NameFault::BadLine { line: 3 }), None);
+    assert_eq!(rt; include_hint("~/.XCompose"), Some(Hint::HomeFolder));
+    assert_eq!(rt; include_hint("~user/.XCompose"), None);
+    assert_eq!(rt; include_hint("/~/x"), None);
+    assert_eq!(rt; include_hint("~"), None);
+}
+
+#[test]
+fn hints_of_certificates(rt: HostRuntime) {
+    let rows: [(&[u8], Option<Hint>); 4] = [
+        (b"# a table\n\n<a> : \"x\"\n", Some(Hint::NoCertificate)),
+        (b"include \"%L\"", Some(Hint::NoCertificate)),
+        (b"compose-certificate 1\nx\n", None),
+        (b"", None),
+    ];
+    for (bytes, expected) in &rows {
+        let fault = CertFault::NotText { line: 1 };
+        assert_eq!(rt; certificate_hint(bytes, &fault), *expected);
+        assert_eq!(rt; certificate_hint(bytes, &CertFault::TooLarge), None);
+    }
+}
+
+#[test]
+fn texts_in_the_place_of_names(rt: HostRuntime) -> Result<(), Fail> {
+    let rows: [(&[u8], &str); 9] = [
+        ("<a> <é> : \"x\"".as_bytes(), "é"),
+        (b"<a> </> : \"x\"", "/"),
+        (b"< /> : \"x\"", "/"),
+        (b"</ > : \"x\"", "/ "),
+        ("<éa> : \"x\"".as_bytes(), "éa"),
+        ("<é".as_bytes(), "é"),
+        (b"<nosuch> : \"x\"", "nosuch"),
+        ("<a> é".as_bytes(), ""),
+        ("<a> : é".as_bytes(), ""),
+    ];
+    let names = core(rt.alloc())?;
+    for (root, expected) in &rows {
+        let sources = two_sources(rt.alloc(), root, "")?;
+        let fault = first_fault(rt.alloc(), &names, &sources).unwrap_or(ReadFault::MissingRoot);
+        assert_eq!(rt; text_in_place(&sources, &TableFault::Read(fault)), *expected);
+    }
+    Ok(())
+}
+
+#[test]
+fn keys_of_texts(rt: HostRuntime) -> Result<(), Fail> {
+    let names = core(rt.alloc())?;
+    let rows = [
+        ("é", Some(0xe9)),
+        ("/", Some(0x2f)),
+        ("б", Some(0x0100_0431)),
+        ("", None),
+        ("éé", None),
+        ("\u{1b}", None),
+    ];
+    for (text, expected) in &rows {
+        let found = key_of_text(&names, text).map(|keysym| keysym.value());
+        assert_eq!(rt; found, *expected, "{text}");
+    }
+    let hint = CharacterHint("eacute");
+    assert_eq!(rt;
+        format!(in rt.alloc(); "{hint}")?.as_str(),
+        "composecheck: hint: the key of this character is eacute"
+    );
+    Ok(())
+}
+
+#[test]
+fn names_of_80_characters(rt: HostRuntime) -> Result<(), Fail> {
+    let (tens, rest) = ("é234567890", "12");
+    let long = format!(in rt.alloc(); "{tens}{tens}{tens}{tens}{tens}{tens}{tens}{tens}{rest}")?;
+    let whole = format!(in rt.alloc(); "{tens}{tens}{tens}{tens}{tens}{tens}{tens}{tens}")?;
+    let said = Message::Naming("no ", &long);
+    assert_eq!(rt;
+        format!(in rt.alloc(); "{said}")?.as_str(),
+        format!(in rt.alloc(); "no \"{whole}\"...")?.as_str()
+    );
+    let said = Message::Naming("no ", &whole);
+    assert_eq!(rt;
+        format!(in rt.alloc(); "{said}")?.as_str(),
+        format!(in rt.alloc(); "no \"{whole}\"")?.as_str()
+    );
+    Ok(())
+}
+
+#[test]
 fn hints_of_manifests(rt: HostRuntime) -> Result<(), Fail> {
     let rows: [(&str, &[u8], usize, Option<Hint>); 9] = [
         ("en_US.UTF-8/Compose", b"", 1, Some(Hint::Table)),
@@ -565,6 +670,18 @@ fn texts_of_hints(rt: HostRuntime) -> Result<(), Fail> {
         (
             Hint::Table,
             "composecheck: hint: this is a Compose table; `composecheck manifest TABLE` prints its manifest",
+        ),
+        (
+            Hint::NoCertificate,
+            "composecheck: hint: this is a Compose file, and no certificate",
+        ),
+        (
+            Hint::NamesEncoding,
+            "composecheck: hint: a header of names is in UTF-8; `iconv -f ENCODING -t UTF-8` converts another one",
+        ),
+        (
+            Hint::HomeFolder,
+            "composecheck: hint: an include says the home folder as %H, and not as ~",
         ),
     ];
     for (hint, text) in &rows {

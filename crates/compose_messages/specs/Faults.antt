@@ -11,7 +11,7 @@ use Rattle.compose_read.specs.declared.sources.SourceFault.TheVariants.{NameTake
 use Rattle.compose_manifest.specs.declared.manifest.ManifestFault.{ManifestFault}
 use Rattle.compose_manifest.specs.declared.manifest.ManifestFault.TheVariants as manifests
 use Rattle.std.specs.declared.io.ErrorKind.{ErrorKind}
-use Rattle.std.specs.declared.io.ErrorKind.TheVariants.{NotFound, PermissionDenied, IsADirectory}
+use Rattle.std.specs.declared.io.ErrorKind.TheVariants.{NotFound, PermissionDenied, IsADirectory, ConnectionRefused, AlreadyExists, InvalidInput}
 
 -- ---- a header of names
 
@@ -77,3 +77,13 @@ open_said NotFound = codes "no such file"
 open_said PermissionDenied = codes "permission denied"
 open_said IsADirectory = codes "is a directory"
 open_said kind = codes "can't be read"
+
+-- ---- a socket that can't be bound or connected to
+
+abbrev pub socket_said : ErrorKind → List ℕ
+socket_said NotFound = codes "no such file"
+socket_said PermissionDenied = codes "permission denied"
+socket_said ConnectionRefused = codes "nobody listens there"
+socket_said AlreadyExists = codes "a file is there already"
+socket_said InvalidInput = codes "the path is too long for a socket"
+socket_said kind = codes "can't be used as a socket"

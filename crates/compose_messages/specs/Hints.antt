@@ -4,11 +4,15 @@ use Rattle.std.specs.List.{list_any, starts_with, ends_with}
 use Rattle.compose_text.specs.Bytes.{begins, is_blank}
 use Rattle.compose_text.specs.Lines.{lines_of}
 use Rattle.compose_text.specs.Numbers.{is_hexadecimal}
+use Rattle.keysym_core.specs.declared.fault.NameFault.{NameFault}
+use Rattle.keysym_core.specs.declared.fault.NameFault.TheVariants as names
+use Rattle.compose_cert.specs.declared.CertFault.{CertFault}
+use Rattle.compose_cert.specs.declared.CertFault.TheVariants.{NotText}
 use Rattle.compose_lex.specs.Line.{Reading, include, production}
 use Rattle.compose_lex.specs.Fault.{reading_of}
 use Rattle.compose_lex.specs.declared.LexFault.{LexFault}
 use Rattle.compose_read.specs.Lines.{Source}
-use Rattle.compose_read.specs.declared.ReadFault.TheVariants.{UnknownKeysym, Lex, NotUtf8}
+use Rattle.compose_read.specs.declared.ReadFault.TheVariants.{UnknownKeysym, Lex, NotUtf8, MissingInclude}
 use Rattle.compose_read.specs.declared.settling.SettleFault.TheVariants.{Overlap}
 use Rattle.compose_tree.specs.declared.reading.TableFault.{TableFault}
 use Rattle.compose_tree.specs.declared.reading.TableFault.TheVariants.{Read, Settle}
@@ -17,7 +21,7 @@ use Rattle.compose_manifest.specs.declared.manifest.ManifestFault.TheVariants.{B
 use Rattle.compose_messages.specs.Places.{line_at, text_or_nothing}
 use Rattle.compose_messages.specs.Tokens.{named}
 use Rattle.compose_messages.specs.declared.hints.Hint.{Hint}
-use Rattle.compose_messages.specs.declared.hints.Hint.TheVariants.{BuiltinNames, OwnNames, UnicodeName, ComposeKey, Encoding, Utf16, Certificate, Repertoire, Manifest, OverlapLongest, Fresh, Table}
+use Rattle.compose_messages.specs.declared.hints.Hint.TheVariants.{BuiltinNames, OwnNames, UnicodeName, ComposeKey, Encoding, Utf16, Certificate, Repertoire, Manifest, OverlapLongest, Fresh, Table, NoCertificate, NamesEncoding, HomeFolder}
 
 abbrev pub hint_text : Hint → List ℕ
 hint_text BuiltinNames = codes "composecheck: hint: `--names builtin` has the names of keysymdef.h"
@@ -32,6 +36,9 @@ hint_text Manifest = codes "composecheck: hint: this is a manifest, which lists 
 hint_text OverlapLongest = codes "composecheck: hint: with the line `overlap longest` before the entries of the manifest, or `diff --overlap longest`, the longer sequence counts"
 hint_text Fresh = codes "composecheck: hint: `--fresh` takes the keysyms for which nothing has to be promised"
 hint_text Table = codes "composecheck: hint: this is a Compose table; `composecheck manifest TABLE` prints its manifest"
+hint_text NoCertificate = codes "composecheck: hint: this is a Compose file, and no certificate"
+hint_text NamesEncoding = codes "composecheck: hint: a header of names is in UTF-8; `iconv -f ENCODING -t UTF-8` converts another one"
+hint_text HomeFolder = codes "composecheck: hint: an include says the home folder as %H, and not as ~"
 
 -- the form of Unicode's names with too few digits: `U` (code 85) and one to three
 abbrev pub is_short_unicode_name : List ℕ → Bool
@@ -43,12 +50,25 @@ is_compose_key name =
     bytes_eq name (codes "Compose") || bytes_eq name (codes "compose") || bytes_eq name (codes "Multi") || bytes_eq name (codes "multi_key") ||
     bytes_eq name (codes "Multi_Key") || bytes_eq name (codes "MULTI_KEY")
 
+-- the names that may be missing; `are_given` says whether files of names are
+abbrev pub names_to_add : Bool → Hint
+names_to_add are_given = if are_given then OwnNames else BuiltinNames
+
 -- against a name that no keysym has; `are_given` says whether files of names are
 abbrev pub name_hint : Bool → List ℕ → Hint
 name_hint are_given name =
     if is_compose_key name then ComposeKey else
     if is_short_unicode_name name then UnicodeName else
-    if are_given then OwnNames else BuiltinNames
+    names_to_add are_given
+
+-- against a line of a header of names that is not UTF-8
+abbrev pub header_hint : NameFault → Option Hint
+header_hint (names.NotUtf8 line) = Some NamesEncoding
+header_hint fault = None
+
+-- against an include of this path, which is not there: a shell's word for the home folder
+abbrev pub include_hint : List ℕ → Option Hint
+include_hint path = if starts_with nat_eq path (codes "~/") then Some HomeFolder else None
 
 -- against a line that is not UTF-8, by the first line of its file: the marks of UTF-16
 abbrev pub encoding_hint : List ℕ → Hint
@@ -65,11 +85,12 @@ file_hint line =
     if starts_with nat_eq line (codes "U+") || starts_with nat_eq line (codes "keys 0x") then Some Repertoire else
     if is_entry line then Some Manifest else None
 
--- a line that can't be read, a name that is unknown, a line that is not UTF-8, or an overlap
+-- a line that can't be read, a name that is unknown, a line that is not UTF-8, a file that is not listed, or an overlap
 abbrev pub table_hint : List Source → Bool → TableFault → Option Hint
 table_hint sources are_given (Read (UnknownKeysym source line index)) = Some (name_hint are_given (named (line_at sources source line) index))
 table_hint sources are_given (Read (Lex source line fault)) = file_hint (line_at sources source line)
 table_hint sources are_given (Read (NotUtf8 source line)) = Some (encoding_hint (line_at sources source 1))
+table_hint sources are_given (Read (MissingInclude source line)) = include_hint (named (line_at sources source line) 0)
 table_hint sources are_given (Settle (Overlap short long)) = Some OverlapLongest
 table_hint sources are_given fault = None
 
@@ -81,6 +102,14 @@ is_of_table reading = false
 
 abbrev pub is_table_line : List ℕ → Bool
 is_table_line line = is_of_table (reading_of (text_or_nothing line))
+
+abbrev pub has_table_line : List ℕ → Bool
+has_table_line bytes = list_any is_table_line (lines_of bytes)
+
+-- the file is a Compose table, and no certificate
+abbrev pub certificate_hint : List ℕ → CertFault → Option Hint
+certificate_hint bytes (NotText n) = if has_table_line bytes then Some NoCertificate else None
+certificate_hint bytes fault = None
 
 -- the file is a Compose table: its faulty line is one of a table, or its path ends in `Compose`
 abbrev pub manifest_hint : List ℕ → List ℕ → ManifestFault → Option Hint

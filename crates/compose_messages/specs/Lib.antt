@@ -4,3 +4,4 @@ pub mod Messages
 pub mod Faults
 pub mod Overlaps
 pub mod Hints
+pub mod Characters

@@ -1,5 +1,5 @@
 -- What is said of a fault (this project's profile), and how it is printed.
-use Rattle.std.specs.Prelude.{ℕ, not, ◌-◌, if◌then◌else◌, List, [], ◌∷◌, ◌++◌, take, Option, Some, None, codes}
+use Rattle.std.specs.Prelude.{ℕ, not, ◌-◌, nat_lt, if◌then◌else◌, List, [], ◌∷◌, ◌++◌, length, slice_get, take, Option, Some, None, bytes_eq, codes}
 use Rattle.std.specs.Option.{option_map_or}
 use Rattle.std.specs.Fmt.{decimal}
 use Rattle.compose_lex.specs.declared.LexFault.{LexFault}
@@ -8,11 +8,11 @@ use Rattle.compose_read.specs.Lines.{Source}
 use Rattle.compose_read.specs.declared.ReadFault.{ReadFault}
 use Rattle.compose_read.specs.declared.ReadFault.TheVariants.{MissingRoot, NotUtf8, Lex, UnknownKeysym, IgnoredKeysym, MissingInclude, IncludeDepth, TooManyLines, TooManyDefinitions}
 use Rattle.compose_shown.specs.Shown.{shown_text}
-use Rattle.compose_messages.specs.Places.{line_at, line_of}
+use Rattle.compose_messages.specs.Places.{beginning, line_at, line_of}
 use Rattle.compose_messages.specs.Tokens.{named, expected_after, found_at, is_modifier}
 use Rattle.compose_messages.specs.declared.position.Position.{Position}
 use Rattle.compose_messages.specs.declared.message.Message.{Message}
-use Rattle.compose_messages.specs.declared.message.Message.TheVariants.{Plain, Quoting, Expected}
+use Rattle.compose_messages.specs.declared.message.Message.TheVariants.{Plain, Quoting, Naming, Expected}
 use Rattle.compose_messages.specs.declared.message.FileMessage.{FileMessage}
 
 -- ---- how a message is printed
@@ -21,12 +21,23 @@ use Rattle.compose_messages.specs.declared.message.FileMessage.{FileMessage}
 abbrev pub in_quotes : List ℕ → List ℕ
 in_quotes text = 34 ∷ (shown_text text ++ 34 ∷ [])
 
+-- three dots where not all of a name is printed
+abbrev pub dots_of : List ℕ → List ℕ
+dots_of name = if nat_lt (length (beginning name)) (length name) then codes "..." else []
+
+-- the beginning of a name between quotes
+abbrev pub name_text : List ℕ → List ℕ
+name_text name = in_quotes (beginning name) ++ dots_of name
+
 abbrev pub found_words : List ℕ → List ℕ
 found_words [] = codes "the end of the line"
-found_words (b ∷ text) = in_quotes (b ∷ text)
+found_words (b ∷ text) = name_text (b ∷ text)
 
 abbrev pub quoting : List ℕ → List ℕ → List ℕ
 quoting words text = words ++ in_quotes text
+
+abbrev pub naming : List ℕ → List ℕ → List ℕ
+naming words name = words ++ name_text name
 
 abbrev pub expecting : List ℕ → List ℕ → List ℕ
 expecting expected found = codes "expected " ++ expected ++ codes ", found " ++ found_words found
@@ -34,6 +45,7 @@ expecting expected found = codes "expected " ++ expected ++ codes ", found " ++ 
 abbrev pub message_text : Message → List ℕ
 message_text (Plain words) = words.now
 message_text (Quoting words text) = quoting words.now text.now
+message_text (Naming words name) = naming words.now name.now
 message_text (Expected expected found) = expecting expected.now found.now
 
 -- `:LINE:COLUMN` (code 58), where there is a position
@@ -60,15 +72,24 @@ lex_said line TextTooLong = codes "the string has more than 255 bytes"
 lex_said line TextNotUtf8 = codes "the string is not UTF-8"
 lex_said line fault = codes "out of memory"
 
+-- where more than eight includes lead to the file of this name, and the last of them stands in the file `own`
+abbrev pub depth_said : List ℕ → List ℕ → List ℕ
+depth_said own name =
+    if bytes_eq own name then quoting (codes "the includes go in a circle: this file includes itself, as ") name else
+    quoting (codes "more than eight includes lead to the file ") name
+
+-- the name of the source with this index
+abbrev pub name_of : List Source → ℕ → List ℕ
+name_of sources source = option_map_or (λ (s : Source). s.name) (slice_get sources source) []
+
 -- of a fault that stands in this line
 abbrev pub line_said : List ℕ → ReadFault → List ℕ
 line_said line MissingRoot = codes "the manifest lists no file"
 line_said line (NotUtf8 s l) = codes "the line is not UTF-8"
 line_said line (Lex s l fault) = lex_said line fault
-line_said line (UnknownKeysym s l index) = quoting (codes "no keysym has the name ") (named line index)
-line_said line (IgnoredKeysym s l index) = quoting (codes "a sequence can't have an ignored keysym, as ") (named line index)
+line_said line (UnknownKeysym s l index) = naming (codes "no keysym has the name ") (named line index)
+line_said line (IgnoredKeysym s l index) = naming (codes "a sequence can't have an ignored keysym, as ") (named line index)
 line_said line (MissingInclude s l) = quoting (codes "the manifest does not list the included file ") (named line 0)
-line_said line (IncludeDepth s l) = quoting (codes "more than eight includes lead to the file ") (named line 0)
 line_said line (TooManyLines s l) = codes "more than 1,000,000 lines are read"
 line_said line (TooManyDefinitions s l) = codes "more than 100,000 sequences are defined"
 line_said line fault = codes "out of memory"
@@ -78,4 +99,5 @@ abbrev pub fault_line : List Source → ReadFault → List ℕ
 fault_line sources fault = option_map_or (λ at. line_at sources at.0 at.1) (line_of fault) []
 
 abbrev pub read_said : List Source → ReadFault → List ℕ
+read_said sources (IncludeDepth s l) = depth_said (name_of sources s) (named (line_at sources s l) 0)
 read_said sources fault = line_said (fault_line sources fault) fault

@@ -33,6 +33,15 @@ begins_character b = not (is_between 0x80 0xbf b)
 abbrev pub column_at : List ℕ → ℕ → ℕ
 column_at line offset = 1 + count_by begins_character (take offset line)
 
+-- how many bytes the first so many characters have, or all where there are no more
+abbrev pub characters_len : ℕ → List ℕ → ℕ
+characters_len n [] = 0
+characters_len n (b ∷ bytes) = if begins_character b && n == 0 then 0 else 1 + characters_len (if begins_character b then n - 1 else n) bytes
+
+-- the first 80 characters of a name, or all of a shorter one
+abbrev pub beginning : List ℕ → List ℕ
+beginning name = text_or_nothing (take (characters_len 80 name) name)
+
 -- ---- offsets in a line, in bytes
 
 -- of such a byte that follows so many others, or else of the end

@@ -112,3 +112,17 @@ pub fn open_words(kind: io::ErrorKind) -> &'static str
         _ => "can't be read",
     }
 }
+
+/// The words for why a socket can't be used.
+pub fn socket_words(kind: io::ErrorKind) -> &'static str
+    ensures { result.now ≡ faults.socket_said kind }
+{
+    match kind {
+        io::ErrorKind::NotFound => "no such file",
+        io::ErrorKind::PermissionDenied => "permission denied",
+        io::ErrorKind::ConnectionRefused => "nobody listens there",
+        io::ErrorKind::AlreadyExists => "a file is there already",
+        io::ErrorKind::InvalidInput => "the path is too long for a socket",
+        _ => "can't be used as a socket",
+    }
+}

@@ -7,11 +7,13 @@ ghost use Rattle.compose_messages.specs.Hints as hints;
 use crate::lines::{nth_line, source_line, text_or_nothing};
 use crate::tokens::{contains, is_blank, named};
 use arrayvec::ArrayVec;
+use compose_cert::CertFault;
 use compose_lex::{Said, lex_line_into};
 use compose_manifest::ManifestFault;
 use compose_read::{ReadFault, SettleFault, Sources};
-use compose_text::hexadecimal_number;
+use compose_text::{first_line, hexadecimal_number};
 use compose_tree::TableFault;
+use keysym_core::NameFault;
 use std::fmt;
 
 /// What may help against a refusal.
@@ -41,6 +43,12 @@ pub enum Hint {
     Fresh,
     /// The file is a table, and no manifest.
     Table,
+    /// The file is a table, and no certificate.
+    NoCertificate,
+    /// The encoding of headers of names.
+    NamesEncoding,
+    /// How an include says the home folder.
+    HomeFolder,
 }
 
 impl fmt::Display for Hint {
@@ -85,6 +93,15 @@ impl fmt::Display for Hint {
             Hint::Table => f.write_str(
                 "composecheck: hint: this is a Compose table; `composecheck manifest TABLE` prints its manifest",
             ),
+            Hint::NoCertificate => {
+                f.write_str("composecheck: hint: this is a Compose file, and no certificate")
+            }
+            Hint::NamesEncoding => f.write_str(
+                "composecheck: hint: a header of names is in UTF-8; `iconv -f ENCODING -t UTF-8` converts another one",
+            ),
+            Hint::HomeFolder => f.write_str(
+                "composecheck: hint: an include says the home folder as %H, and not as ~",
+            ),
         }
     }
 }
@@ -110,6 +127,9 @@ pub fn table_hint(sources: &Sources, fault: &TableFault, are_given: bool) -> Opt
         TableFault::Read(ReadFault::NotUtf8 { source, .. }) => {
             Some(encoding_hint(source_line(sources, *source, 1)))
         }
+        TableFault::Read(ReadFault::MissingInclude { source, line }) => {
+            include_hint(named(source_line(sources, *source, *line), 0))
+        }
         TableFault::Settle(SettleFault::Overlap { .. }) => Some(Hint::OverlapLongest),
         _ => None,
     }
@@ -123,11 +143,37 @@ pub fn name_hint(name: &str, are_given: bool) -> Hint
         Hint::ComposeKey
     } else if is_short_unicode_name(name.as_bytes()) {
         Hint::UnicodeName
-    } else if are_given {
+    } else {
+        names_to_add(are_given)
+    }
+}
+
+/// The names that may be missing; `are_given` says whether files of names are.
+fn names_to_add(are_given: bool) -> Hint
+    ensures { result ≡ hints.names_to_add are_given }
+{
+    if are_given {
         Hint::OwnNames
     } else {
         Hint::BuiltinNames
     }
+}
+
+/// The hint against the fault of a header of names: where a line is not UTF-8. O(1).
+pub fn header_hint(fault: &NameFault) -> Option<Hint>
+    ensures { result ≡ hints.header_hint fault.now }
+{
+    match fault {
+        NameFault::NotUtf8 { .. } => Some(Hint::NamesEncoding),
+        _ => None,
+    }
+}
+
+/// The hint against an include of this path, which is not there: that `~` is no home folder. O(1).
+pub fn include_hint(path: &str) -> Option<Hint>
+    ensures { result ≡ hints.include_hint path.now }
+{
+    path.starts_with("~/").then_some(Hint::HomeFolder)
 }
 
 /// Whether people call the Compose key so.
@@ -201,6 +247,30 @@ fn encoding_hint(first: &[u8]) -> Hint
     } else {
         Hint::Encoding
     }
+}
+
+/// The hint where a table was given in place of a certificate: a line is one of a table. O(bytes).
+pub fn certificate_hint(bytes: &[u8], fault: &CertFault) -> Option<Hint>
+    ensures { result ≡ hints.certificate_hint bytes.now fault.now }
+{
+    match fault {
+        CertFault::NotText { .. } if has_table_line(bytes) => Some(Hint::NoCertificate),
+        _ => None,
+    }
+}
+
+/// Whether a line is a production or an include.
+fn has_table_line(bytes: &[u8]) -> bool
+    ensures { result ≡ hints.has_table_line bytes.now }
+{
+    let mut rest = bytes;
+    while let Some((line, others)) = first_line(rest) {
+        if is_table_line(line) {
+            return true;
+        }
+        rest = others;
+    }
+    false
 }
 
 /// The hint where a table was given in place of a manifest: the faulty line is one of a table, or the path ends in `Compose`. O(bytes).

@@ -12,21 +12,26 @@
 //! ([`overlap_words`]), and a [`Hint`] stands below where one helps.
 #![tactic(auto)]
 
+mod characters;
 mod faults;
 mod hints;
 mod lines;
 mod message;
+mod names;
 mod offsets;
 mod overlap;
 mod position;
 mod reading;
 mod tokens;
 
+pub use characters::{CharacterHint, key_of_text, text_in_place};
 pub use faults::{
     FaultWords, certificate_words, manifest_words, name_words, open_words, repertoire_words,
-    source_words,
+    socket_words, source_words,
 };
-pub use hints::{Hint, manifest_hint, name_hint, table_hint};
+pub use hints::{
+    Hint, certificate_hint, header_hint, include_hint, manifest_hint, name_hint, table_hint,
+};
 pub use message::{FileMessage, Message};
 pub use overlap::{overlap_words, push_events};
 pub use position::{Position, fault_position, line_of};

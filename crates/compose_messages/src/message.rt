@@ -1,4 +1,8 @@
 //! A message, and the place in a file that it is about.
+ghost use Rattle.std.specs.Prelude.{◌≡◌};
+ghost use Rattle.compose_messages.specs.Messages as messages;
+
+use crate::names::beginning;
 use crate::position::Position;
 use compose_shown::Shown;
 use std::fmt;
@@ -10,6 +14,8 @@ pub enum Message<'a> {
     Plain(&'a str),
     /// Words, and then what a file says, in quotes.
     Quoting(&'a str, &'a str),
+    /// Words, and then a name, in quotes, of which at most 80 characters are printed.
+    Naming(&'a str, &'a str),
     /// What may stand in a line, and what stands there; nothing at its end.
     Expected(&'a str, &'a str),
 }
@@ -26,6 +32,10 @@ impl fmt::Display for Message<'_> {
             Message::Quoting(words, text) => {
                 let text = Shown(text);
                 write!(f, "{words}\"{text}\"")
+            }
+            Message::Naming(words, name) => {
+                let name = Name(name);
+                write!(f, "{words}{name}")
             }
             Message::Expected(expected, found) => {
                 let found = Found(found);
@@ -49,10 +59,37 @@ impl fmt::Display for Found<'_> {
         match self.0.as_bytes().first() {
             None => f.write_str("the end of the line"),
             Some(_) => {
-                let found = Shown(self.0);
-                write!(f, "\"{found}\"")
+                let found = Name(self.0);
+                write!(f, "{found}")
             }
         }
+    }
+}
+
+/// A name, printed in quotes; of one that is longer than 80 characters these alone, and three dots after the quotes.
+#[derive(Clone, Copy, Debug)]
+struct Name<'a>(&'a str);
+
+impl fmt::Display for Name<'_> {
+    ghost use Rattle.std.specs.Prelude.{Some};
+    ghost use Rattle.compose_messages.specs.Messages.{name_text};
+
+    ghost output = { λ name. Some (name_text name.0.now) };
+
+    fn fmt<W: fmt::Write>(&self, f: &mut fmt::Formatter<W>) -> fmt::Result {
+        let (begun, dots) = (Shown(beginning(self.0)), dots_of(self.0));
+        write!(f, "\"{begun}\"{dots}")
+    }
+}
+
+/// Three dots where not all of a name is printed.
+fn dots_of(name: &str) -> &'static str
+    ensures { result.now ≡ messages.dots_of name.now }
+{
+    if beginning(name).len() < name.len() {
+        "..."
+    } else {
+        ""
     }
 }
 

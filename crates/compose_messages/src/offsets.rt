@@ -113,7 +113,7 @@ fn text_end(line: &[u8], raw_text: Option<&str>) -> usize
 }
 
 /// The offset of the first such byte, or else of the end.
-fn first_of(byte: u8, line: &[u8]) -> usize
+pub(crate) fn first_of(byte: u8, line: &[u8]) -> usize
     ensures { result ≡ places.first_of byte line.now }
 {
     nth_of(byte, 0, line)

@@ -1,5 +1,6 @@
 //! The faults of sources, in words.
 ghost use Rattle.std.specs.Prelude.{◌≡◌, take};
+ghost use Rattle.compose_messages.specs.Messages as messages;
 ghost use Rattle.compose_messages.specs.Messages.{message_text, lex_said, read_said, fault_line, expecting};
 ghost use Rattle.compose_messages.specs.Tokens as tokens;
 ghost use Rattle.compose_messages.specs.Tokens.{expected_after};
@@ -21,9 +22,9 @@ pub fn read_message<'a>(sources: &'a Sources, fault: &ReadFault) -> Message<'a>
         ReadFault::NotUtf8 { .. } => Message::Plain("the line is not UTF-8"),
         ReadFault::Lex { fault, .. } => lex_message(line, fault),
         ReadFault::UnknownKeysym { index, .. } => {
-            Message::Quoting("no keysym has the name ", named(line, *index))
+            Message::Naming("no keysym has the name ", named(line, *index))
         }
-        ReadFault::IgnoredKeysym { index, .. } => Message::Quoting(
+        ReadFault::IgnoredKeysym { index, .. } => Message::Naming(
             "a sequence can't have an ignored keysym, as ",
             named(line, *index),
         ),
@@ -31,14 +32,32 @@ pub fn read_message<'a>(sources: &'a Sources, fault: &ReadFault) -> Message<'a>
             "the manifest does not list the included file ",
             named(line, 0),
         ),
-        ReadFault::IncludeDepth { .. } => {
-            Message::Quoting("more than eight includes lead to the file ", named(line, 0))
+        ReadFault::IncludeDepth { source, .. } => {
+            depth_message(name_of(sources, *source), named(line, 0))
         }
         ReadFault::TooManyLines { .. } => Message::Plain("more than 1,000,000 lines are read"),
         ReadFault::TooManyDefinitions { .. } => {
             Message::Plain("more than 100,000 sequences are defined")
         }
         ReadFault::NoMemory => Message::Plain("out of memory"),
+    }
+}
+
+/// The name of the source with this index; nothing where there is none.
+fn name_of(sources: &Sources, source: usize) -> &str
+    ensures { result.now ≡ messages.name_of sources.now source }
+{
+    sources.name(source).unwrap_or("")
+}
+
+/// What is said where more than eight includes lead to the file of this name, and the last of them stands in the file `own`.
+fn depth_message<'a>(own: &str, name: &'a str) -> Message<'a>
+    ensures { message_text result ≡ messages.depth_said own.now name.now }
+{
+    if own == name {
+        Message::Quoting("the includes go in a circle: this file includes itself, as ", name)
+    } else {
+        Message::Quoting("more than eight includes lead to the file ", name)
     }
 }
 

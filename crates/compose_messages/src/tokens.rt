@@ -98,7 +98,7 @@ pub(crate) fn contains(bytes: &[u8], byte: u8) -> bool
 }
 
 /// The last byte that is no blank.
-fn last_solid(bytes: &[u8]) -> Option<u8>
+pub(crate) fn last_solid(bytes: &[u8]) -> Option<u8>
     ensures { result ≡ tokens.last_solid None bytes.now }
 {
     let mut last = None;

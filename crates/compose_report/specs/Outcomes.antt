@@ -14,8 +14,8 @@ use Rattle.compose_answer.specs.declared.refusal.Refusal.TheVariants.{Key, NoMem
 use Rattle.compose_input.specs.declared.fault.Fault.{Fault}
 use Rattle.compose_input.specs.declared.fault.Fault.TheVariants.{NoMemory as FaultNoMemory}
 use Rattle.compose_details.specs.Answers.{IsAnswerDetails}
-use Rattle.compose_details.specs.Input.{fault_lines}
-use Rattle.compose_details.specs.Refusals.{refusal_lines}
+use Rattle.compose_details.specs.Input.{fault_lines, fault_words}
+use Rattle.compose_details.specs.Refusals.{IsRefusalDetails}
 use Rattle.compose_details.specs.declared.given.Given.{Given}
 use Rattle.compose_report.specs.declared.outcome.Outcome.{Outcome}
 
@@ -70,26 +70,40 @@ abbrev pub error_text : List ℕ → List (List ℕ) → Result Answer Refusal �
 error_text own arguments (Ok answer) = []
 error_text own arguments (Err refusal) = refusal_line own arguments refusal
 
--- the outcome of what is answered, or refused, to these arguments, with these details below it
-pub record IsOutcome (own : List ℕ) (arguments : List (List ℕ)) (details : List ℕ) (answered : Result Answer Refusal) (outcome : Outcome) : Type 0 where
+-- the line of a refusal and its details; for people, where the line is not asked for, the details alone if there are some
+abbrev pub told_text : Bool → List ℕ → List ℕ → List ℕ
+told_text true line details = line ++ details
+told_text false line [] = line
+told_text false line (b ∷ details) = b ∷ details
+
+-- the outcome of what is answered, or refused, to these arguments, with these details, for people unless it is numbered
+pub record IsTold (numbered : Bool) (own : List ℕ) (arguments : List (List ℕ)) (details : List ℕ) (answered : Result Answer Refusal) (outcome : Outcome) : Type 0 where
   pub notes : string_bytes outcome.notes ≡ []
   pub output : string_bytes outcome.output ≡ output_text own answered
-  pub errors : string_bytes outcome.errors ≡ error_text own arguments answered ++ details
+  pub errors : string_bytes outcome.errors ≡ told_text numbered (error_text own arguments answered) details
   pub file : outcome.file ≡ None
   pub ended : outcome.ended ≡ end_of answered
+
+-- the same with the details below the line
+abbrev pub IsOutcome : List ℕ → List (List ℕ) → List ℕ → Result Answer Refusal → Outcome → Type 0
+IsOutcome own arguments details answered outcome = IsTold true own arguments details answered outcome
 
 -- what `-v` adds to an answer, or to a refusal
 abbrev pub IsDetailed : Bool → Given → Result Answer Refusal → List ℕ → Type 0
 IsDetailed false given answered details = details ≡ []
 IsDetailed true given (Ok answer) details = IsAnswerDetails given answer details
-IsDetailed true given (Err refusal) details = details ≡ refusal_lines given refusal
+IsDetailed true given (Err refusal) details = IsRefusalDetails given refusal details
 
--- the outcome of what is answered, or refused, to what was given, with what `-v` adds where it is asked for
-pub record IsReported (verbose : Bool) (given : Given) (answered : Result Answer Refusal) (outcome : Outcome) : Type 0 where
+-- the outcome of what is answered, or refused, to what was given, with what `-v` adds where it is asked for, for people unless it is numbered
+pub record IsWorded (numbered verbose : Bool) (given : Given) (answered : Result Answer Refusal) (outcome : Outcome) : Type 0 where
   pub own : List ℕ
   pub details : List ℕ
   pub detailed : IsDetailed verbose given answered details
-  pub is : IsOutcome own (map (λ argument. argument.now) given.arguments.now) details answered outcome
+  pub is : IsTold numbered own (map (λ argument. argument.now) given.arguments.now) details answered outcome
+
+-- the same with what `-v` adds below the line
+abbrev pub IsReported : Bool → Given → Result Answer Refusal → Outcome → Type 0
+IsReported verbose given answered outcome = IsWorded true verbose given answered outcome
 
 -- ---- what can't be read
 
@@ -100,3 +114,7 @@ fault_end fault = ends.Refused
 -- the outcome of a run whose input can't be read
 abbrev pub IsFaultOutcome : Bool → Fault → Outcome → Type 0
 IsFaultOutcome verbose fault outcome = (own : List ℕ) × PrintsErrors (fault_lines own verbose fault) (fault_end fault) outcome
+
+-- the same for people: where the fault is, and why
+abbrev pub IsFaultWorded : Fault → Outcome → Type 0
+IsFaultWorded fault outcome = (own : List ℕ) × PrintsErrors (fault_words own fault) (fault_end fault) outcome

@@ -1,7 +1,7 @@
 //! The outcome of an answer, or of why there is none.
-ghost use Rattle.std.specs.Prelude.{◌≡◌, ℕ, List, map, IfOk, string_bytes};
+ghost use Rattle.std.specs.Prelude.{◌≡◌, ◌++◌, ℕ, true, List, map, Err, IfOk, string_bytes};
 ghost use Rattle.compose_report.specs.Outcomes as outcomes;
-ghost use Rattle.compose_report.specs.Outcomes.{IsDetailed, IsOutcome, IsReported};
+ghost use Rattle.compose_report.specs.Outcomes.{IsDetailed, IsOutcome, IsReported, IsTold, IsWorded};
 
 use crate::outcome::Outcome;
 use compose_answer::{Answer, Ended, Refusal};
@@ -21,8 +21,34 @@ pub fn outcome_of<T: ComposeTable>(
 ) -> Result<Outcome, AllocError>
     ensures { IfOk result (λ outcome. IsReported verbose given.now answered outcome) }
 {
+    worded_outcome::<T>(alloc, true, verbose, given, answered)
+}
+
+/// The same outcome, for people unless `numbered`: the line of a refusal is printed only where nothing is below it. At the same cost.
+pub fn worded_outcome<T: ComposeTable>(
+    alloc: Global,
+    numbered: bool,
+    verbose: bool,
+    given: &Given<'_>,
+    answered: Result<Answer, Refusal>,
+) -> Result<Outcome, AllocError>
+    ensures { IfOk result (λ outcome. IsWorded numbered verbose given.now answered outcome) }
+{
     let details = details_of::<T>(alloc, verbose, given, &answered)?;
-    outcome_with(alloc, given.arguments, answered, details)
+    told_outcome(alloc, numbered, given.arguments, answered, &details)
+}
+
+/// The outcome of a refusal of what was given, with what `-v` adds, for people unless `numbered`. At the cost of reading the tables once more.
+pub fn worded_refusal(
+    alloc: Global,
+    numbered: bool,
+    given: &Given<'_>,
+    refusal: Refusal,
+) -> Result<Outcome, AllocError>
+    ensures { IfOk result (λ outcome. IsWorded numbered true given.now (Err refusal) outcome) }
+{
+    let details = refusal_details(alloc, given, &refusal)?;
+    told_outcome(alloc, numbered, given.arguments, Err(refusal), &details)
 }
 
 /// What `-v` adds to an answer, or to why there is none; nothing where it is not asked for.
@@ -56,8 +82,24 @@ pub fn outcome_with(
         × IsOutcome own (map (λ argument. argument.now) arguments.now) (string_bytes details)
         answered outcome) }
 {
+    told_outcome(alloc, true, arguments, answered, &details)
+}
+
+/// The same outcome, for people unless `numbered`.
+fn told_outcome(
+    alloc: Global,
+    numbered: bool,
+    arguments: &[&str],
+    answered: Result<Answer, Refusal>,
+    details: &str,
+) -> Result<Outcome, AllocError>
+    ensures { IfOk result
+        (λ outcome. (own : List ℕ)
+        × IsTold numbered own (map (λ argument. argument.now) arguments.now) details.now answered
+        outcome) }
+{
     let own = own_text(alloc, &answered)?;
-    outcome_by(alloc, arguments, answered, &details, &own)
+    outcome_by(alloc, numbered, arguments, answered, details, &own)
 }
 
 /// What the fault of an invalid certificate, or a refusal, is printed as; nothing of another answer.
@@ -72,18 +114,19 @@ fn own_text(alloc: Global, answered: &Result<Answer, Refusal>) -> Result<String,
 /// The same outcome, by what the fault or the refusal is printed as.
 fn outcome_by(
     alloc: Global,
+    numbered: bool,
     arguments: &[&str],
     answered: Result<Answer, Refusal>,
     details: &str,
     own: &str,
 ) -> Result<Outcome, AllocError>
     ensures { IfOk result
-        (λ outcome. IsOutcome own.now (map (λ argument. argument.now) arguments.now) details.now
-        answered outcome) }
+        (λ outcome. IsTold numbered own.now (map (λ argument. argument.now) arguments.now)
+        details.now answered outcome) }
 {
     let ended = Ended::of(&answered);
-    let mut errors = error_text(alloc, arguments, &answered, own)?;
-    errors.push_str(details)?;
+    let line = error_text(alloc, arguments, &answered, own)?;
+    let errors = told_text(alloc, numbered, line, details)?;
     Ok(Outcome {
         notes: String::new(alloc),
         output: output_text(alloc, answered, own)?,
@@ -91,6 +134,35 @@ fn outcome_by(
         file: None,
         ended,
     })
+}
+
+/// The line of a refusal and what there is to say of it; this alone where there is something, unless `numbered`. O(bytes).
+pub fn told_text(
+    alloc: Global,
+    numbered: bool,
+    line: String,
+    details: &str,
+) -> Result<String, AllocError>
+    ensures { IfOk result
+        (λ text. string_bytes text
+        ≡ outcomes.told_text numbered (string_bytes line) details.now) }
+{
+    if numbered {
+        return joined(line, details);
+    }
+    match details.as_bytes().first() {
+        Some(_) => String::from_str(alloc, details),
+        None => Ok(line),
+    }
+}
+
+/// A text, and another one after it.
+fn joined(first: String, second: &str) -> Result<String, AllocError>
+    ensures { IfOk result (λ text. string_bytes text ≡ string_bytes first ++ second.now) }
+{
+    let mut text = first;
+    text.push_str(second)?;
+    Ok(text)
 }
 
 /// What is printed to standard output.

@@ -1,11 +1,11 @@
 //! The outcome of a run whose input can't be read.
 ghost use Rattle.std.specs.Prelude.{◌≡◌, IfOk};
 ghost use Rattle.compose_report.specs.Outcomes as outcomes;
-ghost use Rattle.compose_report.specs.Outcomes.{IsFaultOutcome};
+ghost use Rattle.compose_report.specs.Outcomes.{IsFaultOutcome, IsFaultWorded};
 
 use crate::outcome::Outcome;
 use compose_answer::Ended;
-use compose_details::fault_text;
+use compose_details::{fault_text, fault_words};
 use compose_input::Fault;
 use std::alloc::{AllocError, Global};
 
@@ -15,6 +15,15 @@ pub fn fault_outcome(alloc: Global, verbose: bool, fault: &Fault) -> Result<Outc
     ensures { IfOk result (λ outcome. IsFaultOutcome verbose fault.now outcome) }
 {
     let text = fault_text(alloc, verbose, fault)?;
+    Ok(Outcome::of_errors(alloc, text, end_of_fault(fault)))
+}
+
+/// The same outcome for people: where the fault is, and why, and the refusal only where nothing more is to be said. O(bytes of a refused
+/// manifest).
+pub fn fault_worded(alloc: Global, fault: &Fault) -> Result<Outcome, AllocError>
+    ensures { IfOk result (λ outcome. IsFaultWorded fault.now outcome) }
+{
+    let text = fault_words(alloc, fault)?;
     Ok(Outcome::of_errors(alloc, text, end_of_fault(fault)))
 }
 

@@ -16,9 +16,9 @@ mod faults;
 mod outcome;
 mod printing;
 
-pub use answers::{outcome_of, outcome_with};
+pub use answers::{outcome_of, outcome_with, told_text, worded_outcome, worded_refusal};
 pub use arguments::arguments_outcome;
 pub use exchange::exchange_outcome;
-pub use faults::fault_outcome;
+pub use faults::{fault_outcome, fault_worded};
 pub use outcome::Outcome;
 pub use printing::{exit_code, no_memory, print, written};

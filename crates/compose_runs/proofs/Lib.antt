@@ -1,4 +1,3 @@
-pub mod Characters
 pub mod Failing
 pub mod Given
 pub mod Lent

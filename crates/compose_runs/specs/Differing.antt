@@ -23,7 +23,7 @@ use Rattle.compose_page.specs.declared.markup.Markup.TheVariants.{Markdown, Html
 use Rattle.compose_details.specs.Files.{said_at}
 use Rattle.compose_details.specs.Given.{IsGiven, parts_of}
 use Rattle.compose_details.specs.declared.given.Given.{Given}
-use Rattle.compose_report.specs.Outcomes.{IsNoted, IsOutcome, IsReported, PrintsErrors}
+use Rattle.compose_report.specs.Outcomes.{IsNoted, IsOutcome, IsWorded, PrintsErrors, told_text}
 use Rattle.compose_report.specs.declared.outcome.Outcome.{Outcome}
 use Rattle.compose_runs.specs.Environment.{wants_color}
 use Rattle.compose_runs.specs.Variables.{Said}
@@ -90,11 +90,16 @@ pub record ShowsAnswer (colored : Bool) (answer : Answer) (fresh : List (List �
   pub own : List ℕ
   pub is : IsOutcome own fresh [] (Ok shown) outcome
 
--- of a refusal of the tables, its line and each faulty line of what was given
-pub record IsRefusalOutcome (files : DiffFiles) (fresh : List (List ℕ)) (refusal : Refusal) (outcome : Outcome) : Type 0 where
+-- a refusal has its own line, for programs, above what is said to people
+abbrev pub is_numbered : DiffForm → Bool
+is_numbered forms.Json = true
+is_numbered form = false
+
+-- of a refusal of the tables, each faulty line of what was given, for people unless it is numbered
+pub record IsRefusalOutcome (numbered : Bool) (files : DiffFiles) (fresh : List (List ℕ)) (refusal : Refusal) (outcome : Outcome) : Type 0 where
   pub given : Given
   pub parts : IsGiven (parts_of files.both.names fresh (files.both.old ∷ files.both.new ∷ [])) given
-  pub is : IsReported true given (Err refusal) outcome
+  pub is : IsWorded numbered true given (Err refusal) outcome
 
 -- which line of the list of meant changes is refused, and why (code 10 ends it)
 abbrev pub accept_details : List ℕ → AcceptFault → List ℕ
@@ -102,14 +107,14 @@ accept_details path (Stale n) = said_at path n (codes "no change of these tables
 accept_details path (BadLine n) = said_at path n (codes "expected \"changed: \", \"waiting: \", \"removed: \" or \"new start: \" and keys") ++ 10 ∷ []
 accept_details path NoMemory = []
 
--- of a refusal of the list, its line by what the fault is printed as, and the line of the list
-abbrev pub IsAcceptRefusal : Option (List ℕ) → AcceptFault → Outcome → Type 0
-IsAcceptRefusal path fault outcome =
-    (own : List ℕ) × PrintsErrors ((codes "refused: accept: " ++ (own ++ 10 ∷ [])) ++ accept_details (unwrap_or path []) fault) Refused outcome
+-- of a refusal of the list, the line of the list, and unless it is for people above it its own, by what the fault is printed as
+abbrev pub IsAcceptRefusal : Bool → Option (List ℕ) → AcceptFault → Outcome → Type 0
+IsAcceptRefusal numbered path fault outcome =
+    (own : List ℕ) × PrintsErrors (told_text numbered (codes "refused: accept: " ++ (own ++ 10 ∷ [])) (accept_details (unwrap_or path []) fault)) Refused outcome
 
 abbrev pub IsFaultPrinted : DiffFiles → DiffArguments → List (List ℕ) → DiffFault → Outcome → Type 0
-IsFaultPrinted files arguments fresh (Input refusal) outcome = IsRefusalOutcome files fresh refusal outcome
-IsFaultPrinted files arguments fresh (Accept fault) outcome = IsAcceptRefusal (option_copied arguments.accept) fault outcome
+IsFaultPrinted files arguments fresh (Input refusal) outcome = IsRefusalOutcome (is_numbered arguments.form) files fresh refusal outcome
+IsFaultPrinted files arguments fresh (Accept fault) outcome = IsAcceptRefusal (is_numbered arguments.form) (option_copied arguments.accept) fault outcome
 
 abbrev pub IsDiffPrinted : DiffFiles → DiffArguments → List (List ℕ) → Bool → Result Answer DiffFault → Outcome → Type 0
 IsDiffPrinted files arguments fresh colored (Ok answer) outcome = ShowsAnswer colored answer fresh outcome

@@ -6,12 +6,16 @@ use Rattle.compose_folder.specs.Content.{Entry}
 use Rattle.compose_model.specs.declared.Rule.TheVariants.{Longest}
 use Rattle.compose_answer.specs.declared.answer.Answer.{Answer}
 use Rattle.compose_answer.specs.declared.answer.Ended.TheVariants.{Refused}
+use Rattle.compose_answer.specs.declared.refusal.Refusal.{Refusal}
 use Rattle.compose_arguments.specs.declared.lint_arguments.LintArguments.{LintArguments}
 use Rattle.compose_details.specs.Files.{said_at}
+use Rattle.compose_details.specs.Given.{IsGiven, parts_of}
+use Rattle.compose_details.specs.declared.given.Given.{Given}
 use Rattle.compose_diff.specs.declared.accepted.AcceptFault.{AcceptFault}
 use Rattle.compose_diff.specs.declared.accepted.AcceptFault.TheVariants.{Stale, BadLine, NoMemory}
 use Rattle.compose_input.specs.Names.{AreNames}
 use Rattle.compose_input.specs.Tables.{IsFoundOnSystem}
+use Rattle.compose_input.specs.declared.names.NameFiles.{NameFiles}
 use Rattle.compose_input.specs.declared.places.Places.{Places}
 use Rattle.compose_lint.specs.Answers.{Asked, AnswersLint}
 use Rattle.compose_lint.specs.Rows.{Table}
@@ -20,7 +24,7 @@ use Rattle.compose_lint.specs.declared.asking.LintFault.TheVariants.{Input, Acce
 use Rattle.compose_lint.specs.declared.asking.LintForm.{LintForm}
 use Rattle.compose_lint.specs.declared.asking.LintForm.TheVariants.{Lines, Json, AcceptList}
 use Rattle.compose_lint.specs.declared.reader.Readers.{Readers}
-use Rattle.compose_report.specs.Outcomes.{IsNoted, IsOutcome, PrintsErrors}
+use Rattle.compose_report.specs.Outcomes.{IsNoted, IsOutcome, IsWorded, PrintsErrors, told_text}
 use Rattle.compose_report.specs.declared.outcome.Outcome.{Outcome}
 use Rattle.compose_runs.specs.DiffFiles.{IsAccepted, names_or_builtin}
 use Rattle.compose_runs.specs.Environment.{IsPlaced}
@@ -98,15 +102,21 @@ lint_accept_details path (Stale n) = said_at path n (codes "no finding in these 
 lint_accept_details path (BadLine n) = said_at path n (codes "expected the word of a kind, \": \" and a line of a Compose file") ++ 10 ∷ []
 lint_accept_details path NoMemory = []
 
--- of a refusal of the list, its line by what the fault is printed as, and the line of the list
-abbrev pub IsLintAcceptRefusal : Option (List ℕ) → AcceptFault → Outcome → Type 0
-IsLintAcceptRefusal path fault outcome =
-    (own : List ℕ) × PrintsErrors ((codes "refused: accept: " ++ (own ++ 10 ∷ [])) ++ lint_accept_details (unwrap_or path []) fault) Refused outcome
+-- of a refusal of the list, the line of the list; with `numbered` below the line of the refusal, by what the fault is printed as
+abbrev pub IsLintAcceptRefusal : Bool → Option (List ℕ) → AcceptFault → Outcome → Type 0
+IsLintAcceptRefusal numbered path fault outcome =
+    (own : List ℕ) × PrintsErrors (told_text numbered (codes "refused: accept: " ++ (own ++ 10 ∷ [])) (lint_accept_details (unwrap_or path []) fault)) Refused outcome
 
-abbrev pub IsLintPrinted : Option (List ℕ) → Result Answer LintFault → Outcome → Type 0
-IsLintPrinted path (Ok answer) outcome = (own : List ℕ) × IsOutcome own [] [] (Ok answer) outcome
-IsLintPrinted path (Err (Input refusal)) outcome = (own : List ℕ) × IsOutcome own [] [] (Err refusal) outcome
-IsLintPrinted path (Err (Accept fault)) outcome = IsLintAcceptRefusal path fault outcome
+-- of a refusal of the names, each faulty line of them; with `numbered` below the line of the refusal
+pub record IsLintRefusal (numbered : Bool) (names : NameFiles) (refusal : Refusal) (outcome : Outcome) : Type 0 where
+  pub given : Given
+  pub parts : IsGiven (parts_of names [] []) given
+  pub is : IsWorded numbered true given (Err refusal) outcome
+
+abbrev pub IsLintPrinted : LintFiles → LintArguments → Result Answer LintFault → Outcome → Type 0
+IsLintPrinted files arguments (Ok answer) outcome = (own : List ℕ) × IsOutcome own [] [] (Ok answer) outcome
+IsLintPrinted files arguments (Err (Input refusal)) outcome = IsLintRefusal arguments.json files.names refusal outcome
+IsLintPrinted files arguments (Err (Accept fault)) outcome = IsLintAcceptRefusal arguments.json (option_copied arguments.accept) fault outcome
 
 -- the lines that note files which were not given
 abbrev pub notes_in : List ReadTable → List ℕ
@@ -117,7 +127,7 @@ pub record IsLintOutcome (files : LintFiles) (arguments : LintArguments) (outcom
   pub answered : Result Answer LintFault
   pub is : AnswersLint (lint_asked files arguments) answered
   pub printed : Outcome
-  pub is_printed : IsLintPrinted (option_copied arguments.accept) answered printed
+  pub is_printed : IsLintPrinted files arguments answered printed
   pub noted : IsNoted (notes_in files.tables.items) printed outcome
 
 -- the same on the files that the folder has, in this environment

@@ -16,9 +16,9 @@ use Rattle.compose_runs.specs.declared.environment.Environment.{Environment}
 use Rattle.compose_runs.specs.declared.environment.PlaceArguments.{PlaceArguments}
 use Rattle.compose_runs.specs.declared.one_table.ChosenFile.{ChosenFile}
 
--- a line that refuses, by what the fault is printed as (code 10 ends it)
+-- that the sources can't be listed, in words
 abbrev pub PrintsRefusal : Outcome → Type 0
-PrintsRefusal outcome = (own : List ℕ) × PrintsErrors (codes "refused: manifest: " ++ (own ++ 10 ∷ [])) Refused outcome
+PrintsRefusal outcome = PrintsErrors (codes "composecheck: a name or a path can't stand in a manifest, as one with a newline or a tab\n") Refused outcome
 
 -- the manifest of the sources, which is read as a listing of them; or a refusal, where a name or a path can't stand in one
 abbrev pub IsWrittenManifest : List FoundSource → Outcome → Type 0

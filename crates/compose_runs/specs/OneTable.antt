@@ -11,7 +11,7 @@ use Rattle.compose_details.specs.declared.given.Given.{Given}
 use Rattle.compose_input.specs.Names.{AreNames}
 use Rattle.compose_input.specs.Tables.{IsFoundOnSystem}
 use Rattle.compose_input.specs.declared.places.Places.{Places}
-use Rattle.compose_report.specs.Outcomes.{IsNoted, IsReported}
+use Rattle.compose_report.specs.Outcomes.{IsNoted, IsWorded}
 use Rattle.compose_report.specs.declared.outcome.Outcome.{Outcome}
 use Rattle.compose_runs.specs.DiffFiles.{names_or_builtin}
 use Rattle.compose_runs.specs.Environment.{IsPlaced}
@@ -44,10 +44,11 @@ abbrev pub is_refused : Result Answer Refusal → Bool
 is_refused (Ok answer) = false
 is_refused (Err refusal) = true
 
--- the answer, or each faulty line of what was given, these key names and the repertoire at this path among it, below the notes
-pub record IsTableOutcome (read : TableRead) (keys : List (List ℕ)) (repertoire : List ℕ) (answered : Result Answer Refusal) (outcome : Outcome) : Type 0 where
+-- the answer, or each faulty line of what was given, these key names and the repertoire at this path among it, for people unless it is numbered,
+-- below the notes
+pub record IsTableOutcome (numbered : Bool) (read : TableRead) (keys : List (List ℕ)) (repertoire : List ℕ) (answered : Result Answer Refusal) (outcome : Outcome) : Type 0 where
   pub given : Given
   pub parts : IsGiven (record (parts_of read.names keys (read.table ∷ [])) { repertoire = repertoire }) given
   pub reported : Outcome
-  pub is : IsReported (is_refused answered) given answered reported
+  pub is : IsWorded numbered (is_refused answered) given answered reported
   pub noted : IsNoted (string_bytes read.notes) reported outcome

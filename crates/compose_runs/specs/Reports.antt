@@ -1,23 +1,23 @@
 -- What is printed of an answer, or of a refusal, to what was given (this project's profile).
-use Rattle.std.specs.Prelude.{Bool, ◌||◌, Result}
+use Rattle.std.specs.Prelude.{Bool, false, ◌||◌, Result}
 use Rattle.compose_answer.specs.declared.answer.Answer.{Answer}
 use Rattle.compose_answer.specs.declared.refusal.Refusal.{Refusal}
 use Rattle.compose_details.specs.Given.{GivenParts, IsGiven}
 use Rattle.compose_details.specs.declared.given.Given.{Given}
-use Rattle.compose_report.specs.Outcomes.{IsNoted, IsReported}
+use Rattle.compose_report.specs.Outcomes.{IsNoted, IsWorded}
 use Rattle.compose_report.specs.declared.outcome.Outcome.{Outcome}
 use Rattle.compose_runs.specs.Files.{notes_of}
 use Rattle.compose_runs.specs.OneTable.{is_refused}
 use Rattle.compose_runs.specs.declared.files.MigrationFiles.{MigrationFiles}
 
--- the answer, or the refusal, to these parts
-pub record IsReport (verbose : Bool) (parts : GivenParts) (answered : Result Answer Refusal) (outcome : Outcome) : Type 0 where
+-- the answer, or the refusal, to these parts, for people unless it is numbered
+pub record IsReport (numbered verbose : Bool) (parts : GivenParts) (answered : Result Answer Refusal) (outcome : Outcome) : Type 0 where
   pub given : Given
   pub are_parts : IsGiven parts given
-  pub reported : IsReported verbose given answered outcome
+  pub reported : IsWorded numbered verbose given answered outcome
 
--- the same of Compose files: a refusal with each faulty line, below the notes on where the files lie
+-- the same of Compose files: for people, a refusal with each faulty line, below the notes on where the files lie
 pub record IsFilesReport (verbose : Bool) (files : MigrationFiles) (parts : GivenParts) (answered : Result Answer Refusal) (outcome : Outcome) : Type 0 where
   pub printed : Outcome
-  pub is : IsReport (verbose || is_refused answered) parts answered printed
+  pub is : IsReport false (verbose || is_refused answered) parts answered printed
   pub noted : IsNoted (notes_of files) printed outcome

@@ -1,5 +1,5 @@
 -- What `type` prints (this project's profile).
-use Rattle.std.specs.Prelude.{ℕ, Bool, List, [], ◌∷◌, map, Option, Result}
+use Rattle.std.specs.Prelude.{ℕ, Bool, false, List, [], ◌∷◌, map, Option, Result}
 use Rattle.compose_folder.specs.Content.{Entry}
 use Rattle.compose_input.specs.Names.{AreNames}
 use Rattle.compose_input.specs.Tables.{IsListed, sources_of}
@@ -46,7 +46,7 @@ pub record IsTypeFileOutcome (read : TableRead) (words : List (List ℕ)) (outco
   pub are_keys : AreWritten (names_of read.names.lines.items) words keys
   pub answered : Result Answer Refusal
   pub is : Gives IsTyped answered (type_parts read.names.lines.items keys (sources_of read.table))
-  pub reported : IsTableOutcome read keys [] answered outcome
+  pub reported : IsTableOutcome false read keys [] answered outcome
 
 -- the same on the files that the folder has, in this environment
 pub record IsTypeFileRun (folder : Option (List Entry)) (environment : Environment) (names : List (List ℕ)) (arguments : TableArguments) (words : List (List ℕ)) (outcome : Outcome) : Type 0 where

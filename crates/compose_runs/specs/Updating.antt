@@ -1,5 +1,5 @@
 -- What `update` reads, and what it then does with the table in use (this project's profile).
-use Rattle.std.specs.Prelude.{◌≡◌, ℕ, Bool, false, List, [], ◌∷◌, map, Option, Some, None, option_copied, Result, Ok, Err, string_bytes, codes}
+use Rattle.std.specs.Prelude.{◌≡◌, ℕ, true, false, List, [], ◌∷◌, map, Option, Some, None, option_copied, Result, Ok, Err, string_bytes, codes}
 use Rattle.compose_folder.specs.Content.{Entry, File, IsHeld}
 use Rattle.compose_model.specs.declared.Rule.TheVariants.{Longest}
 use Rattle.compose_read.specs.Lines.{Source}
@@ -20,7 +20,7 @@ use Rattle.compose_input.specs.Tables.{IsFoundOnSystem}
 use Rattle.compose_input.specs.declared.fault.Fault.{Fault}
 use Rattle.compose_input.specs.declared.fault.Fault.TheVariants as faults
 use Rattle.compose_input.specs.declared.places.Places.{Places}
-use Rattle.compose_report.specs.Outcomes.{IsOutcome, IsReported, PrintsOutput, PrintsErrors}
+use Rattle.compose_report.specs.Outcomes.{IsOutcome, IsWorded, PrintsOutput, PrintsErrors}
 use Rattle.compose_report.specs.declared.outcome.Outcome.{Outcome}
 use Rattle.compose_update.specs.Update.{GivenUpdate, Updates}
 use Rattle.compose_update.specs.declared.deciding.Update.{Update}
@@ -101,58 +101,58 @@ abbrev pub IsRefusedAs : (Outcome → Type 0) → UpdateRun → Type 0
 IsRefusedAs Prints (Refused outcome) = Prints outcome
 IsRefusedAs Prints run = ⊥
 
--- a part is refused; the new table stands for both, since the one in use was read when it was taken into use
-pub record IsUpdateRefusal (verbose : Bool) (files : UpdateFiles) (fresh : List (List ℕ)) (refusal : Refusal) (outcome : Outcome) : Type 0 where
+-- a part is refused, in words for people; the new table stands for both, since the one in use was read when it was taken into use
+pub record IsUpdateRefusal (files : UpdateFiles) (fresh : List (List ℕ)) (refusal : Refusal) (outcome : Outcome) : Type 0 where
   pub given : Given
   pub parts : IsGiven (parts_of files.names fresh (files.new ∷ files.new ∷ [])) given
-  pub is : IsReported verbose given (Err refusal) outcome
+  pub is : IsWorded false true given (Err refusal) outcome
 
 -- the bytes that are stored and the certificate are those of the decision; else the lines that `make` prints, or why nothing is decided
-abbrev pub IsUpdateDone : Bool → UpdateFiles → List (List ℕ) → Result Update UpdateFault → UpdateRun → Type 0
-IsUpdateDone verbose files fresh (Ok (updates.Replaced stored certificate)) run = run ≡ Replaced stored certificate
-IsUpdateDone verbose files fresh (Ok (updates.Refused text)) run = IsRefusedAs (PrintsOutput (string_bytes text) ends.No) run
-IsUpdateDone verbose files fresh (Err (Input refusal)) run = IsRefusedAs (IsUpdateRefusal verbose files fresh refusal) run
-IsUpdateDone verbose files fresh (Err TooLarge) run = IsRefusedAs (PrintsErrors (codes "refused: update: 1 TooLarge\n") ends.Refused) run
+abbrev pub IsUpdateDone : UpdateFiles → List (List ℕ) → Result Update UpdateFault → UpdateRun → Type 0
+IsUpdateDone files fresh (Ok (updates.Replaced stored certificate)) run = run ≡ Replaced stored certificate
+IsUpdateDone files fresh (Ok (updates.Refused text)) run = IsRefusedAs (PrintsOutput (string_bytes text) ends.No) run
+IsUpdateDone files fresh (Err (Input refusal)) run = IsRefusedAs (IsUpdateRefusal files fresh refusal) run
+IsUpdateDone files fresh (Err TooLarge) run = IsRefusedAs (PrintsErrors (codes "composecheck: the files and their certificate have more than 8,388,608 bytes\n") ends.Refused) run
 
 -- each change is meant: the bytes that are stored are those of the decision where no table is in use
-abbrev pub IsDoneAsMeant : Bool → UpdateFiles → List (List ℕ) → Result Update UpdateFault → UpdateRun → Type 0
-IsDoneAsMeant verbose files fresh (Ok (updates.Replaced stored certificate)) run = run ≡ Meant stored
-IsDoneAsMeant verbose files fresh decided run = IsUpdateDone verbose files fresh decided run
+abbrev pub IsDoneAsMeant : UpdateFiles → List (List ℕ) → Result Update UpdateFault → UpdateRun → Type 0
+IsDoneAsMeant files fresh (Ok (updates.Replaced stored certificate)) run = run ≡ Meant stored
+IsDoneAsMeant files fresh decided run = IsUpdateDone files fresh decided run
 
-pub record IsStoredAsMeant (verbose : Bool) (files : UpdateFiles) (fresh : List (List ℕ)) (run : UpdateRun) : Type 0 where
+pub record IsStoredAsMeant (files : UpdateFiles) (fresh : List (List ℕ)) (run : UpdateRun) : Type 0 where
   pub decided : Result Update UpdateFault
   pub is : Updates (update_given files fresh None) decided
-  pub done : IsDoneAsMeant verbose files fresh decided run
+  pub done : IsDoneAsMeant files fresh decided run
 
 -- the new table is stored if `diff` answers yes; else its answer, or why it has none, is printed
-abbrev pub IsMeantAnswer : Bool → UpdateFiles → List (List ℕ) → MeantChanges → Result Answer DiffFault → UpdateRun → Type 0
-IsMeantAnswer verbose files fresh meant (Ok (Yes text)) run = IsStoredAsMeant verbose files fresh run
-IsMeantAnswer verbose files fresh meant (Ok answer) run = IsRefusedAs (λ outcome. (own : List ℕ) × IsOutcome own fresh [] (Ok answer) outcome) run
-IsMeantAnswer verbose files fresh meant (Err (differing.Input refusal)) run = IsRefusedAs (IsUpdateRefusal verbose files fresh refusal) run
-IsMeantAnswer verbose files fresh meant (Err (differing.Accept fault)) run = IsRefusedAs (IsAcceptRefusal (Some (string_bytes meant.path)) fault) run
+abbrev pub IsMeantAnswer : UpdateFiles → List (List ℕ) → MeantChanges → Result Answer DiffFault → UpdateRun → Type 0
+IsMeantAnswer files fresh meant (Ok (Yes text)) run = IsStoredAsMeant files fresh run
+IsMeantAnswer files fresh meant (Ok answer) run = IsRefusedAs (λ outcome. (own : List ℕ) × IsOutcome own fresh [] (Ok answer) outcome) run
+IsMeantAnswer files fresh meant (Err (differing.Input refusal)) run = IsRefusedAs (IsUpdateRefusal files fresh refusal) run
+IsMeantAnswer files fresh meant (Err (differing.Accept fault)) run = IsRefusedAs (IsAcceptRefusal false (Some (string_bytes meant.path)) fault) run
 
 -- typing would change from the table in use, and these changes are meant
-pub record IsMeantRun (verbose : Bool) (files : UpdateFiles) (fresh : List (List ℕ)) (meant : MeantChanges) (current : List Source) (run : UpdateRun) : Type 0 where
+pub record IsMeantRun (files : UpdateFiles) (fresh : List (List ℕ)) (meant : MeantChanges) (current : List Source) (run : UpdateRun) : Type 0 where
   pub answered : Result Answer DiffFault
   pub is : AnswersDiff (meant_asked files fresh meant current) answered
-  pub done : IsMeantAnswer verbose files fresh meant answered run
+  pub done : IsMeantAnswer files fresh meant answered run
 
 -- what is decided is done; but where typing would change from a table in use, and a list of meant changes is given, what the list says
-abbrev pub IsDecisionDone : Bool → UpdateFiles → List (List ℕ) → Option MeantChanges → Option (List Source) → Result Update UpdateFault → UpdateRun → Type 0
-IsDecisionDone verbose files fresh (Some meant) (Some current) (Ok (updates.Refused text)) run = IsMeantRun verbose files fresh meant current run
-IsDecisionDone verbose files fresh meant current decided run = IsUpdateDone verbose files fresh decided run
+abbrev pub IsDecisionDone : UpdateFiles → List (List ℕ) → Option MeantChanges → Option (List Source) → Result Update UpdateFault → UpdateRun → Type 0
+IsDecisionDone files fresh (Some meant) (Some current) (Ok (updates.Refused text)) run = IsMeantRun files fresh meant current run
+IsDecisionDone files fresh meant current decided run = IsUpdateDone files fresh decided run
 
 -- what is decided of the new table and of the one in use is done
-pub record IsUpdateOf (verbose : Bool) (files : UpdateFiles) (fresh : List (List ℕ)) (current : Option (List Source)) (run : UpdateRun) : Type 0 where
+pub record IsUpdateOf (files : UpdateFiles) (fresh : List (List ℕ)) (current : Option (List Source)) (run : UpdateRun) : Type 0 where
   pub decided : Result Update UpdateFault
   pub is : Updates (update_given files fresh current) decided
-  pub done : IsDecisionDone verbose files fresh files.meant current decided run
+  pub done : IsDecisionDone files fresh files.meant current decided run
 
 -- the same, where these bytes are stored of the table in use
-pub record IsUpdateRun (verbose : Bool) (files : UpdateFiles) (fresh : List (List ℕ)) (stored : Option (List ℕ)) (run : UpdateRun) : Type 0 where
+pub record IsUpdateRun (files : UpdateFiles) (fresh : List (List ℕ)) (stored : Option (List ℕ)) (run : UpdateRun) : Type 0 where
   pub current : Option (List Source)
   pub is_current : IsCurrent stored current
-  pub is : IsUpdateOf verbose files fresh current run
+  pub is : IsUpdateOf files fresh current run
 
 -- what is stored is no bundle, and nothing more is said of where it is; or memory ran out
 abbrev pub FailsStored : Option (List ℕ) → Fault → Type 0

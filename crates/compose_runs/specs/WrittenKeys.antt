@@ -1,19 +1,9 @@
 -- Keys as the words of the command line write them where Compose files are given: by their names, or as their characters (this project's profile).
-use Rattle.std.specs.Prelude.{◌≡◌, ℕ, List, [], ◌∷◌, Option, Some, None, Result, Ok, Err, encode_utf8}
+use Rattle.std.specs.Prelude.{◌≡◌, ℕ, List, [], ◌∷◌, Option, Some, None, Result, Ok, Err}
 use Rattle.keysym_core.specs.Names.{KeysymNames, value}
-use Rattle.keysym_core.specs.Next.{IsNextOf}
 use Rattle.keysym_core.specs.Printed.{printed}
+use Rattle.compose_messages.specs.Characters.{IsKeyOfText}
 use Rattle.keysym_core.specs.declared.fault.NameFault.{NameFault}
-
--- the character that the word is, if it is one alone
-abbrev pub IsCharacter : List ℕ → Option ℕ → Type 0
-IsCharacter word None = (c : ℕ) → word ≡ encode_utf8 c → ⊥
-IsCharacter word (Some c) = word ≡ encode_utf8 c
-
--- the least keysym of the character, if it is there and a keysym has it
-abbrev pub IsKeyOf : KeysymNames → Option ℕ → Option ℕ → Type 0
-IsKeyOf names None found = found ≡ None
-IsKeyOf names (Some c) found = IsNextOf names c None found
 
 -- the word itself, or the name by which the keysym is printed that was found in its place
 abbrev pub name_of : KeysymNames → List ℕ → Option ℕ → List ℕ
@@ -22,10 +12,8 @@ name_of names word (Some keysym) = printed names keysym
 
 -- the name of a word that names no keysym: that of its character, if it is one
 pub record IsNameOfCharacter (names : KeysymNames) (word name : List ℕ) : Type 0 where
-  pub character : Option ℕ
-  pub is_character : IsCharacter word character
   pub found : Option ℕ
-  pub is_found : IsKeyOf names character found
+  pub is_found : IsKeyOfText names word found
   pub is : name ≡ name_of names word found
 
 -- the name that a word with this value stands for: itself where it names a keysym

@@ -14,7 +14,7 @@ use compose_check::CheckInput;
 use compose_details::{Given, GivenTable};
 use compose_folder::{Folder, ReadOnce};
 use compose_input::{Fault, read_text};
-use compose_report::{Outcome, outcome_of};
+use compose_report::{Outcome, worded_outcome};
 use compose_tool::{check_allowed, check_migration};
 use compose_tree::ComposeTable;
 use std::alloc::{AllocError, Global};
@@ -153,7 +153,7 @@ fn check_outcome<T: ComposeTable>(
         repertoire: paths.repertoire,
         certificate: paths.certificate,
     };
-    check_report::<T>(alloc, verbose, check, texts, allowed, answered)
+    check_report::<T>(alloc, true, verbose, check, texts, allowed, answered)
 }
 
 /// The outcome of `check` on Compose files as they lie on the system. The files of names are read first, then those of the old table, those of the
@@ -193,14 +193,15 @@ fn check_files_outcome<T: ComposeTable>(
 {
     let answered = check_answer::<T>(alloc, check, allowed);
     let verbose = wants_details(verbose, &answered);
-    let printed = check_report::<T>(alloc, verbose, check, texts, allowed, answered)?;
+    let printed = check_report::<T>(alloc, false, verbose, check, texts, allowed, answered)?;
     let notes = check.both.notes(alloc)?;
     Ok(printed.with_notes(notes))
 }
 
-/// The outcome of what is answered to `check`, or refused.
+/// The outcome of what is answered to `check`, or refused, for people unless `numbered`.
 fn check_report<T: ComposeTable>(
     alloc: Global,
+    numbered: bool,
     verbose: bool,
     check: &CheckFiles<'_>,
     texts: CheckTexts<'_>,
@@ -208,7 +209,7 @@ fn check_report<T: ComposeTable>(
     answered: Result<Answer, Refusal>,
 ) -> Result<Outcome, AllocError>
     ensures { IfOk result
-        (λ outcome. IsReport verbose
+        (λ outcome. IsReport numbered verbose
         (given_parts check.now texts.entry (allowed_names allowed.entry)) answered outcome) }
 {
     let tables = [
@@ -222,7 +223,7 @@ fn check_report<T: ComposeTable>(
         certificate_text: &check.certificate,
         ..listed
     };
-    outcome_of::<T>(alloc, verbose, &given, answered)
+    worded_outcome::<T>(alloc, numbered, verbose, &given, answered)
 }
 
 /// What is answered to a certificate, whose fresh keysyms have to be among the allowed ones where these are given.

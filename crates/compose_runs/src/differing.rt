@@ -3,6 +3,7 @@ ghost use Rattle.std.specs.Prelude.{◌≡◌, ◌++◌, ◌∷◌, [], map, IfO
 ghost use Rattle.compose_diff_rows.specs.Answers.{AnswersDiff};
 ghost use Rattle.compose_input.specs.Faults.{FailNames};
 ghost use Rattle.compose_input.specs.Names.{AreNames};
+ghost use Rattle.compose_report.specs.Outcomes.{told_text};
 ghost use Rattle.compose_runs.specs.DiffFiles.{IsAccepted, names_or_builtin};
 ghost use Rattle.compose_runs.specs.Differing as words;
 ghost use Rattle.compose_runs.specs.Differing.{IsAcceptRefusal, IsDiffOutcome, IsDiffPrinted, IsDiffRun, IsFaultPrinted, IsRefusalOutcome, ShowsAnswer, diff_asked};
@@ -20,7 +21,7 @@ use compose_folder::{Folder, ReadOnce};
 use compose_input::{Fault, NameFiles, read_text};
 use compose_messages::{FileMessage, Message, Position};
 use compose_page::Markup;
-use compose_report::{Outcome, outcome_of, outcome_with};
+use compose_report::{Outcome, outcome_with, told_text, worded_refusal};
 use compose_tree::ComposeTable;
 use std::alloc::{AllocError, Global};
 
@@ -170,12 +171,12 @@ fn diff_outcome<T: ComposeTable>(
         colored outcome) }
 {
     let answered = diff_answer::<T>(alloc, files, arguments, fresh);
-    let printed = printed_outcome::<T>(alloc, files, arguments, fresh, colored, answered)?;
+    let printed = printed_outcome(alloc, files, arguments, fresh, colored, answered)?;
     Ok(printed.with_notes(files.both.notes(alloc)?))
 }
 
 /// The outcome of what is answered, or refused, on these files, without notes.
-fn printed_outcome<T: ComposeTable>(
+fn printed_outcome(
     alloc: Global,
     files: &DiffFiles<'_>,
     arguments: &DiffArguments<'_>,
@@ -189,12 +190,12 @@ fn printed_outcome<T: ComposeTable>(
 {
     match answered {
         Ok(answer) => answer_outcome(alloc, fresh, answer, colored),
-        Err(fault) => fault_outcome::<T>(alloc, files, arguments, fresh, fault),
+        Err(fault) => fault_outcome(alloc, files, arguments, fresh, fault),
     }
 }
 
 /// The outcome of what is refused on these files.
-fn fault_outcome<T: ComposeTable>(
+fn fault_outcome(
     alloc: Global,
     files: &DiffFiles<'_>,
     arguments: &DiffArguments<'_>,
@@ -205,10 +206,18 @@ fn fault_outcome<T: ComposeTable>(
         (λ outcome. IsFaultPrinted files.now arguments.now (map (λ name. name.now) fresh.now)
         fault outcome) }
 {
+    let numbered = is_numbered(arguments.form);
     match fault {
-        DiffFault::Input(refusal) => refusal_outcome::<T>(alloc, files, fresh, refusal),
-        DiffFault::Accept(fault) => accept_outcome(alloc, arguments.accept, &fault),
+        DiffFault::Input(refusal) => refusal_outcome(alloc, numbered, files, fresh, refusal),
+        DiffFault::Accept(fault) => accept_outcome(alloc, numbered, arguments.accept, &fault),
     }
+}
+
+/// Whether a refusal has its own line, for programs, above what is said to people.
+fn is_numbered(form: DiffForm) -> bool
+    ensures { result ≡ words.is_numbered form }
+{
+    matches!(form, DiffForm::Json)
 }
 
 /// What is answered on these files.
@@ -270,51 +279,55 @@ fn in_colors(alloc: Global, answer: Answer) -> Result<Answer, AllocError>
     }
 }
 
-/// The outcome of a refusal of the tables, with each faulty line of what was given.
-fn refusal_outcome<T: ComposeTable>(
+/// The outcome of a refusal of the tables, with each faulty line of what was given, for people unless `numbered`.
+fn refusal_outcome(
     alloc: Global,
+    numbered: bool,
     files: &DiffFiles<'_>,
     fresh: &[&str],
     refusal: Refusal,
 ) -> Result<Outcome, AllocError>
     ensures { IfOk result
-        (λ outcome. IsRefusalOutcome files.now (map (λ name. name.now) fresh.now) refusal outcome) }
+        (λ outcome. IsRefusalOutcome numbered files.now (map (λ name. name.now) fresh.now) refusal
+        outcome) }
 {
     let both = &files.both;
     let tables = [GivenTable::of(&both.old), GivenTable::of(&both.new)];
     let given = Given::of(&both.names, fresh, &tables);
-    outcome_of::<T>(alloc, true, &given, Err(refusal))
+    worded_refusal(alloc, numbered, &given, refusal)
 }
 
-/// The outcome where the list of the changes that are meant is refused.
+/// The outcome where the list of the changes that are meant is refused, for people unless `numbered`.
 pub(crate) fn accept_outcome(
     alloc: Global,
+    numbered: bool,
     path: Option<&str>,
     fault: &AcceptFault,
 ) -> Result<Outcome, AllocError>
     ensures { IfOk result
-        (λ outcome. IsAcceptRefusal (option_copied path.entry) fault.now outcome) }
+        (λ outcome. IsAcceptRefusal numbered (option_copied path.entry) fault.now outcome) }
 {
     let own = format!(in alloc; "{fault}")?;
-    let lines = accept_lines(alloc, &own, path.unwrap_or(""), fault)?;
+    let lines = accept_lines(alloc, numbered, &own, path.unwrap_or(""), fault)?;
     Ok(Outcome::of_errors(alloc, lines, Ended::Refused))
 }
 
 /// The line of the refusal, by what the fault is printed as, and below it the line of the list.
 fn accept_lines(
     alloc: Global,
+    numbered: bool,
     own: &str,
     path: &str,
     fault: &AcceptFault,
 ) -> Result<String, AllocError>
     ensures { IfOk result
         (λ lines. string_bytes lines
-        ≡ (codes "refused: accept: " ++ (own.now ++ 10 ∷ []))
-        ++ words.accept_details path.now fault.now) }
+        ≡ told_text numbered (codes "refused: accept: " ++ (own.now ++ 10 ∷ []))
+        (words.accept_details path.now fault.now)) }
 {
-    let mut lines = format!(in alloc; "refused: accept: {own}\n")?;
-    lines.push_str(&accept_details(alloc, path, fault)?)?;
-    Ok(lines)
+    let line = format!(in alloc; "refused: accept: {own}\n")?;
+    let details = accept_details(alloc, path, fault)?;
+    told_text(alloc, numbered, line, &details)
 }
 
 /// What is wrong with which line of the list of the changes that are meant.

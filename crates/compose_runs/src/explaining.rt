@@ -14,7 +14,7 @@ use compose_arguments::{FilePair, TablePaths};
 use compose_details::{Given, GivenTable};
 use compose_folder::{Folder, ReadOnce};
 use compose_input::Fault;
-use compose_report::{Outcome, outcome_of};
+use compose_report::{Outcome, worded_outcome};
 use compose_tool::{explain_all_migration, explain_migration};
 use compose_tree::ComposeTable;
 use std::alloc::{AllocError, Global};
@@ -54,7 +54,7 @@ fn explain_outcome<T: ComposeTable>(
         outcome) }
 {
     let answered = explain_answer::<T>(alloc, both, fresh, all);
-    explain_report::<T>(alloc, verbose, both, fresh, all, answered)
+    explain_report::<T>(alloc, true, verbose, both, fresh, all, answered)
 }
 
 /// The outcome of `explain` on Compose files as they lie on the system. The files of names are read first, then those of the old table, and those
@@ -94,14 +94,15 @@ fn explain_files_outcome<T: ComposeTable>(
 {
     let answered = explain_answer::<T>(alloc, both, fresh, all);
     let verbose = wants_details(verbose, &answered);
-    let printed = explain_report::<T>(alloc, verbose, both, fresh, all, answered)?;
+    let printed = explain_report::<T>(alloc, false, verbose, both, fresh, all, answered)?;
     let notes = both.notes(alloc)?;
     Ok(printed.with_notes(notes))
 }
 
-/// The outcome of what is answered to `explain`, or refused.
+/// The outcome of what is answered to `explain`, or refused, for people unless `numbered`.
 fn explain_report<T: ComposeTable>(
     alloc: Global,
+    numbered: bool,
     verbose: bool,
     both: &MigrationFiles<'_>,
     fresh: &[&str],
@@ -109,13 +110,13 @@ fn explain_report<T: ComposeTable>(
     answered: Result<Answer, Refusal>,
 ) -> Result<Outcome, AllocError>
     ensures { IfOk result
-        (λ outcome. IsReport verbose
+        (λ outcome. IsReport numbered verbose
         (explain_given both.now (map (λ name. name.now) fresh.now) all) answered outcome) }
 {
     let tables = [GivenTable::of(&both.old), GivenTable::of(&both.new)];
     let listed = Given::of(&both.names, fresh, &tables);
     let given = Given { all, ..listed };
-    outcome_of::<T>(alloc, verbose, &given, answered)
+    worded_outcome::<T>(alloc, numbered, verbose, &given, answered)
 }
 
 /// What is answered to `explain`.

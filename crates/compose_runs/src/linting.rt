@@ -1,18 +1,20 @@
 //! `lint`: what is wrong in Compose files.
 ghost use Rattle.std.specs.Prelude.{◌≡◌, ◌||◌, ◌++◌, ◌∷◌, [], map, IfOk, IfErr, Some, option_copied, string_bytes, codes};
 ghost use Rattle.compose_lint.specs.Answers.{AnswersLint, asked, table_given};
+ghost use Rattle.compose_report.specs.Outcomes.{told_text};
 ghost use Rattle.compose_runs.specs.DiffFiles.{IsAccepted};
 ghost use Rattle.compose_runs.specs.Environment.{GivesPlaces};
 ghost use Rattle.compose_runs.specs.Environment as said;
 ghost use Rattle.compose_runs.specs.Faults.{FailsChosenTable, FailsLintRun, FailsTables, OrMemory};
 ghost use Rattle.compose_runs.specs.Linting as words;
-ghost use Rattle.compose_runs.specs.Linting.{AreReadTables, IsLintAcceptRefusal, IsLintOutcome, IsLintPrinted, IsLintRun, IsReadTable, asked_files, lint_asked, lint_places};
+ghost use Rattle.compose_runs.specs.Linting.{AreReadTables, IsLintAcceptRefusal, IsLintOutcome, IsLintPrinted, IsLintRefusal, IsLintRun, IsReadTable, asked_files, lint_asked, lint_places};
 
 use crate::differing::{read_accepted, read_names};
 use crate::environment::{Environment, PlaceArguments};
 use crate::one_table::{ChosenFile, file_or_own};
-use compose_answer::{Answer, Ended};
+use compose_answer::{Answer, Ended, Refusal};
 use compose_arguments::LintArguments;
+use compose_details::Given;
 use compose_diff::AcceptFault;
 use compose_folder::{Folder, ReadOnce};
 use compose_input::{Fault, NameFiles, Places, TableFiles};
@@ -20,7 +22,7 @@ use compose_lint::{LintFault, LintForm, LintInput, LintTable, Readers, lint_tabl
 use compose_messages::{FileMessage, Message, Position};
 use compose_model::Rule;
 use compose_read::Sources;
-use compose_report::{Outcome, outcome_with};
+use compose_report::{Outcome, outcome_with, told_text, worded_refusal};
 use std::alloc::{AllocError, Global};
 use std::marker::Model;
 
@@ -203,7 +205,7 @@ fn lint_outcome(
     ensures { IfOk result (λ outcome. IsLintOutcome files.now arguments.now outcome) }
 {
     let answered = lint_answer(alloc, files, arguments);
-    let printed = printed_outcome(alloc, arguments.accept, answered)?;
+    let printed = printed_outcome(alloc, files, arguments, answered)?;
     Ok(printed.with_notes(notes_of(alloc, &files.tables)?))
 }
 
@@ -364,50 +366,68 @@ fn has_word(given: &[&str], word: &str) -> bool
 /// The outcome of what is answered, or refused, without notes.
 fn printed_outcome(
     alloc: Global,
-    accept: Option<&str>,
+    files: &LintFiles<'_>,
+    arguments: &LintArguments<'_>,
     answered: Result<Answer, LintFault>,
 ) -> Result<Outcome, AllocError>
     ensures { IfOk result
-        (λ outcome. IsLintPrinted (option_copied accept.entry) answered outcome) }
+        (λ outcome. IsLintPrinted files.now arguments.now answered outcome) }
 {
     match answered {
         Ok(answer) => outcome_with(alloc, &[], Ok(answer), String::new(alloc)),
         Err(LintFault::Input(refusal)) => {
-            outcome_with(alloc, &[], Err(refusal), String::new(alloc))
+            refusal_outcome(alloc, arguments.json, &files.names, refusal)
         }
-        Err(LintFault::Accept(fault)) => accept_outcome(alloc, accept, &fault),
+        Err(LintFault::Accept(fault)) => {
+            accept_outcome(alloc, arguments.json, arguments.accept, &fault)
+        }
     }
 }
 
-/// The outcome where the list of the findings that are accepted is refused.
+/// The outcome of a refusal of the names, for people unless `numbered`.
+fn refusal_outcome(
+    alloc: Global,
+    numbered: bool,
+    names: &NameFiles<'_>,
+    refusal: Refusal,
+) -> Result<Outcome, AllocError>
+    ensures { IfOk result (λ outcome. IsLintRefusal numbered names.now refusal outcome) }
+{
+    let given = Given::of(names, &[], &[]);
+    worded_refusal(alloc, numbered, &given, refusal)
+}
+
+/// The outcome where the list of the findings that are accepted is refused, for people unless `numbered`.
 fn accept_outcome(
     alloc: Global,
+    numbered: bool,
     path: Option<&str>,
     fault: &AcceptFault,
 ) -> Result<Outcome, AllocError>
     ensures { IfOk result
-        (λ outcome. IsLintAcceptRefusal (option_copied path.entry) fault.now outcome) }
+        (λ outcome. IsLintAcceptRefusal numbered (option_copied path.entry) fault.now outcome) }
 {
     let own = format!(in alloc; "{fault}")?;
-    let lines = accept_lines(alloc, &own, path.unwrap_or(""), fault)?;
+    let lines = accept_lines(alloc, numbered, &own, path.unwrap_or(""), fault)?;
     Ok(Outcome::of_errors(alloc, lines, Ended::Refused))
 }
 
 /// The line of the refusal, by what the fault is printed as, and below it the line of the list.
 fn accept_lines(
     alloc: Global,
+    numbered: bool,
     own: &str,
     path: &str,
     fault: &AcceptFault,
 ) -> Result<String, AllocError>
     ensures { IfOk result
         (λ lines. string_bytes lines
-        ≡ (codes "refused: accept: " ++ (own.now ++ 10 ∷ []))
-        ++ words.lint_accept_details path.now fault.now) }
+        ≡ told_text numbered (codes "refused: accept: " ++ (own.now ++ 10 ∷ []))
+        (words.lint_accept_details path.now fault.now)) }
 {
-    let mut lines = format!(in alloc; "refused: accept: {own}\n")?;
-    lines.push_str(&accept_details(alloc, path, fault)?)?;
-    Ok(lines)
+    let line = format!(in alloc; "refused: accept: {own}\n")?;
+    let details = accept_details(alloc, path, fault)?;
+    told_text(alloc, numbered, line, &details)
 }
 
 /// What is wrong with which line of the list of the findings that are accepted.

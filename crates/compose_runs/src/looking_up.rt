@@ -46,7 +46,7 @@ pub fn run_list<T: ComposeTable, F: Folder>(
 {
     let read = TableRead::read(alloc, files, environment, names, &arguments.table)?;
     let answered = list_answer::<T>(alloc, &read, arguments);
-    Ok(read.outcome::<T>(alloc, &arguments.prefix, "", answered)?)
+    Ok(read.outcome::<T>(alloc, arguments.json, &arguments.prefix, "", answered)?)
 }
 
 /// The sequences of the table, or the keys that can follow.
@@ -292,14 +292,14 @@ fn how_outcome<T: ComposeTable>(
     answered: Result<Ways, Refusal>,
 ) -> Result<Outcome, AllocError>
     ensures { IfOk result
-        (λ outcome. IsHowOutcome read.entry
+        (λ outcome. IsHowOutcome arguments.now.json read.entry
         (unwrap_or (option_copied arguments.now.repertoire) [])
         (map (λ word. word.now) words.now) answered outcome) }
 {
     let repertoire = arguments.repertoire.unwrap_or("");
     match answered {
         Ok(ways) => ways_outcome::<T>(alloc, read, repertoire, words, ways),
-        Err(refusal) => read.outcome::<T>(alloc, &[], repertoire, Err(refusal)),
+        Err(refusal) => read.outcome::<T>(alloc, arguments.json, &[], repertoire, Err(refusal)),
     }
 }
 
@@ -317,7 +317,7 @@ fn ways_outcome<T: ComposeTable>(
 {
     let errors = missing_lines(alloc, words, &ways.found)?;
     let answer = answer_of(ways);
-    let outcome = read.outcome::<T>(alloc, &[], repertoire, Ok(answer))?;
+    let outcome = read.outcome::<T>(alloc, false, &[], repertoire, Ok(answer))?;
     Ok(with_errors(outcome, errors))
 }
 

@@ -14,7 +14,7 @@ use compose_arguments::{FilePair, TablePaths};
 use compose_details::{Given, GivenTable};
 use compose_folder::{Folder, ReadOnce};
 use compose_input::{Fault, read_text};
-use compose_report::{Outcome, outcome_of};
+use compose_report::{Outcome, worded_outcome};
 use compose_tool::{make_all_migration, make_migration};
 use compose_tree::ComposeTable;
 use std::alloc::{AllocError, Global};
@@ -66,7 +66,7 @@ fn make_outcome<T: ComposeTable>(
         (λ outcome. IsMakeOutcome verbose both.now repertoire.now making.entry outcome) }
 {
     let answered = make_answer::<T>(alloc, both, repertoire, making);
-    make_report::<T>(alloc, verbose, both, making, answered)
+    make_report::<T>(alloc, true, verbose, both, making, answered)
 }
 
 /// The outcome of `make` on Compose files as they lie on the system. The files of names are read first, then those of the old table, those of the
@@ -107,21 +107,22 @@ fn make_files_outcome<T: ComposeTable>(
 {
     let answered = make_answer::<T>(alloc, both, repertoire, making);
     let verbose = wants_details(verbose, &answered);
-    let printed = make_report::<T>(alloc, verbose, both, making, answered)?;
+    let printed = make_report::<T>(alloc, false, verbose, both, making, answered)?;
     let notes = both.notes(alloc)?;
     Ok(printed.with_notes(notes))
 }
 
-/// The outcome of what is answered to `make`, or refused.
+/// The outcome of what is answered to `make`, or refused, for people unless `numbered`.
 fn make_report<T: ComposeTable>(
     alloc: Global,
+    numbered: bool,
     verbose: bool,
     both: &MigrationFiles<'_>,
     making: MakeOptions<'_>,
     answered: Result<Answer, Refusal>,
 ) -> Result<Outcome, AllocError>
     ensures { IfOk result
-        (λ outcome. IsReport verbose (make_given both.now making.entry) answered outcome) }
+        (λ outcome. IsReport numbered verbose (make_given both.now making.entry) answered outcome) }
 {
     let tables = [GivenTable::of(&both.old), GivenTable::of(&both.new)];
     let listed = Given::of(&both.names, making.fresh, &tables);
@@ -129,7 +130,7 @@ fn make_report<T: ComposeTable>(
         repertoire: making.repertoire,
         ..listed
     };
-    outcome_of::<T>(alloc, verbose, &given, answered)
+    worded_outcome::<T>(alloc, numbered, verbose, &given, answered)
 }
 
 /// What is answered to `make`.

@@ -1,5 +1,5 @@
 //! `manifest`: the sources of a Compose file on the system.
-ghost use Rattle.std.specs.Prelude.{◌≡◌, ◌++◌, ◌∷◌, [], IfOk, IfErr, string_bytes, codes};
+ghost use Rattle.std.specs.Prelude.{◌≡◌, IfOk, IfErr};
 ghost use Rattle.compose_runs.specs.Faults.{FailsManifestRun};
 ghost use Rattle.compose_runs.specs.Manifest.{IsManifestRun, IsManifestOutcome, IsWrittenManifest, PrintsRefusal};
 
@@ -61,23 +61,17 @@ fn written_manifest(alloc: Global, found: &[FoundSource]) -> Result<Outcome, All
     match manifest_text(alloc, found) {
         Ok(text) => Ok(Outcome::of_output(alloc, text, Ended::Yes)),
         Err(WriteFault::NoMemory) => Err(AllocError),
-        Err(WriteFault::Unwritable) => refused_manifest(alloc, &WriteFault::Unwritable),
+        Err(WriteFault::Unwritable) => refused_manifest(alloc),
     }
 }
 
 /// The refusal of a manifest that can't be written.
-fn refused_manifest(alloc: Global, fault: &WriteFault) -> Result<Outcome, AllocError>
+fn refused_manifest(alloc: Global) -> Result<Outcome, AllocError>
     ensures { IfOk result (λ outcome. PrintsRefusal outcome) }
 {
-    let own = format!(in alloc; "{fault}")?;
-    let line = refusal_line(alloc, &own)?;
+    let line = String::from_str(
+        alloc,
+        "composecheck: a name or a path can't stand in a manifest, as one with a newline or a tab\n",
+    )?;
     Ok(Outcome::of_errors(alloc, line, Ended::Refused))
-}
-
-/// The line of the refusal, by what the fault is printed as.
-fn refusal_line(alloc: Global, own: &str) -> Result<String, AllocError>
-    ensures { IfOk result
-        (λ line. string_bytes line ≡ codes "refused: manifest: " ++ (own.now ++ 10 ∷ [])) }
-{
-    format!(in alloc; "refused: manifest: {own}\n")
 }

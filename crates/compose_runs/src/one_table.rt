@@ -16,7 +16,7 @@ use compose_details::{Given, GivenTable};
 use compose_folder::{Folder, ReadOnce};
 use compose_input::{Fault, NameFiles, Places, TableFiles};
 use compose_model::Rule;
-use compose_report::{Outcome, outcome_of};
+use compose_report::{Outcome, worded_outcome};
 use compose_shown::Shown;
 use compose_tree::ComposeTable;
 use compose_user::{UserFolders, first_file, user_paths};
@@ -64,16 +64,17 @@ impl<'n> TableRead<'n> {
     }
 
     /// The outcome of an answer on the table, the keys of these names and the repertoire at this path, or of why there is none, with each faulty line
-    /// of what was given. An empty path is that of no repertoire.
+    /// of what was given, for people unless `numbered`. An empty path is that of no repertoire.
     pub(crate) fn outcome<T: ComposeTable>(
         self,
         alloc: Global,
+        numbered: bool,
         key_names: &[&str],
         repertoire: &str,
         answered: Result<Answer, Refusal>,
     ) -> Result<Outcome, AllocError>
         ensures { IfOk result
-            (λ outcome. IsTableOutcome self.entry (map (λ name. name.now) key_names.now)
+            (λ outcome. IsTableOutcome numbered self.entry (map (λ name. name.now) key_names.now)
             repertoire.now answered outcome) }
     {
         let verbose = is_refused(&answered);
@@ -83,7 +84,7 @@ impl<'n> TableRead<'n> {
             repertoire,
             ..listed
         };
-        let outcome = outcome_of::<T>(alloc, verbose, &given, answered)?;
+        let outcome = worded_outcome::<T>(alloc, numbered, verbose, &given, answered)?;
         Ok(outcome.with_notes(self.notes))
     }
 }

@@ -17,7 +17,7 @@ use compose_input::{Fault, NameFiles, TableFiles, read_text};
 use compose_migration::{MigrationInput, TableInput};
 use compose_model::Rule;
 use compose_read::Sources;
-use compose_report::{Outcome, outcome_of, outcome_with};
+use compose_report::{Outcome, outcome_with, worded_refusal};
 use compose_tree::ComposeTable;
 use compose_update::{Update, UpdateFault, UpdateInput, decide_update};
 use std::alloc::{AllocError, Global};
@@ -144,18 +144,17 @@ fn read_meant<F: Folder>(
 pub fn run_update<T: ComposeTable>(
     alloc: Global,
     files: &UpdateFiles,
-    verbose: bool,
     fresh: &[&str],
     stored: Option<&[u8]>,
 ) -> Result<UpdateRun, Fault>
     ensures run { IfOk result
-        (λ run. IsUpdateRun verbose files.now (map (λ name. name.now) fresh.now)
+        (λ run. IsUpdateRun files.now (map (λ name. name.now) fresh.now)
         (option_copied stored.entry) run) }
     ensures fault { IfErr result (λ fault. FailsStored (option_copied stored.entry) fault) }
 {
     match stored {
-        Some(stored) => update_stored::<T>(alloc, files, verbose, fresh, stored),
-        None => Ok(update_of::<T>(alloc, files, verbose, fresh, None)?),
+        Some(stored) => update_stored::<T>(alloc, files, fresh, stored),
+        None => Ok(update_of::<T>(alloc, files, fresh, None)?),
     }
 }
 
@@ -163,37 +162,35 @@ pub fn run_update<T: ComposeTable>(
 fn update_stored<T: ComposeTable>(
     alloc: Global,
     files: &UpdateFiles,
-    verbose: bool,
     fresh: &[&str],
     stored: &[u8],
 ) -> Result<UpdateRun, Fault>
     ensures run { IfOk result
-        (λ run. IsUpdateRun verbose files.now (map (λ name. name.now) fresh.now)
+        (λ run. IsUpdateRun files.now (map (λ name. name.now) fresh.now)
         (Some stored.now) run) }
     ensures fault { IfErr result (λ fault. FailsStored (Some stored.now) fault) }
 {
     let bundle = read_stored(alloc, "", stored)?;
     let current = Some(&bundle.sources);
-    Ok(update_of::<T>(alloc, files, verbose, fresh, current)?)
+    Ok(update_of::<T>(alloc, files, fresh, current)?)
 }
 
 /// What an update does with these files, where a table of these sources is in use.
 fn update_of<T: ComposeTable>(
     alloc: Global,
     files: &UpdateFiles,
-    verbose: bool,
     fresh: &[&str],
     current: Option<&Sources>,
 ) -> Result<UpdateRun, AllocError>
     ensures { IfOk result
-        (λ run. IsUpdateOf verbose files.now (map (λ name. name.now) fresh.now)
+        (λ run. IsUpdateOf files.now (map (λ name. name.now) fresh.now)
         (option_map (λ sources. sources.now) current.entry) run) }
 {
     match (decided::<T>(alloc, files, fresh, current), &files.meant, current) {
         (Ok(Update::Refused(_)), Some(meant), Some(current)) => {
-            update_meant::<T>(alloc, files, verbose, fresh, meant, current)
+            update_meant::<T>(alloc, files, fresh, meant, current)
         }
-        (decided, _, _) => update_done::<T>(alloc, files, verbose, fresh, decided),
+        (decided, _, _) => update_done(alloc, files, fresh, decided),
     }
 }
 
@@ -222,27 +219,26 @@ fn decided<T: ComposeTable>(
 fn update_meant<T: ComposeTable>(
     alloc: Global,
     files: &UpdateFiles,
-    verbose: bool,
     fresh: &[&str],
     meant: &MeantChanges,
     current: &Sources,
 ) -> Result<UpdateRun, AllocError>
     ensures { IfOk result
-        (λ run. IsMeantRun verbose files.now (map (λ name. name.now) fresh.now) meant.now
+        (λ run. IsMeantRun files.now (map (λ name. name.now) fresh.now) meant.now
         current.now run) }
 {
     match meant_answer::<T>(alloc, files, fresh, meant, current) {
-        Ok(Answer::Yes(_)) => stored_as_meant::<T>(alloc, files, verbose, fresh),
+        Ok(Answer::Yes(_)) => stored_as_meant::<T>(alloc, files, fresh),
         Ok(answer) => {
             let outcome = outcome_with(alloc, fresh, Ok(answer), String::new(alloc))?;
             Ok(UpdateRun::Refused(outcome))
         }
         Err(DiffFault::Input(refusal)) => {
-            let outcome = refused_outcome::<T>(alloc, files, verbose, fresh, refusal)?;
+            let outcome = refused_outcome(alloc, files, fresh, refusal)?;
             Ok(UpdateRun::Refused(outcome))
         }
         Err(DiffFault::Accept(fault)) => {
-            let outcome = accept_outcome(alloc, Some(&meant.path), &fault)?;
+            let outcome = accept_outcome(alloc, false, Some(&meant.path), &fault)?;
             Ok(UpdateRun::Refused(outcome))
         }
     }
@@ -307,28 +303,26 @@ fn source_name(sources: &Sources, index: usize) -> &str
 fn stored_as_meant<T: ComposeTable>(
     alloc: Global,
     files: &UpdateFiles,
-    verbose: bool,
     fresh: &[&str],
 ) -> Result<UpdateRun, AllocError>
     ensures { IfOk result
-        (λ run. IsStoredAsMeant verbose files.now (map (λ name. name.now) fresh.now) run) }
+        (λ run. IsStoredAsMeant files.now (map (λ name. name.now) fresh.now) run) }
 {
     match decided::<T>(alloc, files, fresh, None) {
         Ok(Update::Replaced { stored, .. }) => Ok(UpdateRun::Meant { stored }),
-        decided => update_done::<T>(alloc, files, verbose, fresh, decided),
+        decided => update_done(alloc, files, fresh, decided),
     }
 }
 
 /// The run of an update that is decided so, where no list of changes that are meant bears on it.
-fn update_done<T: ComposeTable>(
+fn update_done(
     alloc: Global,
     files: &UpdateFiles,
-    verbose: bool,
     fresh: &[&str],
     decided: Result<Update, UpdateFault>,
 ) -> Result<UpdateRun, AllocError>
     ensures { IfOk result
-        (λ run. IsUpdateDone verbose files.now (map (λ name. name.now) fresh.now) decided run) }
+        (λ run. IsUpdateDone files.now (map (λ name. name.now) fresh.now) decided run) }
 {
     match decided {
         Ok(
@@ -345,11 +339,14 @@ fn update_done<T: ComposeTable>(
             Ok(UpdateRun::Refused(outcome))
         }
         Err(UpdateFault::Input(refusal)) => {
-            let outcome = refused_outcome::<T>(alloc, files, verbose, fresh, refusal)?;
+            let outcome = refused_outcome(alloc, files, fresh, refusal)?;
             Ok(UpdateRun::Refused(outcome))
         }
         Err(UpdateFault::TooLarge) => {
-            let line = String::from_str(alloc, "refused: update: 1 TooLarge\n")?;
+            let line = String::from_str(
+                alloc,
+                "composecheck: the files and their certificate have more than 8,388,608 bytes\n",
+            )?;
             let outcome = Outcome::of_errors(alloc, line, Ended::Refused);
             Ok(UpdateRun::Refused(outcome))
         }
@@ -357,18 +354,16 @@ fn update_done<T: ComposeTable>(
 }
 
 /// The outcome where a part is refused: the new table stands for both, since the one in use was read when it was taken into use.
-fn refused_outcome<T: ComposeTable>(
+fn refused_outcome(
     alloc: Global,
     files: &UpdateFiles,
-    verbose: bool,
     fresh: &[&str],
     refusal: Refusal,
 ) -> Result<Outcome, AllocError>
     ensures { IfOk result
-        (λ outcome. IsUpdateRefusal verbose files.now (map (λ name. name.now) fresh.now) refusal
-        outcome) }
+        (λ outcome. IsUpdateRefusal files.now (map (λ name. name.now) fresh.now) refusal outcome) }
 {
     let tables = [GivenTable::of(&files.new), GivenTable::of(&files.new)];
     let given = Given::of(&files.names, fresh, &tables);
-    outcome_of::<T>(alloc, verbose, &given, Err(refusal))
+    worded_refusal(alloc, false, &given, refusal)
 }

@@ -2,8 +2,9 @@
 ghost use Rattle.std.specs.Prelude.{◌≡◌, map, IfOk, string_bytes};
 ghost use Rattle.keysym_core.specs.Header.{names_of};
 ghost use Rattle.keysym_core.specs.Printed as words;
-ghost use Rattle.compose_runs.specs.WrittenKeys.{AreNamed, AreWritten, IsCharacter, IsKeyOf, IsNameOfCharacter, IsWritten};
+ghost use Rattle.compose_runs.specs.WrittenKeys.{AreNamed, AreWritten, IsNameOfCharacter, IsWritten};
 
+use compose_messages::key_of_text;
 use keysym_core::{Keysym, NameFault, Names};
 use std::alloc::{AllocError, Global};
 
@@ -78,20 +79,9 @@ fn written_key(alloc: Global, names: &Names, word: &str) -> Result<String, Alloc
 fn name_of_character(alloc: Global, names: &Names, word: &str) -> Result<String, AllocError>
     ensures { IfOk result (λ name. IsNameOfCharacter names.now word.now (string_bytes name)) }
 {
-    let character = single_character(word);
-    match key_of(names, character) {
+    match key_of_text(names, word) {
         Some(keysym) => printed(alloc, names, keysym),
         None => String::from_str(alloc, word),
-    }
-}
-
-/// The least keysym of the character.
-fn key_of(names: &Names, character: Option<char>) -> Option<Keysym>
-    ensures { IsKeyOf names.now character result }
-{
-    match character {
-        Some(character) => names.next_of(character, None),
-        None => None,
     }
 }
 
@@ -102,19 +92,5 @@ fn printed(alloc: Global, names: &Names, keysym: Keysym) -> Result<String, Alloc
     match names.print(alloc, keysym) {
         Ok(name) => Ok(name),
         Err(_) => Err(AllocError),
-    }
-}
-
-/// The character that the word is, if it is one alone.
-fn single_character(word: &str) -> Option<char>
-    ensures { IsCharacter word.now result }
-{
-    let mut characters = word.chars();
-    let Some(first) = characters.next() else {
-        return None;
-    };
-    match characters.next() {
-        Some(_) => None,
-        None => Some(first),
     }
 }

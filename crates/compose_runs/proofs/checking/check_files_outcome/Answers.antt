@@ -1,4 +1,4 @@
-use Rattle.std.proofs.Common.{subst}
+use Rattle.std.proofs.Common.{false, subst}
 use Rattle.compose_report.specs.Outcomes.{IsNoted}
 use Rattle.compose_runs.specs.Checking.{allowed_names, given_parts}
 use Rattle.compose_runs.specs.Reports.{IsReport}
@@ -12,7 +12,7 @@ returns g c =
       is = c.check_answer-answered.ensures;
       reported = record {
         printed = printed;
-        is = subst (λ v. IsReport v (given_parts c.args.check.now c.args.texts (allowed_names c.args.allowed)) answered printed) c.wants_details-verbose.ensures c.in_ok-printed.ensures;
+        is = subst (λ v. IsReport false v (given_parts c.args.check.now c.args.texts (allowed_names c.args.allowed)) answered printed) c.wants_details-verbose.ensures c.in_ok-printed.ensures;
         noted = subst (λ notes. IsNoted notes printed c.with_notes.result) c.in_ok-notes.ensures c.with_notes.ensures;
       };
     }

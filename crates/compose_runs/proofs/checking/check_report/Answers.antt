@@ -1,5 +1,5 @@
 use Rattle.std.proofs.Common.{refl, map, ap, ◌∙◌, ℕ, List, [], ◌∷◌, Bor}
-use Rattle.compose_report.specs.Outcomes.{IsReported}
+use Rattle.compose_report.specs.Outcomes.{IsWorded}
 use Rattle.compose_report.proofs.Results.{ok_map}
 use Rattle.compose_runs.specs.Checking.{allowed_names, given_parts}
 use Rattle.compose_runs.specs.Reports.{IsReport}
@@ -11,7 +11,7 @@ returns g c =
     let check = c.args.check.now in let texts = c.args.texts in let answered = c.args.answered in
     let given = record c.of-listed.result { repertoire = texts.repertoire; certificate = texts.certificate; certificate_text = c.deref.result } in
     let parts = c.of-listed.ensures (check.both.old ∷ check.both.new ∷ []) (c.of.ensures, (c.of-2.ensures, tt)) in
-    ok_map (IsReported c.args.verbose given answered) (IsReport c.args.verbose (given_parts check texts (allowed_names c.args.allowed)) answered) c.outcome_of.result
+    ok_map (IsWorded c.args.numbered c.args.verbose given answered) (IsReport c.args.numbered c.args.verbose (given_parts check texts (allowed_names c.args.allowed)) answered) c.worded_outcome.result
     (λ outcome reported. record {
       given = given;
       are_parts = record {
@@ -25,4 +25,4 @@ returns g c =
         all = parts.all;
       };
       reported = reported;
-    }) c.outcome_of.ensures
+    }) c.worded_outcome.ensures

@@ -1,4 +1,4 @@
-use Rattle.std.proofs.Common.{subst, map}
+use Rattle.std.proofs.Common.{false, subst, map}
 use Rattle.compose_report.specs.Outcomes.{IsNoted}
 use Rattle.compose_runs.specs.Explaining.{explain_given}
 use Rattle.compose_runs.specs.Reports.{IsReport}
@@ -12,7 +12,7 @@ returns g c =
       is = c.explain_answer-answered.ensures;
       reported = record {
         printed = printed;
-        is = subst (λ v. IsReport v (explain_given both (map (λ name. name.now) c.args.fresh.now) c.args.all) answered printed) c.wants_details-verbose.ensures c.in_ok-printed.ensures;
+        is = subst (λ v. IsReport false v (explain_given both (map (λ name. name.now) c.args.fresh.now) c.args.all) answered printed) c.wants_details-verbose.ensures c.in_ok-printed.ensures;
         noted = subst (λ notes. IsNoted notes printed c.with_notes.result) c.in_ok-notes.ensures c.with_notes.ensures;
       };
     }

@@ -1,5 +1,5 @@
 use Rattle.std.proofs.Common.{refl, map, [], ◌∷◌}
-use Rattle.compose_report.specs.Outcomes.{IsReported}
+use Rattle.compose_report.specs.Outcomes.{IsWorded}
 use Rattle.compose_report.proofs.Results.{ok_map}
 use Rattle.compose_runs.specs.Explaining.{explain_given}
 use Rattle.compose_runs.specs.Reports.{IsReport}
@@ -9,8 +9,8 @@ pub returns : goal.returns
 returns g c =
     let both = c.args.both.now in let answered = c.args.answered in let listed = c.of-listed.result in
     let parts = c.of-listed.ensures (both.old ∷ both.new ∷ []) (c.of.ensures, (c.of-2.ensures, tt)) in
-    ok_map (IsReported c.args.verbose (record listed { all = c.args.all }) answered) (IsReport c.args.verbose (explain_given both (map (λ name. name.now) c.args.fresh.now) c.args.all) answered)
-    c.outcome_of.result
+    ok_map (IsWorded c.args.numbered c.args.verbose (record listed { all = c.args.all }) answered) (IsReport c.args.numbered c.args.verbose (explain_given both (map (λ name. name.now) c.args.fresh.now) c.args.all) answered)
+    c.worded_outcome.result
     (λ outcome reported. record {
       given = record listed { all = c.args.all };
       are_parts = record {
@@ -24,4 +24,4 @@ returns g c =
         all = refl;
       };
       reported = reported;
-    }) c.outcome_of.ensures
+    }) c.worded_outcome.ensures

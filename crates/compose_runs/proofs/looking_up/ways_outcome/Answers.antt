@@ -1,5 +1,5 @@
 use Rattle.std.proofs.Common.{◌∙◌, map, subst, ap, []}
-use Rattle.std.specs.Prelude.{Ok}
+use Rattle.std.specs.Prelude.{false, Ok}
 use Rattle.compose_runs.specs.HowTo.{HasErrors, missing_lines}
 use Rattle.compose_runs.specs.OneTable.{IsTableOutcome}
 use Rattle.compose_runs.proofs.looking_up.ways_outcome.Goals as goal
@@ -9,6 +9,6 @@ returns g c =
     let shown = c.in_ok-outcome.outcome in let words = map (λ word. word.now) c.args.words.now in
     record {
       shown = shown;
-      is_shown = subst (λ a. IsTableOutcome c.args.read [] c.args.repertoire.now (Ok a) shown) c.answer_of-answer.ensures c.in_ok-outcome.ensures;
+      is_shown = subst (λ a. IsTableOutcome false c.args.read [] c.args.repertoire.now (Ok a) shown) c.answer_of-answer.ensures c.in_ok-outcome.ensures;
       errors = subst (λ e. HasErrors e shown c.with_errors.result) (c.in_ok-errors.ensures ∙ ap (missing_lines words) c.deref.ensures.value) c.with_errors.ensures;
     }

@@ -1,4 +1,4 @@
-use Rattle.std.proofs.Common.{subst}
+use Rattle.std.proofs.Common.{false, subst}
 use Rattle.compose_report.specs.Outcomes.{IsNoted}
 use Rattle.compose_runs.specs.Making.{make_given}
 use Rattle.compose_runs.specs.Reports.{IsReport}
@@ -12,7 +12,7 @@ returns g c =
       is = c.make_answer-answered.ensures;
       reported = record {
         printed = printed;
-        is = subst (λ v. IsReport v (make_given c.args.both.now c.args.making) answered printed) c.wants_details-verbose.ensures c.in_ok-printed.ensures;
+        is = subst (λ v. IsReport false v (make_given c.args.both.now c.args.making) answered printed) c.wants_details-verbose.ensures c.in_ok-printed.ensures;
         noted = subst (λ notes. IsNoted notes printed c.with_notes.result) c.in_ok-notes.ensures c.with_notes.ensures;
       };
     }

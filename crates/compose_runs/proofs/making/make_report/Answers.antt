@@ -1,5 +1,5 @@
 use Rattle.std.proofs.Common.{refl, [], ◌∷◌}
-use Rattle.compose_report.specs.Outcomes.{IsReported}
+use Rattle.compose_report.specs.Outcomes.{IsWorded}
 use Rattle.compose_report.proofs.Results.{ok_map}
 use Rattle.compose_runs.specs.Making.{make_given}
 use Rattle.compose_runs.specs.Reports.{IsReport}
@@ -9,8 +9,8 @@ pub returns : goal.returns
 returns g c =
     let both = c.args.both.now in let answered = c.args.answered in let given = record c.of-listed.result { repertoire = c.args.making.repertoire } in
     let parts = c.of-listed.ensures (both.old ∷ both.new ∷ []) (c.of.ensures, (c.of-2.ensures, tt)) in
-    ok_map (IsReported c.args.verbose given answered) (IsReport c.args.verbose (make_given both c.args.making) answered)
-    c.outcome_of.result
+    ok_map (IsWorded c.args.numbered c.args.verbose given answered) (IsReport c.args.numbered c.args.verbose (make_given both c.args.making) answered)
+    c.worded_outcome.result
     (λ outcome reported. record {
       given = given;
       are_parts = record {
@@ -24,4 +24,4 @@ returns g c =
         all = parts.all;
       };
       reported = reported;
-    }) c.outcome_of.ensures
+    }) c.worded_outcome.ensures

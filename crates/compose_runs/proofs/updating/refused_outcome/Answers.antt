@@ -1,16 +1,16 @@
 use Rattle.std.proofs.Common.{map, [], ◌∷◌}
-use Rattle.std.specs.Prelude.{Err}
-use Rattle.compose_report.specs.Outcomes.{IsReported}
+use Rattle.std.specs.Prelude.{true, false, Err}
+use Rattle.compose_report.specs.Outcomes.{IsWorded}
 use Rattle.compose_report.proofs.Results.{ok_map}
 use Rattle.compose_runs.specs.Updating.{IsUpdateRefusal}
 use Rattle.compose_runs.proofs.updating.refused_outcome.Goals as goal
 
 pub returns : goal.returns
-returns g c =
+returns c =
     let files = c.args.files.now in
-    ok_map (IsReported c.args.verbose c.of-given.result (Err c.args.refusal)) (IsUpdateRefusal c.args.verbose files (map (λ name. name.now) c.args.fresh.now) c.args.refusal) c.outcome_of.result
+    ok_map (IsWorded false true c.of-given.result (Err c.args.refusal)) (IsUpdateRefusal files (map (λ name. name.now) c.args.fresh.now) c.args.refusal) c.worded_refusal.result
     (λ outcome reported. record {
       given = c.of-given.result;
       parts = c.of-given.ensures (files.new ∷ files.new ∷ []) (c.of.ensures, (c.of-2.ensures, tt));
       is = reported;
-    }) c.outcome_of.ensures
+    }) c.worded_refusal.ensures

@@ -1,5 +1,5 @@
 use Rattle.std.proofs.Common.{refl, subst, ◌∷◌, []}
-use Rattle.compose_report.specs.Outcomes.{IsReported}
+use Rattle.compose_report.specs.Outcomes.{IsWorded}
 use Rattle.compose_runs.proofs.one_table.TableRead.outcome.Goals as goal
 
 pub returns : goal.returns
@@ -19,6 +19,6 @@ returns g c =
         all = parts.all;
       };
       reported = c.in_ok-outcome.outcome;
-      is = subst (λ v. IsReported v given answered c.in_ok-outcome.outcome) c.is_refused-verbose.ensures c.in_ok-outcome.ensures;
+      is = subst (λ v. IsWorded c.args.numbered v given answered c.in_ok-outcome.outcome) c.is_refused-verbose.ensures c.in_ok-outcome.ensures;
       noted = c.with_notes.ensures;
     }

@@ -2,12 +2,12 @@ use Rattle.std.proofs.Common.{◌≡◌, ◌++◌, [], length, sym, ◌∙◌, a
 use Rattle.std.proofs.lemmas.Str.{encode_same}
 use Rattle.std.proofs.lemmas.List.{nil_from_length}
 use Rattle.std.specs.Str.Iter.{chars_rest}
-use Rattle.compose_runs.proofs.Characters.{never_silent, never_prefix}
-use Rattle.compose_runs.proofs.written_keys.single_character.Goals as goal
+use Rattle.compose_messages.proofs.OneCharacter.{never_silent, never_prefix}
+use Rattle.compose_messages.proofs.characters.single_character.Goals as goal
 
 pub returns-in_default : goal.returns-in_default
 returns-in_default c d e =
-    never_silent d (sym (nil_from_length c.args.word.now (ap length (sym c.chars-characters.ensures.rest) ∙ c.in_default.ensures.steps.0.0)) ∙ e)
+    never_silent d (sym (nil_from_length c.args.text.now (ap length (sym c.chars-characters.ensures.rest) ∙ c.in_default.ensures.steps.0.0)) ∙ e)
 
 pub returns-in-Some-next : goal.returns-in-Some-next
 returns-in-Some-next c d e =
