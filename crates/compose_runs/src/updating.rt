@@ -186,7 +186,11 @@ fn update_of<T: ComposeTable>(
         (λ run. IsUpdateOf files.now (map (λ name. name.now) fresh.now)
         (option_map (λ sources. sources.now) current.entry) run) }
 {
-    match (decided::<T>(alloc, files, fresh, current), &files.meant, current) {
+    match (
+        decided::<T>(alloc, files, fresh, current),
+        &files.meant,
+        current,
+    ) {
         (Ok(Update::Refused(_)), Some(meant), Some(current)) => {
             update_meant::<T>(alloc, files, fresh, meant, current)
         }

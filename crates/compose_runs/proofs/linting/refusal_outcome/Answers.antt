@@ -8,4 +8,4 @@ use Rattle.compose_runs.proofs.linting.refusal_outcome.Goals as goal
 pub returns : goal.returns
 returns c =
     ok_map (IsWorded c.args.numbered true c.of.result (Err c.args.refusal)) (IsLintRefusal c.args.numbered c.args.names.now c.args.refusal) c.worded_refusal.result
-    (λ outcome reported. record { given = c.of.result; parts = c.of.ensures [] tt; is = reported; }) c.worded_refusal.ensures
+    (λ outcome reported. record { given = c.of.result; parts = c.of.ensures [] tt; is = reported }) c.worded_refusal.ensures

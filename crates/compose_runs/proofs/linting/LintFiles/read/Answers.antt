@@ -39,7 +39,7 @@ returns-in_err-tables-clause-fault g c =
     let is : c.from_residual-in_err-tables.result ≡ Err fault = search rules in
     let Fails = λ f. FailsTables f environment places (asked_files arguments.files.items) in
     let found : OrMemory (Fails folder) fault = subst (λ paths. OrMemory (FailsTables folder environment places (asked_files paths)) fault) c.deref.ensures.value
-        (subst (λ f. OrMemory (FailsTables f environment places (asked_files c.deref.result.now)) fault) c.in_ok-names.ensures.kept c.in_err-tables.ensures.fault) in
+    (subst (λ f. OrMemory (FailsTables f environment places (asked_files c.deref.result.now)) fault) c.in_ok-names.ensures.kept c.in_err-tables.ensures.fault) in
     fails (FailsLintRun folder environment names arguments) c.from_residual-in_err-tables.result fault is
     (or_map (Fails folder) _ fault (λ tables. inr ((c.in_ok-names.names, c.in_ok-names.ensures.read), inr (places, c.in_ok-places.ensures, inl tables))) found)
 
@@ -58,7 +58,7 @@ returns-in_err-accepted-clause-fault g c =
           (
             c.in_ok-tables.tables.items,
             subst (λ paths. AreReadTables folder environment places (asked_files paths) c.in_ok-tables.tables.items) c.deref.ensures.value
-            (subst (λ f. AreReadTables f environment places (asked_files c.deref.result.now) c.in_ok-tables.tables.items) names_kept c.in_ok-tables.ensures.read),
+                (subst (λ f. AreReadTables f environment places (asked_files c.deref.result.now) c.in_ok-tables.tables.items) names_kept c.in_ok-tables.ensures.read),
           ),
           subst (λ f. FailsAccepted f (option_copied arguments.accept) fault) tables_kept c.in_err-accepted.ensures.fault,
         ),

@@ -61,7 +61,7 @@ returns-in_err-meant-clause-fault g c =
           (c.in_ok-new.new, subst (λ f. IsFoundOnSystem f places arguments.file.now Longest c.in_ok-new.new) names_kept c.in_ok-new.ensures.found),
           inr (
             held folder (option_copied arguments.repertoire) c.in_ok-repertoire.repertoire.items
-            (subst (λ f. IsRepertoire f (option_copied arguments.repertoire) c.in_ok-repertoire.repertoire.items) new_kept c.in_ok-repertoire.ensures.read),
+                (subst (λ f. IsRepertoire f (option_copied arguments.repertoire) c.in_ok-repertoire.repertoire.items) new_kept c.in_ok-repertoire.ensures.read),
             subst (λ f. FailsAccepted f (option_copied arguments.accept) fault) repertoire_kept c.in_err-meant.ensures.fault,
           ),
         ),
