@@ -5,9 +5,7 @@ ghost use Rattle.std.specs.Process.{exit_status};
 use crate::commands::answer;
 use crate::output::{Telling, put_fault};
 use compose_answer::Ended;
-use compose_arguments::{
-    BothTables, CommandLine, DiffForm, Request, TypeTable, read_command_line,
-};
+use compose_arguments::{BothTables, CommandLine, DiffForm, Request, TypeTable, read_command_line};
 use compose_folder::{Disk, ReadOnce};
 use compose_input::Fault;
 use compose_report::{Outcome, arguments_outcome, exit_code, no_memory, print};

@@ -394,7 +394,10 @@ fn words_of_sockets(rt: HostRuntime) {
         (io::ErrorKind::PermissionDenied, "permission denied"),
         (io::ErrorKind::ConnectionRefused, "nobody listens there"),
         (io::ErrorKind::AlreadyExists, "a file is there already"),
-        (io::ErrorKind::InvalidInput, "the path is too long for a socket"),
+        (
+            io::ErrorKind::InvalidInput,
+            "the path is too long for a socket",
+        ),
         (io::ErrorKind::NotSeekable, "can't be used as a socket"),
     ];
     for (kind, words) in &rows {
@@ -510,7 +513,10 @@ fn hints_of_names(rt: HostRuntime) {
 
 #[test]
 fn hints_of_headers_and_includes(rt: HostRuntime) {
-    assert_eq!(rt; header_hint(&NameFault::NotUtf8 { line: 3 }), Some(Hint::NamesEncoding));
+    assert_eq!(rt;
+        header_hint(&NameFault::NotUtf8 { line: 3 }),
+        Some(Hint::NamesEncoding)
+    );
     assert_eq!(rt; header_hint(&NameFault::BadLine { line: 3 }), None);
     assert_eq!(rt; include_hint("~/.XCompose"), Some(Hint::HomeFolder));
     assert_eq!(rt; include_hint("~user/.XCompose"), None);
@@ -550,7 +556,10 @@ fn texts_in_the_place_of_names(rt: HostRuntime) -> Result<(), Fail> {
     for (root, expected) in &rows {
         let sources = two_sources(rt.alloc(), root, "")?;
         let fault = first_fault(rt.alloc(), &names, &sources).unwrap_or(ReadFault::MissingRoot);
-        assert_eq!(rt; text_in_place(&sources, &TableFault::Read(fault)), *expected);
+        assert_eq!(rt;
+            text_in_place(&sources, &TableFault::Read(fault)),
+            *expected
+        );
     }
     Ok(())
 }

@@ -55,7 +55,10 @@ fn depth_message<'a>(own: &str, name: &'a str) -> Message<'a>
     ensures { message_text result ≡ messages.depth_said own.now name.now }
 {
     if own == name {
-        Message::Quoting("the includes go in a circle: this file includes itself, as ", name)
+        Message::Quoting(
+            "the includes go in a circle: this file includes itself, as ",
+            name,
+        )
     } else {
         Message::Quoting("more than eight includes lead to the file ", name)
     }
