@@ -146,7 +146,7 @@ def check_rows(results, document, text, crates):
 
 def is_outside(word):
     """Whether a word in backquotes is none of a crate: a value that is printed, or a name of the kit or the system."""
-    return word in {"yes", "no", "clap", "mio", *"diff type check explain make manifest serve load session".split()}
+    return word in {"yes", "no", "clap", "mio", *"diff type check explain make manifest how list lint update serve load session".split()}
 
 
 def check_laws(results, document, text, crates):
