@@ -15,6 +15,7 @@ use compose_service::Service;
 use compose_service_runs::start_service;
 use compose_socket::{SocketFault, SocketFile, listener_of_systemd};
 use compose_tree::ComposeTable;
+use std::alloc::Global;
 use std::fs;
 use std::net::Net;
 use std::os::unix::net::UnixListener;
