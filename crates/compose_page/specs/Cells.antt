@@ -1,15 +1,15 @@
 -- A row of a table: a sequence and what happens to it (this project's profile).
-use Rattle.std.specs.Prelude.{ℕ, if◌then◌else◌, List, [], ◌++◌, map, Option, Some, None, codes}
+use Rattle.std.specs.Prelude.{ℕ, if◌then◌else◌, List, [], ◌++◌, Option, Some, None, codes}
 use Rattle.std.specs.Fmt.{decimal}
 use Rattle.std.specs.Option.{option_map_or}
 use Rattle.compose_compare.specs.declared.Change.{Change}
 use Rattle.compose_compare.specs.declared.Change.TheVariants.{Changed, Waiting, Removed}
-use Rattle.compose_diff.specs.Line.{is_loss, key_names}
+use Rattle.compose_diff.specs.Line.{is_loss}
 use Rattle.compose_diff.specs.Order.{first_entry}
 use Rattle.compose_diff.specs.declared.row.Entry.{Entry}
 use Rattle.compose_diff.specs.declared.row.DiffRow.{DiffRow}
 use Rattle.compose_diff.specs.declared.row.NewSequence.{NewSequence}
-use Rattle.compose_page.specs.Keys.{keys_part, old_keys, new_keys}
+use Rattle.compose_page.specs.Keys.{Keys, keys_part, old_keys, new_keys}
 use Rattle.compose_page.specs.Markup.{escaped, numbers_part}
 use Rattle.compose_page.specs.declared.markup.Markup.{Markup}
 use Rattle.compose_page.specs.declared.markup.Markup.TheVariants.{Markdown, Html}
@@ -54,15 +54,15 @@ abbrev pub now_typed : DiffRow → Option NewSequence
 now_typed row = if is_loss row.change then row.typing else None
 
 -- the keys of the old and of the new sequence of a text
-abbrev pub both_keys : Markup → List (List ℕ) → List (List ℕ) → List ℕ
+abbrev pub both_keys : Markup → Keys → Keys → List ℕ
 both_keys markup old new = cell markup (old_keys markup old new) ++ cell markup (new_keys markup old new)
 
-abbrev pub keys_cells_by : Markup → List (List ℕ) → Option NewSequence → List ℕ
+abbrev pub keys_cells_by : Markup → Keys → Option NewSequence → List ℕ
 keys_cells_by markup keys None = cell markup (keys_part markup keys)
-keys_cells_by markup keys (Some new) = both_keys markup keys (map (λ key. key.now) new.keys.now)
+keys_cells_by markup keys (Some new) = both_keys markup keys new.keys.now
 
 abbrev pub keys_cells : Markup → DiffRow → List ℕ
-keys_cells markup row = keys_cells_by markup (key_names row) (now_typed row)
+keys_cells markup row = keys_cells_by markup row.keys.now (now_typed row)
 
 -- the text that the new table has
 abbrev pub changed_to : Markup → Option Entry → List ℕ
@@ -72,7 +72,7 @@ changed_to markup (Some entry) = codes " changed to" ++ (bold_part markup entry.
 -- the longer sequence
 abbrev pub waiting_for : Markup → Option NewSequence → List ℕ
 waiting_for markup None = codes " waiting for"
-waiting_for markup (Some s) = codes " waiting for" ++ keys_part markup (map (λ key. key.now) s.keys.now)
+waiting_for markup (Some s) = codes " waiting for" ++ keys_part markup s.keys.now
 
 abbrev pub happens_by : Markup → Change → DiffRow → List ℕ
 happens_by markup Changed row = changed_to markup row.new

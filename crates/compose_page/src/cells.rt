@@ -1,5 +1,5 @@
 //! A row of a table: a sequence and what happens to it.
-ghost use Rattle.std.specs.Prelude.{◌≡◌, ◌++◌, map, OnOk, string_bytes};
+ghost use Rattle.std.specs.Prelude.{◌≡◌, ◌++◌, OnOk, string_bytes};
 ghost use Rattle.compose_page.specs.Cells as words;
 
 use crate::keys::{push_keys, push_new_keys, push_old_keys};
@@ -132,7 +132,7 @@ fn push_both_keys(
     ensures { OnOk result
         (string_bytes text.new
         ≡ string_bytes text.old
-        ++ words.both_keys markup (map (λ key. key.now) old.now) (map (λ key. key.now) new.now)) }
+        ++ words.both_keys markup old.now new.now) }
 {
     text.push_str(cell_begin(markup))?;
     push_old_keys(text, markup, old, new)?;

@@ -1,5 +1,5 @@
 //! The keys of sequences, and in which keys two sequences differ.
-ghost use Rattle.std.specs.Prelude.{◌≡◌, ◌≤◌, ◌++◌, length, map, OnOk, string_bytes};
+ghost use Rattle.std.specs.Prelude.{◌≡◌, ◌≤◌, ◌++◌, length, OnOk, string_bytes};
 ghost use Rattle.compose_page.specs.Keys as words;
 
 use crate::markup::{Markup, push_escaped};
@@ -9,7 +9,7 @@ use std::alloc::AllocError;
 pub(crate) fn push_keys(text: &mut String, markup: Markup, keys: &[&str]) -> Result<(), AllocError>
     ensures { OnOk result
         (string_bytes text.new
-        ≡ string_bytes text.old ++ words.keys_part markup (map (λ key. key.now) keys.now)) }
+        ≡ string_bytes text.old ++ words.keys_part markup keys.now) }
 {
     push_between(text, markup, " <kbd>", keys, "</kbd>")
 }
@@ -25,7 +25,7 @@ fn push_between(
     ensures { OnOk result
         (string_bytes text.new
         ≡ string_bytes text.old
-        ++ words.keys_between markup before.now after.now (map (λ key. key.now) keys.now)) }
+        ++ words.keys_between markup before.now after.now keys.now) }
 {
     for key in keys {
         text.push_str(before)?;
@@ -46,7 +46,7 @@ pub(crate) fn push_old_keys(
     ensures { OnOk result
         (string_bytes text.new
         ≡ string_bytes text.old
-        ++ words.old_keys markup (map (λ key. key.now) old.now) (map (λ key. key.now) new.now)) }
+        ++ words.old_keys markup old.now new.now) }
 {
     push_marked(text, markup, " <del><kbd>", old, "</kbd></del>", new)
 }
@@ -62,7 +62,7 @@ pub(crate) fn push_new_keys(
     ensures { OnOk result
         (string_bytes text.new
         ≡ string_bytes text.old
-        ++ words.new_keys markup (map (λ key. key.now) old.now) (map (λ key. key.now) new.now)) }
+        ++ words.new_keys markup old.now new.now) }
 {
     push_marked(text, markup, " <ins><kbd>", new, "</kbd></ins>", old)
 }
@@ -80,8 +80,8 @@ fn push_marked(
     ensures { OnOk result
         (string_bytes text.new
         ≡ string_bytes text.old
-        ++ words.marked_keys markup before.now after.now (map (λ key. key.now) keys.now)
-        (map (λ key. key.now) others.now)) }
+        ++ words.marked_keys markup before.now after.now keys.now
+        others.now) }
 {
     let start = common_start(keys, others);
     let (shared, rest) = keys.split_at(start);
@@ -103,8 +103,8 @@ fn push_after(
     ensures { OnOk result
         (string_bytes text.new
         ≡ string_bytes text.old
-        ++ words.marked_after markup before.now after.now (map (λ key. key.now) rest.now)
-        (map (λ key. key.now) others.now)) }
+        ++ words.marked_after markup before.now after.now rest.now
+        others.now) }
 {
     let (own, end) = rest.split_at(own_count(rest, others));
     push_between(text, markup, before, own, after)?;
@@ -114,7 +114,7 @@ fn push_after(
 /// How many keys come before those with which others end too.
 fn own_count(rest: &[&str], others: &[&str]) -> usize
     ensures value { result
-        ≡ words.own_count (map (λ key. key.now) rest.now) (map (λ key. key.now) others.now) }
+        ≡ words.own_count rest.now others.now }
     ensures fits { result ≤ length rest.now }
 {
     rest.len() - common_end(rest, others)
@@ -123,7 +123,7 @@ fn own_count(rest: &[&str], others: &[&str]) -> usize
 /// With how many keys both sequences begin.
 fn common_start(keys: &[&str], others: &[&str]) -> usize
     ensures value { result
-        ≡ words.common_start (map (λ key. key.now) keys.now) (map (λ key. key.now) others.now) }
+        ≡ words.common_start keys.now others.now }
     ensures fits { result ≤ length keys.now }
     ensures fits_other { result ≤ length others.now }
 {
@@ -142,7 +142,7 @@ fn common_start(keys: &[&str], others: &[&str]) -> usize
 /// With how many keys both sequences end.
 fn common_end(keys: &[&str], others: &[&str]) -> usize
     ensures value { result
-        ≡ words.common_end (map (λ key. key.now) keys.now) (map (λ key. key.now) others.now) }
+        ≡ words.common_end keys.now others.now }
     ensures fits { result ≤ length keys.now }
 {
     let Some((key, keys)) = keys.split_last() else {
