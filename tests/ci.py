@@ -169,7 +169,7 @@ def check_refused_tables(program, results):
     begin, end = f"{HEADING}\n**fi_FI.UTF-8 is refused:**\n\n    composecheck: ", UNCHANGED + TWO
     with Trees(OLD, {**OLD, "fi_FI.UTF-8": "<a>\n"}, {}) as trees:
         printed, said, status = trees.answer(program)
-        results.expect("a table is refused", (printed.startswith(f"{begin}new tree/fi_FI.UTF-8/Compose:1:4: "), printed.endswith(end), said, status), (True, True, "", 2))
+        results.expect("a table is refused", (printed.startswith(f"{begin}new/fi_FI.UTF-8/Compose:1:4: "), printed.endswith(end), said, status), (True, True, "", 2))
     with Trees(RENAMED, OLD, {}) as trees:
         os.mkdir(os.path.join(trees.room, "old tree", "fi_FI.UTF-8"))
         os.symlink("nothing", os.path.join(trees.room, "old tree", "fi_FI.UTF-8", "Compose"))
