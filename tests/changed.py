@@ -13,6 +13,8 @@ COMMENTS = ["# X", "# E WITH ACUTE", '# "x"', "#"]
 BLANKS = [" ", " ", " ", "", "\t", "  ", "\r"]
 CHANGES = '<>":#\\ \t\r\n\0abx10U_n'
 MARK = b"\xef\xbb\xbf"
+# a byte 0 that libX11 passes over, so that it doesn't cut the text
+PASSED_OVER = re.compile(rb"\\(?:[0-7]{1,3}|[xX][0-9A-Fa-f]{1,2})\0")
 SHIFT = 0xFFE1
 
 
@@ -72,7 +74,7 @@ def changed(chance, content):
 
 
 def random_table(chance, path, names):
-    """A table that is taken here, which may include the file at this path."""
+    """A table that is taken here, which may include the file at this path, and has no byte 0 that libX11 passes over."""
     while True:
         includes = [path] if chance.random() < 0.15 else []
         content = changed(chance, random_file(chance, includes))
@@ -81,7 +83,8 @@ def random_table(chance, path, names):
             visits = [*read(content, False, names, path, included)]
         except NotTaken:
             continue
-        return Table(content, included, visits)
+        if not PASSED_OVER.search(content + (included or b"")):
+            return Table(content, included, visits)
 
 
 # ---- what they mean

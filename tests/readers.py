@@ -1,5 +1,5 @@
 #!/usr/bin/env python3
-"""readers.py PROGRAM [TABLES [KEYS [SEED]]]: types in other readers of Compose files, and compares what they make of tables with what the program types
+"""readers.py PROGRAM [TABLES] [KEYS] [SEED]: types in other readers of Compose files, and compares what they make of tables with what the program types
 and what `lint` says of them (not part of the gate).
 
 On each UTF-8 table of the system libX11 types KEYS random keys, 50,000 if none are given, and has to do what `type` does; GTK 3, GTK 4 and IBus type each
@@ -93,9 +93,11 @@ def display():
     command = ["Xvfb", "-displayfd", str(writing), "-screen", "0", "64x64x8", "-nolisten", "tcp", "-noreset"]
     with subprocess.Popen(command, pass_fds=[writing], stdout=subprocess.DEVNULL, stderr=subprocess.DEVNULL) as server:
         os.close(writing)
-        with open(reading, encoding="ascii") as printed:
-            yield ":" + printed.readline().strip()
-        server.terminate()
+        try:
+            with open(reading, encoding="ascii") as printed:
+                yield ":" + printed.readline().strip()
+        finally:
+            server.terminate()
 
 
 def press(keys):

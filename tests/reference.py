@@ -172,7 +172,9 @@ def keysym(name, values):
         return values[name]
     if re.fullmatch(r"U[0-9A-Fa-f]{4,6}", name):
         code = int(name[1:], 16)
-        return code if code in range(0x20, 0x7F) or code in range(0xA0, 0x100) else 0x1000000 + code
+        if code in range(0x20, 0x7F) or code in range(0xA0, 0x100):
+            return code
+        return 0x1000000 + code if code in range(0x100, 0xD800) or code in range(0xE000, 0x110000) else None
     return None
 
 
