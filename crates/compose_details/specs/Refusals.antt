@@ -74,9 +74,9 @@ lines_by table fault (Err why) = []
 abbrev pub numbered_lines : Given → ℕ → TableFault → List ℕ
 numbered_lines given index fault = option_map_or (λ table. lines_by table fault (names_of given.header.now)) (slice_get given.tables.now index) []
 
--- the hint against the fault of the table with this index
-abbrev pub numbered_hint : Given → ℕ → TableFault → Option Hint
-numbered_hint given index fault = option_and_then (λ (table : GivenTable). table_hint table.input.sources.now (not (is_unnamed given)) fault) (slice_get given.tables.now index)
+-- the hint against the fault of the table with this index; `are_given` says whether files of names are
+abbrev pub numbered_hint : Bool → List GivenTable → ℕ → TableFault → Option Hint
+numbered_hint are_given tables index fault = option_and_then (λ (table : GivenTable). table_hint table.input.sources.now are_given fault) (slice_get tables index)
 
 -- what stands in the place of a keysym's name at the fault of the table with this index
 abbrev pub numbered_text : Given → ℕ → TableFault → List ℕ
@@ -118,9 +118,9 @@ refusal_lines given refusal = []
 abbrev pub refusal_hint : Given → Refusal → Option Hint
 refusal_hint given (Names fault) = header_hint fault
 refusal_hint given (Key index) = key_hint (not (is_unnamed given)) (map (λ a. a.now) given.arguments.now) index
-refusal_hint given (Table fault) = numbered_hint given 0 fault
-refusal_hint given (Side Old fault) = numbered_hint given 0 fault
-refusal_hint given (Side New fault) = numbered_hint given 1 fault
+refusal_hint given (Table fault) = numbered_hint (not (is_unnamed given)) given.tables.now 0 fault
+refusal_hint given (Side Old fault) = numbered_hint (not (is_unnamed given)) given.tables.now 0 fault
+refusal_hint given (Side New fault) = numbered_hint (not (is_unnamed given)) given.tables.now 1 fault
 refusal_hint given (Certificate fault) = certificate_hint given.certificate_text.now fault
 refusal_hint given refusal = None
 

@@ -1,5 +1,5 @@
 //! What is told of a refusal.
-ghost use Rattle.std.specs.Prelude.{◌≡◌, ◌++◌, map, option_map, OnOk, IfOk, string_bytes};
+ghost use Rattle.std.specs.Prelude.{◌≡◌, ◌++◌, not, map, option_map, OnOk, IfOk, string_bytes};
 ghost use Rattle.keysym_core.specs.Header.{names_of};
 ghost use Rattle.keysym_core.specs.Printed.{printed};
 ghost use Rattle.compose_details.specs.Refusals as words;
@@ -144,30 +144,41 @@ fn table_text<'a>(given: &Given<'a>, index: usize, fault: &TableFault) -> &'a st
 fn refusal_hint(given: &Given<'_>, refusal: &Refusal) -> Option<Hint>
     ensures { result ≡ words.refusal_hint given.now refusal.now }
 {
-    let are_given = !given.headers.is_empty();
+    let are_given = has_headers(given);
     match refusal {
         Refusal::Names(fault) => header_hint(fault),
         Refusal::Key { index } => key_hint(given.arguments, are_given, *index),
-        Refusal::Table(fault) => numbered_hint(given, 0, fault),
+        Refusal::Table(fault) => numbered_hint(given.tables, are_given, 0, fault),
         Refusal::Side {
             side: Side::Old,
             fault,
-        } => numbered_hint(given, 0, fault),
+        } => numbered_hint(given.tables, are_given, 0, fault),
         Refusal::Side {
             side: Side::New,
             fault,
-        } => numbered_hint(given, 1, fault),
+        } => numbered_hint(given.tables, are_given, 1, fault),
         Refusal::Certificate(fault) => certificate_hint(given.certificate_text, fault),
         _ => None,
     }
 }
 
-/// The hint against a fault of the table with this index.
-fn numbered_hint(given: &Given<'_>, index: usize, fault: &TableFault) -> Option<Hint>
-    ensures { result ≡ words.numbered_hint given.now index fault.now }
+/// Whether files of names are given.
+fn has_headers(given: &Given<'_>) -> bool
+    ensures { result ≡ not (words.is_unnamed given.now) }
 {
-    let are_given = !given.headers.is_empty();
-    match given.tables.get(index) {
+    !given.headers.is_empty()
+}
+
+/// The hint against a fault of the table with this index.
+fn numbered_hint(
+    tables: &[GivenTable<'_>],
+    are_given: bool,
+    index: usize,
+    fault: &TableFault,
+) -> Option<Hint>
+    ensures { result ≡ words.numbered_hint are_given tables.now index fault.now }
+{
+    match tables.get(index) {
         Some(table) => table_hint(table.input.sources, fault, are_given),
         None => None,
     }
