@@ -1,2 +1,3 @@
 mod Parted
+mod After
 mod Ends

@@ -64,15 +64,22 @@ keys_cells_by markup keys (Some new) = both_keys markup keys new.keys.now
 abbrev pub keys_cells : Markup → DiffRow → List ℕ
 keys_cells markup row = keys_cells_by markup row.keys.now (now_typed row)
 
+-- the text that a table has, and the numbers of its characters
+abbrev pub entry_text : Markup → Option Entry → List ℕ
+entry_text markup None = []
+entry_text markup (Some entry) = bold_part markup entry.text.now ++ numbers_part entry.text.now
+
 -- the text that the new table has
 abbrev pub changed_to : Markup → Option Entry → List ℕ
-changed_to markup None = codes " changed to"
-changed_to markup (Some entry) = codes " changed to" ++ (bold_part markup entry.text.now ++ numbers_part entry.text.now)
+changed_to markup entry = codes " changed to" ++ entry_text markup entry
+
+abbrev pub sequence_keys : Markup → Option NewSequence → List ℕ
+sequence_keys markup None = []
+sequence_keys markup (Some s) = keys_part markup s.keys.now
 
 -- the longer sequence
 abbrev pub waiting_for : Markup → Option NewSequence → List ℕ
-waiting_for markup None = codes " waiting for"
-waiting_for markup (Some s) = codes " waiting for" ++ keys_part markup s.keys.now
+waiting_for markup longer = codes " waiting for" ++ sequence_keys markup longer
 
 abbrev pub happens_by : Markup → Change → DiffRow → List ℕ
 happens_by markup Changed row = changed_to markup row.new

@@ -98,7 +98,10 @@ page_end Html = codes "</pre>\n</body>\n</html>\n"
 abbrev pub end_text : Markup → Counts → Overlaps → List ℕ
 end_text markup counts overlaps = codes "<pre>\n" ++ (overlaps_line overlaps ++ (counts_line counts ++ page_end markup))
 
+-- on the rows that are left, with these counts
+abbrev pub counted_page : Markup → Printed → Overlaps → List DiffRow → Counts → List ℕ
+counted_page markup printed overlaps left counts = page_begin markup ++ (sections_text markup printed left ++ end_text markup counts overlaps)
+
 -- of all rows some are left
 abbrev pub page_text : Markup → Printed → Overlaps → List DiffRow → List DiffRow → List ℕ
-page_text markup printed overlaps rows left =
-    page_begin markup ++ (sections_text markup printed left ++ end_text markup (counts_of left (length rows - length left)) overlaps)
+page_text markup printed overlaps rows left = counted_page markup printed overlaps left (counts_of left (length rows - length left))

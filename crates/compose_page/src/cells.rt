@@ -174,6 +174,18 @@ fn push_new_text(text: &mut String, markup: Markup, entry: &Option<Entry>) -> Re
         (string_bytes text.new ≡ string_bytes text.old ++ words.changed_to markup entry.now) }
 {
     text.push_str(" changed to")?;
+    push_entry_text(text, markup, entry)
+}
+
+/// Appends the text that a table has, if it has one, and the numbers of its characters to the text.
+fn push_entry_text(
+    text: &mut String,
+    markup: Markup,
+    entry: &Option<Entry>,
+) -> Result<(), AllocError>
+    ensures { OnOk result
+        (string_bytes text.new ≡ string_bytes text.old ++ words.entry_text markup entry.now) }
+{
     let Some(entry) = entry else {
         return Ok(());
     };
@@ -191,7 +203,19 @@ fn push_longer(
         (string_bytes text.new ≡ string_bytes text.old ++ words.waiting_for markup longer.now) }
 {
     text.push_str(" waiting for")?;
-    match longer {
+    push_sequence_keys(text, markup, longer)
+}
+
+/// Appends the keys of a sequence, if there is one, to the text.
+fn push_sequence_keys(
+    text: &mut String,
+    markup: Markup,
+    sequence: &Option<NewSequence>,
+) -> Result<(), AllocError>
+    ensures { OnOk result
+        (string_bytes text.new ≡ string_bytes text.old ++ words.sequence_keys markup sequence.now) }
+{
+    match sequence {
         Some(sequence) => push_keys(text, markup, sequence.keys),
         None => Ok(()),
     }

@@ -29,10 +29,26 @@ pub fn page_text(
         (λ text. string_bytes text ≡ words.page_text markup printed overlaps rows.now left.now) }
 {
     let counts = Counts::of(alloc, left, rows.len().saturating_sub(left.len()))?;
+    counted_page(alloc, left, markup, printed, overlaps, &counts)
+}
+
+/// The page on the rows that are left, with these counts.
+fn counted_page(
+    alloc: Global,
+    left: &[DiffRow],
+    markup: Markup,
+    printed: Printed,
+    overlaps: Overlaps,
+    counts: &Counts,
+) -> Result<String, AllocError>
+    ensures { IfOk result
+        (λ text. string_bytes text
+        ≡ words.counted_page markup printed overlaps left.now counts.now) }
+{
     let mut text = String::new(alloc);
     text.push_str(page_begin(markup))?;
     push_sections(alloc, &mut text, markup, printed, left)?;
-    push_end(&mut text, markup, &counts, overlaps)?;
+    push_end(&mut text, markup, counts, overlaps)?;
     Ok(text)
 }
 
