@@ -1,5 +1,5 @@
 -- Lines that other readers of Compose files skip for how the file is written: each class is one line of docs/READERS.md.
-use Rattle.std.specs.Prelude.{ℕ, Bool, false, not, ◌-◌, ◌==◌, ◌&&◌, ◌||◌, nat_eq, nat_le, is_some, List, [], ◌∷◌, length, take, drop, take_while, reverse, slice_get}
+use Rattle.std.specs.Prelude.{ℕ, Bool, false, not, ◌-◌, ◌==◌, ◌&&◌, ◌||◌, nat_eq, nat_lt, is_some, List, [], ◌∷◌, length, take, drop, take_while, reverse, slice_get}
 use Rattle.std.specs.List.{list_any, starts_with, zip}
 use Rattle.std.specs.Option.{option_map_or}
 use Rattle.compose_text.specs.Bytes.{is_blank}
@@ -42,7 +42,7 @@ ends_in_backslash line = starts_with nat_eq (reverse line) (92 ∷ [])
 
 -- of these lines of its file the one before the line ends in a backslash
 abbrev pub follows_backslash : List LintLine → LintLine → Bool
-follows_backslash lines l = nat_le 2 l.line && option_map_or (λ m. ends_in_backslash m.bytes) (slice_get lines (l.line - 2)) false
+follows_backslash lines l = not (nat_lt l.line 2) && option_map_or (λ m. ends_in_backslash m.bytes) (slice_get lines (l.line - 2)) false
 
 -- libX11 joins the line to the comment before it
 abbrev pub is_joined : List LintLine → LintLine → Bool

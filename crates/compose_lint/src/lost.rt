@@ -39,8 +39,9 @@ fn skips_line(kind: Kind) -> bool
     ensures { result ≡ skips_line kind }
 {
     match kind {
-        Kind::Reader(_, Class::Nul) => false,
+        Kind::Reader(Reader::LibX11, Class::Nul) => false,
         Kind::Reader(Reader::LibX11, _) => true,
+        Kind::Reader(Reader::Libxkbcommon, Class::Nul) => false,
         Kind::Reader(Reader::Libxkbcommon, Class::LetterEscape) => false,
         Kind::Reader(Reader::Libxkbcommon, _) => true,
         _ => false,
