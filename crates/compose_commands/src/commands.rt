@@ -1,5 +1,5 @@
 //! The commands. Each that reads files and answers is a function over values (`compose_runs`), whose outcome is printed here; a service and
-//! its clients do more.
+//! its clients (`compose_service_runs`) do more.
 use crate::client::{load_files, session_files};
 use crate::environment::read_environment;
 use crate::output::{Telling, put};

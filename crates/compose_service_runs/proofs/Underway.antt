@@ -1,7 +1,7 @@
 -- An exchange that is underway.
-use Rattle.std.proofs.Common.{◌≡◌, ◌∙◌, ◌<◌, ◌+◌, ap, sym, refl, ℕ, Bool, true, false, if◌then◌else◌, List, [], ◌∷◌, ◌++◌, drop, length, get_or, append-nil}
+use Rattle.std.proofs.Common.{◌≡◌, ◌∙◌, ◌<◌, ◌≤◌, ◌+◌, ap, sym, refl, ℕ, Bool, true, false, if◌then◌else◌, List, [], ◌∷◌, ◌++◌, drop, length, get_or, append-nil}
 use Rattle.std.specs.Prelude.{Option, Some, None}
-use Rattle.std.proofs.lemmas.List.{append_assoc, drop_more}
+use Rattle.std.proofs.lemmas.List.{append_assoc, drop_all, drop_more}
 use Rattle.compose_wire.specs.declared.request.Request.{Request}
 use Rattle.compose_wire.specs.declared.reply.Reply.{Reply}
 use Rattle.compose_service_runs.specs.Turns.{Turn, is_refusal, then_turns, turns_of}
@@ -12,7 +12,7 @@ pub record IsUnderway (before now : Option (List Turn)) (requests : List Request
   pub turns : now ≡ then_turns before done
   pub goes_on : (more : List Reply) → turns_of requests (replies ++ more) ≡ done ++ turns_of (drop index requests) more
 
-abbrev turn : Request → Option Reply → Turn
+abbrev pub turn : Request → Option Reply → Turn
 turn q r = record { request = q; reply = r }
 
 none_more : (turns : Option (List Turn)) → turns ≡ then_turns turns []
@@ -28,9 +28,14 @@ pub begin_turns : (before : Option (List Turn)) (requests : List Request) → Is
 begin_turns before requests = record { done = []; turns = none_more before; goes_on = λ more. refl }
 
 -- what comes of the next request and these replies
-next_turns : (before now : Option (List Turn)) (requests : List Request) (i : ℕ) (d : Request) (replies more : List Reply) → (u : IsUnderway before now requests i replies) → i < length requests
-    → turns_of requests (replies ++ more) ≡ u.done ++ turns_of (get_or requests i d ∷ drop (i + 1) requests) more
-next_turns before now requests i d replies more u within = u.goes_on more ∙ ap (λ rest. u.done ++ turns_of rest more) (drop_more requests i d within)
+next_turns : (before now : Option (List Turn)) (requests : List Request) (i : ℕ) (q : Request) (replies more : List Reply) → (u : IsUnderway before now requests i replies) → i < length requests
+    → q ≡ get_or requests i q → turns_of requests (replies ++ more) ≡ u.done ++ turns_of (q ∷ drop (i + 1) requests) more
+next_turns before now requests i q replies more u within at =
+    u.goes_on more ∙ ap (λ rest. u.done ++ turns_of rest more) (drop_more requests i q within ∙ ap (λ (x : Request). x ∷ drop (i + 1) requests) (sym at))
+
+-- one more turn
+next_turn : (before now after : Option (List Turn)) (done : List Turn) (one : Turn) → now ≡ then_turns before done → after ≡ then_turns now (one ∷ []) → after ≡ then_turns before (done ++ one ∷ [])
+next_turn before now after done one was is = is ∙ (ap (λ turns. then_turns turns (one ∷ [])) was ∙ then_more before done (one ∷ []))
 
 goes_on_by : (b : Bool) (a : Turn) (rest : List Turn) → b ≡ false → a ∷ (if b then [] else rest) ≡ a ∷ rest
 goes_on_by false a rest is = refl
@@ -41,44 +46,43 @@ ends_by true a rest is = refl
 ends_by false a rest is = cc
 
 -- the next request is answered
-pub next_answered : (before now after : Option (List Turn)) (requests : List Request) (i : ℕ) (d : Request) (replies : List Reply) (r : Reply)
-    → IsUnderway before now requests i replies → i < length requests → is_refusal r.answer ≡ false
-    → after ≡ then_turns now (turn (get_or requests i d) (Some r) ∷ []) → IsUnderway before after requests (i + 1) (replies ++ r ∷ [])
-next_answered before now after requests i d replies r u within goes is =
-    let q = get_or requests i d in let one = turn q (Some r) in
+pub next_answered : (before now after : Option (List Turn)) (requests : List Request) (i : ℕ) (q : Request) (replies : List Reply) (r : Reply)
+    → IsUnderway before now requests i replies → i < length requests → q ≡ get_or requests i q → is_refusal r.answer ≡ false
+    → after ≡ then_turns now (turn q (Some r) ∷ []) → IsUnderway before after requests (i + 1) (replies ++ r ∷ [])
+next_answered before now after requests i q replies r u within at goes is =
+    let one = turn q (Some r) in
     record {
       done = u.done ++ one ∷ [];
-      turns = is ∙ (ap (λ turns. then_turns turns (one ∷ [])) u.turns ∙ then_more before u.done (one ∷ []));
+      turns = next_turn before now after u.done one u.turns is;
       goes_on = λ more.
           ap (turns_of requests) (append_assoc replies (r ∷ []) more)
-          ∙ (next_turns before now requests i d replies (r ∷ more) u within
-          ∙ (ap (λ turns. u.done ++ turns) (goes_on_by (is_refusal r.answer) one (turns_of (drop (i + 1) requests) more) goes)
+          ∙ (next_turns before now requests i q replies (r ∷ more) u within at
+          ∙ (ap (λ (turns : List Turn). u.done ++ turns) (goes_on_by (is_refusal r.answer) one (turns_of (drop (i + 1) requests) more) goes)
           ∙ sym (append_assoc u.done (one ∷ []) (turns_of (drop (i + 1) requests) more))));
     }
 
 -- it is refused
-pub next_refused : (before now after : Option (List Turn)) (requests : List Request) (i : ℕ) (d : Request) (replies : List Reply) (r : Reply)
-    → IsUnderway before now requests i replies → i < length requests → is_refusal r.answer ≡ true
-    → after ≡ then_turns now (turn (get_or requests i d) (Some r) ∷ []) → after ≡ then_turns before (turns_of requests (replies ++ r ∷ []))
-next_refused before now after requests i d replies r u within ends is =
-    let one = turn (get_or requests i d) (Some r) in
-    is ∙ (ap (λ turns. then_turns turns (one ∷ [])) u.turns
-    ∙ (then_more before u.done (one ∷ [])
-    ∙ ap (then_turns before) (sym (next_turns before now requests i d replies (r ∷ []) u within
-    ∙ ap (λ turns. u.done ++ turns) (ends_by (is_refusal r.answer) one (turns_of (drop (i + 1) requests) []) ends)))))
+pub next_refused : (before now after : Option (List Turn)) (requests : List Request) (i : ℕ) (q : Request) (replies : List Reply) (r : Reply)
+    → IsUnderway before now requests i replies → i < length requests → q ≡ get_or requests i q → is_refusal r.answer ≡ true
+    → after ≡ then_turns now (turn q (Some r) ∷ []) → after ≡ then_turns before (turns_of requests (replies ++ r ∷ []))
+next_refused before now after requests i q replies r u within at ends is =
+    let one = turn q (Some r) in
+    next_turn before now after u.done one u.turns is
+    ∙ ap (then_turns before) (sym (next_turns before now requests i q replies (r ∷ []) u within at
+    ∙ ap (λ (turns : List Turn). u.done ++ turns) (ends_by (is_refusal r.answer) one (turns_of (drop (i + 1) requests) []) ends)))
 
 -- the other side closes before it is answered
-pub next_closed : (before now after : Option (List Turn)) (requests : List Request) (i : ℕ) (d : Request) (replies : List Reply)
-    → IsUnderway before now requests i replies → i < length requests
-    → after ≡ then_turns now (turn (get_or requests i d) None ∷ []) → after ≡ then_turns before (turns_of requests replies)
-next_closed before now after requests i d replies u within is =
-    let one = turn (get_or requests i d) None in
-    is ∙ (ap (λ turns. then_turns turns (one ∷ [])) u.turns
-    ∙ (then_more before u.done (one ∷ [])
-    ∙ ap (then_turns before) (sym (ap (turns_of requests) (sym (append-nil replies)) ∙ next_turns before now requests i d replies [] u within))))
+pub next_closed : (before now after : Option (List Turn)) (requests : List Request) (i : ℕ) (q : Request) (replies : List Reply)
+    → IsUnderway before now requests i replies → i < length requests → q ≡ get_or requests i q
+    → after ≡ then_turns now (turn q None ∷ []) → after ≡ then_turns before (turns_of requests replies)
+next_closed before now after requests i q replies u within at is =
+    next_turn before now after u.done (turn q None) u.turns is
+    ∙ ap (then_turns before) (sym (ap (turns_of requests) (sym (append-nil replies)) ∙ next_turns before now requests i q replies [] u within at))
 
 -- none is left
 pub all_answered : (before now : Option (List Turn)) (requests : List Request) (i : ℕ) (replies : List Reply)
-    → IsUnderway before now requests i replies → drop i requests ≡ [] → now ≡ then_turns before (turns_of requests replies)
-all_answered before now requests i replies u none =
-    u.turns ∙ ap (then_turns before) (sym (ap (turns_of requests) (sym (append-nil replies)) ∙ (u.goes_on [] ∙ (ap (λ rest. u.done ++ turns_of rest []) none ∙ append-nil u.done))))
+    → IsUnderway before now requests i replies → length requests ≤ i → now ≡ then_turns before (turns_of requests replies)
+all_answered before now requests i replies u over =
+    u.turns
+    ∙ ap (then_turns before) (sym (ap (turns_of requests) (sym (append-nil replies))
+    ∙ (u.goes_on [] ∙ (ap (λ (rest : List Request). u.done ++ turns_of rest []) (drop_all i requests over) ∙ append-nil u.done))))
