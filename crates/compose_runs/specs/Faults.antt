@@ -191,10 +191,13 @@ abbrev pub HasTables : Option (List Entry) → Environment → Places → List (
 HasTables folder environment places given = (tables : List ReadTable) × AreReadTables folder environment places given tables
 
 -- the names, the environment, the tables, and the list of the findings that are accepted
-abbrev pub FailsLintRun : Option (List Entry) → Environment → List (List ℕ) → LintArguments → Fault → Type 0
-FailsLintRun folder environment names arguments fault =
-    OrMemory (λ f. FailNames folder (names_or_builtin names) f
+abbrev pub FailsLint : Option (List Entry) → Environment → List (List ℕ) → LintArguments → Fault → Type 0
+FailsLint folder environment names arguments fault =
+    FailNames folder (names_or_builtin names) fault
     ⊎ (HasNames folder (names_or_builtin names)
     × FailsPlaced environment (lint_places arguments)
     (λ places f. FailsTables folder environment places (asked_files arguments.files.items) f
-    ⊎ (HasTables folder environment places (asked_files arguments.files.items) × FailsAccepted folder (option_copied arguments.accept) f)) f)) fault
+    ⊎ (HasTables folder environment places (asked_files arguments.files.items) × FailsAccepted folder (option_copied arguments.accept) f)) fault)
+
+abbrev pub FailsLintRun : Option (List Entry) → Environment → List (List ℕ) → LintArguments → Fault → Type 0
+FailsLintRun folder environment names arguments fault = OrMemory (FailsLint folder environment names arguments) fault

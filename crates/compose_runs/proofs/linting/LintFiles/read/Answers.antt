@@ -1,7 +1,7 @@
 use Rattle.std.proofs.Common.{rules, ◌≡◌, ◌∙◌, inl, inr, map, subst, option_copied}
 use Rattle.std.specs.Prelude.{Err}
 use Rattle.compose_runs.specs.DiffFiles.{IsAccepted}
-use Rattle.compose_runs.specs.Faults.{FailsAccepted, FailsLintRun, FailsTables, OrMemory}
+use Rattle.compose_runs.specs.Faults.{FailsAccepted, FailsLint, FailsLintRun, FailsTables, OrMemory}
 use Rattle.compose_runs.specs.Linting.{AreReadTables, asked_files}
 use Rattle.compose_runs.proofs.Failing.{fails, or_map}
 use Rattle.compose_runs.proofs.linting.LintFiles.read.Goals as goal
@@ -37,11 +37,11 @@ returns-in_err-tables-clause-fault g c =
     let fault = c.in_err-tables.field-0.0 in let folder = c.args.files.now.holds in let environment = c.args.environment.now in let arguments = c.args.arguments.now in
     let places = c.in_ok-places.places in let names = map (λ name. name.now) c.args.names.now in
     let is : c.from_residual-in_err-tables.result ≡ Err fault = search rules in
-    let Fails = λ f. FailsTables f environment places (asked_files arguments.files.items) in
-    let found : OrMemory (Fails folder) fault = subst (λ paths. OrMemory (FailsTables folder environment places (asked_files paths)) fault) c.deref.ensures.value
+    let asked = asked_files arguments.files.items in
+    let found : OrMemory (FailsTables folder environment places asked) fault = subst (λ paths. OrMemory (FailsTables folder environment places (asked_files paths)) fault) c.deref.ensures.value
     (subst (λ f. OrMemory (FailsTables f environment places (asked_files c.deref.result.now)) fault) c.in_ok-names.ensures.kept c.in_err-tables.ensures.fault) in
     fails (FailsLintRun folder environment names arguments) c.from_residual-in_err-tables.result fault is
-    (or_map (Fails folder) _ fault (λ tables. inr ((c.in_ok-names.names, c.in_ok-names.ensures.read), inr (places, c.in_ok-places.ensures, inl tables))) found)
+    (or_map (FailsTables folder environment places asked) (FailsLint folder environment names arguments) fault (λ tables. inr ((c.in_ok-names.names, c.in_ok-names.ensures.read), inr (places, c.in_ok-places.ensures, inl tables))) found)
 
 pub returns-in_err-accepted-clause-fault : goal.returns-in_err-accepted-clause-fault
 returns-in_err-accepted-clause-fault g c =
