@@ -601,7 +601,9 @@ print_report() {
 # Prints what stands before a report in HTML: what stands before that of an empty table.
 begin_html() {
     : > "$room/empty"
-    { "$composecheck" diff --format html "$room/empty" "$room/empty" || refuse "can't run $composecheck"; } | sed -e '/^<body>$/q' -e 's/ a Compose table/ Compose tables/'
+    # (a file, since a program whose reader ends at the body would be refused its output)
+    "$composecheck" diff --format html "$room/empty" "$room/empty" > "$room/page" || refuse "can't run $composecheck"
+    sed -e '/^<body>$/q' -e 's/ a Compose table/ Compose tables/' "$room/page"
 }
 
 if [ $# -lt 2 ]; then
