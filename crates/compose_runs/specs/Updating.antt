@@ -1,5 +1,7 @@
 -- What `update` reads, and what it then does with the table in use (this project's profile).
 use Rattle.std.specs.Prelude.{◌≡◌, ℕ, true, false, List, [], ◌∷◌, map, Option, Some, None, option_copied, Result, Ok, Err, string_bytes, codes}
+use Rattle.std.specs.declared.alloc.Global.{Global}
+use Rattle.std.specs.declared.string.String.{String}
 use Rattle.compose_folder.specs.Content.{Entry, File, IsHeld}
 use Rattle.compose_model.specs.declared.Rule.TheVariants.{Longest}
 use Rattle.compose_read.specs.Lines.{Source}
@@ -137,9 +139,19 @@ pub record IsMeantRun (files : UpdateFiles) (fresh : List (List ℕ)) (meant : M
   pub is : AnswersDiff (meant_asked files fresh meant current) answered
   pub done : IsMeantAnswer files fresh meant answered run
 
--- what is decided is done; but where typing would change from a table in use, and a list of meant changes is given, what the list says
+-- typing would change: from a table in use what the list of these meant changes says; else the lines that say so
+abbrev pub IsRefusedOrListed : UpdateFiles → List (List ℕ) → MeantChanges → Option (List Source) → String Global → UpdateRun → Type 0
+IsRefusedOrListed files fresh meant None text run = IsRefusedAs (PrintsOutput (string_bytes text) ends.No) run
+IsRefusedOrListed files fresh meant (Some current) text run = IsMeantRun files fresh meant current run
+
+-- the same, where such a list is given; else the lines
+abbrev pub IsRefusedOrMeant : UpdateFiles → List (List ℕ) → Option MeantChanges → Option (List Source) → String Global → UpdateRun → Type 0
+IsRefusedOrMeant files fresh None current text run = IsRefusedAs (PrintsOutput (string_bytes text) ends.No) run
+IsRefusedOrMeant files fresh (Some meant) current text run = IsRefusedOrListed files fresh meant current text run
+
+-- what is decided is done; but where typing would change, and a list of meant changes is given, what the list says
 abbrev pub IsDecisionDone : UpdateFiles → List (List ℕ) → Option MeantChanges → Option (List Source) → Result Update UpdateFault → UpdateRun → Type 0
-IsDecisionDone files fresh (Some meant) (Some current) (Ok (updates.Refused text)) run = IsMeantRun files fresh meant current run
+IsDecisionDone files fresh meant current (Ok (updates.Refused text)) run = IsRefusedOrMeant files fresh meant current text run
 IsDecisionDone files fresh meant current decided run = IsUpdateDone files fresh decided run
 
 -- what is decided of the new table and of the one in use is done

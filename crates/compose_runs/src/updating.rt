@@ -1,8 +1,10 @@
 //! `update`: what is read, and what is then done with the table in use.
-ghost use Rattle.std.specs.Prelude.{◌≡◌, ◌<◌, Some, length, map, option_map, option_copied, slice_get, IfOk, IfErr};
+ghost use Rattle.std.specs.Prelude.{◌≡◌, ◌<◌, Some, length, map, option_map, option_copied, slice_get, string_bytes, IfOk, IfErr};
+ghost use Rattle.compose_answer.specs.declared.answer.Ended.TheVariants.{No};
 ghost use Rattle.compose_diff_rows.specs.Answers.{AnswersDiff};
+ghost use Rattle.compose_report.specs.Outcomes.{PrintsOutput};
 ghost use Rattle.compose_runs.specs.Faults.{FailsAccepted};
-ghost use Rattle.compose_runs.specs.Updating.{FailsStored, IsMeantList, IsMeantRun, IsRepertoire, IsStoredAsMeant, IsUpdateDone, IsUpdateOf, IsUpdateRefusal, IsUpdateRun, meant_asked, update_given};
+ghost use Rattle.compose_runs.specs.Updating.{FailsStored, IsDecisionDone, IsMeantList, IsMeantRun, IsRefusedAs, IsRefusedOrListed, IsRefusedOrMeant, IsRepertoire, IsStoredAsMeant, IsUpdateDone, IsUpdateOf, IsUpdateRefusal, IsUpdateRun, meant_asked, update_given};
 ghost use Rattle.compose_update.specs.Update.{Updates, given_update};
 
 use crate::differing::accept_outcome;
@@ -186,16 +188,73 @@ fn update_of<T: ComposeTable>(
         (λ run. IsUpdateOf files.now (map (λ name. name.now) fresh.now)
         (option_map (λ sources. sources.now) current.entry) run) }
 {
-    match (
-        decided::<T>(alloc, files, fresh, current),
-        &files.meant,
-        current,
-    ) {
-        (Ok(Update::Refused(_)), Some(meant), Some(current)) => {
-            update_meant::<T>(alloc, files, fresh, meant, current)
+    let decided = decided::<T>(alloc, files, fresh, current);
+    decision_done::<T>(alloc, files, fresh, current, decided)
+}
+
+/// The run of an update that is decided so, where a table of these sources is in use.
+fn decision_done<T: ComposeTable>(
+    alloc: Global,
+    files: &UpdateFiles,
+    fresh: &[&str],
+    current: Option<&Sources>,
+    decided: Result<Update, UpdateFault>,
+) -> Result<UpdateRun, AllocError>
+    ensures { IfOk result
+        (λ run. IsDecisionDone files.now (map (λ name. name.now) fresh.now) files.now.meant
+        (option_map (λ sources. sources.now) current.entry) decided run) }
+{
+    match decided {
+        Ok(Update::Refused(text)) => {
+            refused_or_meant::<T>(alloc, files, fresh, &files.meant, current, text)
         }
-        (decided, _, _) => update_done(alloc, files, fresh, decided),
+        decided => update_done(alloc, files, fresh, decided),
     }
+}
+
+/// The run of an update where typing would change, and these lines say how: they are printed, unless a list of changes that are meant is given.
+fn refused_or_meant<T: ComposeTable>(
+    alloc: Global,
+    files: &UpdateFiles,
+    fresh: &[&str],
+    meant: &Option<MeantChanges>,
+    current: Option<&Sources>,
+    text: String,
+) -> Result<UpdateRun, AllocError>
+    ensures { IfOk result
+        (λ run. IsRefusedOrMeant files.now (map (λ name. name.now) fresh.now) meant.now
+        (option_map (λ sources. sources.now) current.entry) text run) }
+{
+    match meant {
+        Some(meant) => refused_or_listed::<T>(alloc, files, fresh, meant, current, text),
+        None => Ok(refused_with(alloc, text)),
+    }
+}
+
+/// The same, where this list of changes that are meant is given: the lines are printed where no table is in use.
+fn refused_or_listed<T: ComposeTable>(
+    alloc: Global,
+    files: &UpdateFiles,
+    fresh: &[&str],
+    meant: &MeantChanges,
+    current: Option<&Sources>,
+    text: String,
+) -> Result<UpdateRun, AllocError>
+    ensures { IfOk result
+        (λ run. IsRefusedOrListed files.now (map (λ name. name.now) fresh.now) meant.now
+        (option_map (λ sources. sources.now) current.entry) text run) }
+{
+    match current {
+        Some(current) => update_meant::<T>(alloc, files, fresh, meant, current),
+        None => Ok(refused_with(alloc, text)),
+    }
+}
+
+/// The run of an update that prints these lines, and leaves everything as it is.
+fn refused_with(alloc: Global, text: String) -> UpdateRun
+    ensures { IsRefusedAs (PrintsOutput (string_bytes text) No) result }
+{
+    UpdateRun::Refused(Outcome::of_output(alloc, text, Ended::No))
 }
 
 /// What is decided of these files, where a table of these sources is in use.
