@@ -2,6 +2,7 @@
 use crate::differing::{read_accepted, read_names};
 use crate::environment::{Environment, PlaceArguments};
 use crate::one_table::{ChosenFile, file_or_own};
+use crate::skipping::{Report, followed};
 use compose_answer::{Answer, Ended};
 use compose_arguments::LintArguments;
 use compose_diff::AcceptFault;
@@ -138,7 +139,33 @@ fn lint_outcome(
 ) -> Result<Outcome, AllocError> {
     let answered = lint_answer(alloc, files, arguments);
     let printed = printed_outcome(alloc, arguments.accept, answered)?;
-    Ok(printed.with_notes(notes_of(alloc, &files.tables)?))
+    let noted = printed.with_notes(notes_of(alloc, &files.tables)?);
+    followed(noted, &skipped_lines(alloc, files, arguments.skip_faulty)?)
+}
+
+/// What is reported of the lines that are left out, if faulty lines are skipped.
+fn skipped_lines(
+    alloc: Global,
+    files: &LintFiles<'_>,
+    skip_faulty: bool,
+) -> Result<String, AllocError> {
+    if !skip_faulty {
+        return Ok(String::new(alloc));
+    }
+    skipped_report(alloc, &files.names.lines, &files.tables)
+}
+
+/// A line for each faulty line of the tables, in their order, and a last one that counts them.
+fn skipped_report(
+    alloc: Global,
+    header: &[u8],
+    tables: &[ReadTable],
+) -> Result<String, AllocError> {
+    let mut report = Report::new(alloc);
+    for read in tables {
+        report.push(alloc, header, &read.table)?;
+    }
+    report.into_text()
 }
 
 /// The lines that note the files that were not given.
@@ -157,7 +184,7 @@ fn lint_answer(
     arguments: &LintArguments<'_>,
 ) -> Result<Answer, LintFault> {
     let pathed = with_paths(alloc, &files.tables)?;
-    let tables = tables_in(alloc, &pathed)?;
+    let tables = tables_in(alloc, &pathed, arguments.skip_faulty)?;
     lint_tables(alloc, &input_of(files, arguments, &tables))
 }
 
@@ -190,10 +217,11 @@ struct PathedTable<'a> {
 
 impl<'a> PathedTable<'a> {
     /// The table as it is given to `lint`.
-    fn given<'b>(&'b self) -> LintTable<'b> {
+    fn given<'b>(&'b self, skip_faulty: bool) -> LintTable<'b> {
         LintTable {
             sources: self.sources,
             paths: &self.paths,
+            skip_faulty,
         }
     }
 }
@@ -220,10 +248,11 @@ fn with_own_paths(alloc: Global, read: &ReadTable) -> Result<PathedTable<'_>, Al
 fn tables_in<'a>(
     alloc: Global,
     pathed: &'a [PathedTable<'_>],
+    skip_faulty: bool,
 ) -> Result<Vec<LintTable<'a>>, AllocError> {
     let mut given = Vec::new(alloc);
     for table in pathed {
-        given.push(table.given())?;
+        given.push(table.given(skip_faulty))?;
     }
     Ok(given)
 }
