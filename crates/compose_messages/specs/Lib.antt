@@ -3,4 +3,5 @@ pub mod Tokens
 pub mod Messages
 pub mod Faults
 pub mod Overlaps
+pub mod Beginning
 pub mod Hints
