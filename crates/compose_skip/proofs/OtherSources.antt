@@ -38,8 +38,8 @@ module _ (names : KeysymNames) (sources : List Source) (index : ℕ) (within : i
   is_at : slice_get sources index ≡ Some at
   is_at = slice_get-get_or sources index no_source within
 
-  count : index ≡ length (take index sources)
-  count = let few : index ≤ length sources = omega (arith, within) in sym (length-take-le index sources few)
+  count : index ≡ 0 + length (take index sources)
+  count = let few : index ≤ length sources = omega (arith, within) in let n = length-take-le index sources few in omega (arith, n)
 
   -- the source that is read next, as its name and its bytes were given
   module _ (name : Option (List ℕ)) (bytes : List ℕ) (named : name ≡ option_map (λ (s : Source). s.name) (slice_get sources index))

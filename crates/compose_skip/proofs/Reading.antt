@@ -6,6 +6,7 @@ use Rattle.std.specs.Option.{option_map_or}
 use Rattle.std.specs.Result.{result_err}
 use Rattle.std.specs.Str.{is_utf8}
 use Rattle.std.proofs.lemmas.Bool.{cases_Bool}
+use Rattle.std.proofs.lemmas.Str.{IsUtf8-nil, is_utf8-from_IsUtf8}
 use Rattle.std.proofs.lemmas.List.{map-append}
 use Rattle.std.proofs.lemmas.Option.{same_Some}
 use Rattle.compose_text.specs.Results.{◌>>=◌}
@@ -84,6 +85,18 @@ numbered_kept names source depth number (line ∷ lines) =
     let v : Visit = record { source = source; line = number; bytes = line; depth = depth } in
     ap₂ (λ bytes vs. let v : Visit = record { source = source; line = number; bytes = bytes; depth = depth } in v ∷ vs) (same_kept names v 0) (numbered_kept names source depth (1 + number) lines)
 
+-- ---- an empty line says nothing
+
+empty_is_text : is_utf8 [] ≡ true
+empty_is_text = is_utf8-from_IsUtf8 [] IsUtf8-nil
+
+empty_gives : (names : KeysymNames) (sources : List Source) (source line depth : ℕ)
+    → line_gives names sources (record { source = source; line = line; bytes = []; depth = depth }) ≡ Ok None
+empty_gives names sources source line depth = ap (λ b. let g : Result (Option Definition) ReadFault = cond b (Ok None) (Err (NotUtf8 source line)) in g) empty_is_text
+
+empty_includes : (sources : List Source) → included sources [] ≡ None
+empty_includes sources = ap (λ b. let o : Option ℕ = cond b None None in o) empty_is_text
+
 -- ---- names
 
 same_named : (names : KeysymNames) (index : ℕ) (sources others : List Source) (name : List ℕ) → AreOthersFrom names index sources others → source_named others name ≡ source_named sources name
@@ -131,6 +144,7 @@ module _ (names : KeysymNames) (sources others : List Source) (are : AreOthers n
   pub kept_gives : (v : Visit) → line_gives names others (kept_visit names v) ≡ cond (is_faulty names v) (Ok None) (line_gives names sources v)
   kept_gives v = elim (cases_Bool (is_faulty names v)) [
     | inl h ↦ ap (λ b. line_gives names others (record { source = v.source; line = v.line; bytes = cond b [] v.bytes; depth = v.depth })) h
+        ∙ empty_gives names others v.source v.line v.depth
         ∙ sym (ap (λ b. let g : Result (Option Definition) ReadFault = cond b (Ok None) (line_gives names sources v) in g) h)
     | inr h ↦ ap (λ b. line_gives names others (record { source = v.source; line = v.line; bytes = cond b [] v.bytes; depth = v.depth })) h ∙ same_line v
         ∙ sym (ap (λ b. let g : Result (Option Definition) ReadFault = cond b (Ok None) (line_gives names sources v) in g) h)
@@ -164,18 +178,17 @@ module _ (names : KeysymNames) (sources others : List Source) (are : AreOthers n
 
   kept_includes : (v : Visit) → included others (kept_line names v) ≡ included sources v.bytes
   kept_includes v = elim (cases_Bool (is_faulty names v)) [
-    | inl h ↦ ap (λ b. included others (cond b [] v.bytes)) h ∙ sym (faulty_includes_none v h)
+    | inl h ↦ ap (λ b. included others (cond b [] v.bytes)) h ∙ empty_includes others ∙ sym (faulty_includes_none v h)
     | inr h ↦ ap (λ b. included others (cond b [] v.bytes)) h ∙ included_line v.bytes
   ]
 
   -- ---- all lines
 
-  no_source : Source
-  no_source = record { name = []; bytes = [] }
-
   own_kept : (source depth : ℕ) → source < length sources → own_lines others source depth ≡ map (kept_visit names) (own_lines sources source depth)
   own_kept source depth within =
-      ap (numbered source depth 1) (same_lines names 0 source sources others (record { name = []; bytes = [] }) are within)
+      let here : 0 + source ≡ source = omega arith in
+      ap (numbered source depth 1) (same_lines names 0 source sources others (record { name = []; bytes = [] }) are within
+      ∙ ap (λ n. map (kept_line names) (lines_in n (get_or sources source (record { name = []; bytes = [] })).bytes)) here)
       ∙ numbered_kept names source depth 1 (source_lines (get_or sources source (record { name = []; bytes = [] })).bytes)
 
   below_kept : (left : ℕ) (below : (source : ℕ) → source < length sources → visits_below others left source ≡ map (kept_visit names) (visits_below sources left source)) (o : Option ℕ)
@@ -248,6 +261,7 @@ module _ (names : KeysymNames) (sources others : List Source) (are : AreOthers n
 kept_is_right : (names : KeysymNames) (v : Visit) → own_fault names (kept_visit names v) ≡ None
 kept_is_right names v = elim (cases_Bool (is_faulty names v)) [
   | inl h ↦ ap (λ b. own_fault names (record { source = v.source; line = v.line; bytes = cond b [] v.bytes; depth = v.depth })) h
+      ∙ ap (λ r. own (result_err r)) (empty_gives names [] v.source v.line v.depth)
   | inr h ↦ ap (λ b. own_fault names (record { source = v.source; line = v.line; bytes = cond b [] v.bytes; depth = v.depth })) h ∙ none (own_fault names v) h
 ]
   where
