@@ -60,7 +60,8 @@ fn kept_outcome<T: ComposeTable>(
         (λ outcome. IsKeptDiff files.entry arguments.now (map (λ name. name.now) fresh.now)
         colored outcome) }
 {
-    let KeptPair { files, skipped } = KeptPair::of(alloc, arguments.skip_faulty, files)?;
+    let kept = KeptPair::of(alloc, arguments.skip_faulty, files)?;
+    let KeptPair { files, skipped } = kept;
     let printed = diff_outcome::<T>(alloc, &files, arguments, fresh, colored)?;
     followed(printed, &skipped)
 }

@@ -57,7 +57,8 @@ fn list_outcome<T: ComposeTable>(
 ) -> Result<Outcome, AllocError>
     ensures { IfOk result (λ outcome. IsListOutcome read.entry arguments.now outcome) }
 {
-    let KeptRead { read, skipped } = KeptRead::of(alloc, arguments.table.skip_faulty, read)?;
+    let kept = KeptRead::of(alloc, arguments.table.skip_faulty, read)?;
+    let KeptRead { read, skipped } = kept;
     let answered = list_answer::<T>(alloc, &read, arguments);
     let printed = read.outcome::<T>(alloc, &arguments.prefix, "", answered)?;
     followed(printed, &skipped)
@@ -209,7 +210,8 @@ fn kept_how_outcome<T: ComposeTable>(
         (option_map (λ held. held.items) repertoire.now) (map (λ word. word.now) words.now)
         outcome) }
 {
-    let KeptRead { read, skipped } = KeptRead::of(alloc, arguments.table.skip_faulty, read)?;
+    let kept = KeptRead::of(alloc, arguments.table.skip_faulty, read)?;
+    let KeptRead { read, skipped } = kept;
     let answered = how_answer::<T>(alloc, &read, arguments, repertoire, words);
     let printed = how_outcome::<T>(alloc, read, arguments, words, answered)?;
     followed(printed, &skipped)

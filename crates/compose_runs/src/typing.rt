@@ -1,7 +1,7 @@
 //! `type`: what happens at keys.
 ghost use Rattle.std.specs.Prelude.{◌≡◌, map, IfOk, IfErr, option_map, string_bytes};
 ghost use Rattle.compose_runs.specs.Faults.{FailsLines, FailsText, FailsType, FailsTypeFile};
-ghost use Rattle.compose_runs.specs.Typing.{AreGivenLines, IsKeptType, IsTypeFileOutcome, IsTypeFileRun, IsTypeLinesOutcome, IsTypeRun, IsTypeOutcome};
+ghost use Rattle.compose_runs.specs.Typing.{AreGivenLines, IsKeptType, IsTypeFileOutcome, IsTypeFileRun, IsTypeLinesOutcome, IsTypeRun, IsTypeOutcome, IsTypedFile};
 
 use crate::environment::Environment;
 use crate::key_lists::{key_lists, refused_line};
@@ -128,12 +128,27 @@ fn kept_type_outcome<T: ComposeTable>(
         (λ outcome. IsKeptType read.entry skip_faulty (map (λ word. word.now) words.now)
         (option_map string_bytes lines) outcome) }
 {
-    let KeptRead { read, skipped } = KeptRead::of(alloc, skip_faulty, read)?;
-    let printed = match lines {
-        Some(lines) => type_lines_outcome::<T>(alloc, read, &lines)?,
-        None => type_file_outcome::<T>(alloc, read, words)?,
-    };
+    let kept = KeptRead::of(alloc, skip_faulty, read)?;
+    let KeptRead { read, skipped } = kept;
+    let printed = typed_outcome::<T>(alloc, read, words, lines)?;
     followed(printed, &skipped)
+}
+
+/// The outcome of `type` with a Compose file and these lines; where there are none, with these words.
+fn typed_outcome<T: ComposeTable>(
+    alloc: Global,
+    read: TableRead<'_>,
+    words: &[&str],
+    lines: Option<String>,
+) -> Result<Outcome, AllocError>
+    ensures { IfOk result
+        (λ outcome. IsTypedFile read.entry (map (λ word. word.now) words.now)
+        (option_map string_bytes lines) outcome) }
+{
+    match lines {
+        Some(lines) => type_lines_outcome::<T>(alloc, read, &lines),
+        None => type_file_outcome::<T>(alloc, read, words),
+    }
 }
 
 /// The outcome of `type` with a Compose file, once it is read.
