@@ -123,8 +123,11 @@ fn exchange(
     names: &Names,
     requests: &[Request],
 ) -> Result<Outcome, Fault> {
-    let Ok(stream) = UnixStream::connect(rt, path) else {
-        return Err(Fault::refused("socket", String::from_str(rt.alloc(), path)));
+    let stream = match UnixStream::connect(rt, path) {
+        Ok(stream) => stream,
+        Err(error) => {
+            return Err(Fault::socket(String::from_str(rt.alloc(), path), error.kind()));
+        }
     };
     let replies = replies_of(rt.alloc(), &stream, requests)?;
     let report = report_replies(rt.alloc(), names, requests, &replies)?;
