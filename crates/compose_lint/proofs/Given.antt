@@ -78,7 +78,7 @@ module _ (names : KeysymNames) (sources : List Source) (v : Visit) where
   chain_is (Ok s) (Ok (Some t)) (Ok other) = refl
 
   production_is : (events : List (List ℕ)) (raw name : Option (List ℕ))
-      → definition_in (definition_of names v events raw name >>= (λ d. let x : Result (Option Definition) ReadFault = Ok (Some d) in x)) ≡ definition_given names (record { events = events; raw = raw; name = name })
+      → definition_in (definition_of names v events raw name >>= (λ d. let x : Result (Option Definition) ReadFault = Ok (Some d) in x)) ≡ definition_given names (record { events = events; written = record { raw = raw; name = name } })
   production_is events raw name =
       chain_is (sequence_of names v 0 events) (string_text v raw) (result_text names v (length events) name)
       ∙ ap (λ o. chained o (result_ok (string_text v raw)) (result_ok (result_text names v (length events) name))) (sequence_is 0 events)

@@ -6,13 +6,14 @@ use Rattle.compose_model.specs.Table.{Definition}
 use Rattle.compose_read.specs.Lines.{Source, Visit, own_lines, source_named, visits}
 use Rattle.compose_read.specs.Read.{line_gives, max_lines}
 use Rattle.compose_read.specs.declared.ReadFault.{ReadFault}
-use Rattle.compose_lint.specs.Productions.{comment_of}
+use Rattle.compose_lint.specs.Productions.{Written, comment_of, written_of}
 
--- a line: the index of its source, its number from 1, its bytes, the definition that it gives, and the comment beside its string
+-- a line: the index of its source, its number from 1, its bytes, what it writes for a text, the definition that it gives, and the comment beside its string
 pub record LintLine : Type 0 where
   pub source : ℕ
   pub line : ℕ
   pub bytes : List ℕ
+  pub written : Option Written
   pub definition : Option Definition
   pub comment : Option (List ℕ)
 
@@ -22,7 +23,7 @@ definition_in (Ok definition) = definition
 definition_in (Err fault) = None
 
 abbrev pub lint_line : KeysymNames → List Source → Visit → LintLine
-lint_line names sources v = record { source = v.source; line = v.line; bytes = v.bytes; definition = definition_in (line_gives names sources v); comment = comment_of v.bytes }
+lint_line names sources v = record { source = v.source; line = v.line; bytes = v.bytes; written = written_of v.bytes; definition = definition_in (line_gives names sources v); comment = comment_of v.bytes }
 
 -- the lines of a source
 abbrev pub lines_in : KeysymNames → List Source → ℕ → List LintLine

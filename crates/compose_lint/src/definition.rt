@@ -9,7 +9,7 @@ ghost use Rattle.compose_read.specs.Read.{line_gives};
 ghost use Rattle.compose_lint.specs.Productions as words;
 ghost use Rattle.compose_lint.specs.Lines.{definition_in};
 
-use crate::production::{Production, production_of};
+use crate::production::Production;
 use compose_lex::{LexFault, unescape};
 use keysym_core::{Keysym, Names};
 use std::alloc::{AllocError, Global};
@@ -47,17 +47,18 @@ impl LineDefinition {
     }
 }
 
-/// The definition that a line gives; a faulty line gives none. O(bytes).
+/// The definition that a line gives, if this is what it writes; a faulty line gives none. O(bytes).
 pub(crate) fn line_definition(
     alloc: Global,
     names: &Names,
-    line: &[u8],
+    production: Option<&Production<'_>>,
 ) -> Result<Option<LineDefinition>, AllocError>
-    ensures { (sources : List Source) (v : Visit) → v.bytes ≡ line.now
+    ensures { (sources : List Source) (v : Visit)
+        → words.production_of v.bytes ≡ option_copied production.entry
         → IfOk result (λ d. d ≡ definition_in (line_gives names.now sources v)) }
 {
-    match production_of(line) {
-        Some(production) => definition_given(alloc, names, &production),
+    match production {
+        Some(production) => definition_given(alloc, names, production),
         None => Ok(None),
     }
 }
@@ -73,7 +74,7 @@ fn definition_given(
     let Some(sequence) = fed_sequence(alloc, names, &production.events)? else {
         return Ok(None);
     };
-    match text_given(alloc, names, production.raw_text, production.result_name)? {
+    match text_given(alloc, names, production.written.raw_text, production.written.result_name)? {
         Some(text) => Ok(Some(LineDefinition { sequence, text })),
         None => Ok(None),
     }

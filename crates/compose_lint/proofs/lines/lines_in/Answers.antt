@@ -18,8 +18,8 @@ pub loop-bytes-preserved : goal.loop-bytes-preserved
 loop-bytes-preserved c =
     let sources = c.args.sources.now in let line = c.loop-bytes.line in let bytes = c.in-Some.bytes.now in
     let visit : Visit = record { source = c.args.source; line = line + 1; bytes = bytes; depth = 0 } in record {
-      read = next_line c.args.names.now sources c.args.source line bytes c.loop-bytes.rest.now c.in-Some.behind.now c.in_ok-definition.definition _ c.loop-bytes.lines.items c.push.new.self.items
-          _ c.in-Some.ensures.lines (c.in_ok-definition.ensures sources visit refl) c.comment_of-comment.ensures c.in_ok-push.ensures.items c.loop-bytes.invariant.read;
+      read = next_line c.args.names.now sources c.args.source line bytes c.loop-bytes.rest.now c.in-Some.behind.now _ c.loop-bytes.lines.items c.push.new.self.items
+          _ c.in-Some.ensures.lines (c.in_ok-lint_line.ensures sources visit refl refl refl) c.in_ok-push.ensures.items c.loop-bytes.invariant.read;
       counted = omega (arith, c.in-Some.ensures.shorter, c.loop-bytes.invariant.counted);
     }
 
