@@ -74,7 +74,12 @@ fn definition_given(
     let Some(sequence) = fed_sequence(alloc, names, &production.events)? else {
         return Ok(None);
     };
-    match text_given(alloc, names, production.written.raw_text, production.written.result_name)? {
+    match text_given(
+        alloc,
+        names,
+        production.written.raw_text,
+        production.written.result_name,
+    )? {
         Some(text) => Ok(Some(LineDefinition { sequence, text })),
         None => Ok(None),
     }
