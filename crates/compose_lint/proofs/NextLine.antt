@@ -6,7 +6,8 @@ use Rattle.std.proofs.lemmas.Option.{slice_get-get_or, same_Some}
 use Rattle.keysym_core.specs.Names.{KeysymNames}
 use Rattle.compose_text.specs.Lines.{lines_of}
 use Rattle.compose_read.specs.Lines.{Source, numbered, source_lines, without_mark}
-use Rattle.compose_lint.specs.Lines.{LintLine, lint_line, lines_in}
+use Rattle.compose_lint.specs.Lines.{LintLine, lint_line, line_read, lines_in}
+use Rattle.compose_lint.proofs.Given.{read_is}
 
 no_source : Source
 no_source = record { name = []; bytes = [] }
@@ -23,14 +24,15 @@ module _ (names : KeysymNames) (sources : List Source) (source : ℕ) where
 
   -- one line further
   pub next_line : (line : ℕ) (bytes rest behind : List ℕ) (l : LintLine) (found after whole : List LintLine) → lines_of rest ≡ bytes ∷ lines_of behind
-      → l ≡ lint_line names sources (record { source = source; line = line + 1; bytes = bytes; depth = 0 }) → after ≡ found ++ l ∷ []
+      → l ≡ line_read names source (line + 1) bytes → after ≡ found ++ l ∷ []
       → found ++ map (lint_line names sources) (numbered source 0 (1 + line) (lines_of rest)) ≡ whole
       → after ++ map (lint_line names sources) (numbered source 0 (1 + (line + 1)) (lines_of behind)) ≡ whole
   next_line line bytes rest behind l found after whole parted given pushed before =
       let one : line + 1 ≡ 1 + line = omega arith in
       ap (λ ls. ls ++ map (lint_line names sources) (numbered source 0 (1 + (line + 1)) (lines_of behind))) pushed
       ∙ append_assoc found (l ∷ []) (map (lint_line names sources) (numbered source 0 (1 + (line + 1)) (lines_of behind)))
-      ∙ ap (λ x. found ++ x ∷ map (lint_line names sources) (numbered source 0 (1 + (line + 1)) (lines_of behind))) given
+      ∙ ap (λ x. found ++ x ∷ map (lint_line names sources) (numbered source 0 (1 + (line + 1)) (lines_of behind)))
+      (given ∙ sym (read_is names sources (record { source = source; line = line + 1; bytes = bytes; depth = 0 })))
       ∙ ap (λ n. found ++ map (lint_line names sources) (numbered source 0 n (bytes ∷ lines_of behind))) one
       ∙ ap (λ ls. found ++ map (lint_line names sources) (numbered source 0 (1 + line) ls)) (sym parted)
       ∙ before

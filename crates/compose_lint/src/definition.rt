@@ -1,13 +1,10 @@
 //! The definition that a line gives.
-ghost use Rattle.std.specs.Prelude.{◌≡◌, ◌++◌, List, map, length, Some, IfOk, option_copied, string_bytes};
-ghost use Rattle.std.specs.Option.{option_map};
+ghost use Rattle.std.specs.Prelude.{◌≡◌, ◌++◌, map, length, Some, IfOk, option_copied, string_bytes};
+ghost use Rattle.std.specs.Option.{option_map, option_and_then};
 ghost use Rattle.std.specs.Result.{result_ok};
 ghost use Rattle.keysym_core.specs.Names.{text};
 ghost use Rattle.compose_lex.specs.Escape.{text_of};
-ghost use Rattle.compose_read.specs.Lines.{Source, Visit};
-ghost use Rattle.compose_read.specs.Read.{line_gives};
 ghost use Rattle.compose_lint.specs.Productions as words;
-ghost use Rattle.compose_lint.specs.Lines.{definition_in};
 
 use crate::production::Production;
 use compose_lex::{LexFault, unescape};
@@ -53,9 +50,9 @@ pub(crate) fn line_definition(
     names: &Names,
     production: Option<&Production<'_>>,
 ) -> Result<Option<LineDefinition>, AllocError>
-    ensures { (sources : List Source) (v : Visit)
-        → words.production_of v.bytes ≡ option_copied production.entry
-        → IfOk result (λ d. d ≡ definition_in (line_gives names.now sources v)) }
+    ensures { IfOk result
+        (λ d. d
+        ≡ option_and_then (words.definition_given names.now) (option_copied production.entry)) }
 {
     match production {
         Some(production) => definition_given(alloc, names, production),

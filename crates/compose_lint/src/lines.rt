@@ -1,8 +1,8 @@
 //! The lines of a source, and the definition that each gives.
-ghost use Rattle.std.specs.Prelude.{◌≡◌, ◌<◌, List, length, map, IfOk, option_copied};
+ghost use Rattle.std.specs.Prelude.{◌≡◌, ◌<◌, length, map, IfOk, option_copied};
 ghost use Rattle.std.specs.Option.{option_map};
-ghost use Rattle.compose_read.specs.Lines.{Source, Visit, own_lines, without_mark};
-ghost use Rattle.compose_lint.specs.Lines.{lines_in, lint_line};
+ghost use Rattle.compose_read.specs.Lines.{own_lines, without_mark};
+ghost use Rattle.compose_lint.specs.Lines.{line_read, lines_in};
 
 use crate::comment::comment_beside;
 use crate::definition::{LineDefinition, line_definition};
@@ -119,23 +119,21 @@ pub(crate) fn lines_in<'a>(
     while let Some((bytes, behind)) = first_line(rest) {
         line += 1;
         rest = behind;
-        lines.push(lint_line(alloc, names, source, line, bytes)?)?;
+        let read = line_read(alloc, names, source, line, bytes)?;
+        lines.push(read)?;
     }
     Ok(lines)
 }
 
-/// The line with these bytes, which stands in the source with this index under this number.
-/// O(bytes).
-pub(crate) fn lint_line<'a>(
+/// The line with these bytes, under this number in the source with this index. O(bytes).
+pub(crate) fn line_read<'a>(
     alloc: Global,
     names: &Names,
     source: usize,
     line: usize,
     bytes: &'a [u8],
 ) -> Result<LintLine<'a>, AllocError>
-    ensures { (sources : List Source) (v : Visit)
-        → v.source ≡ source → v.line ≡ line → v.bytes ≡ bytes.now
-        → IfOk result (λ l. l ≡ lint_line names.now sources v) }
+    ensures { IfOk result (λ l. l ≡ line_read names.now source line bytes.now) }
 {
     let production = production_of(bytes);
     let definition = line_definition(alloc, names, production.as_ref())?;
