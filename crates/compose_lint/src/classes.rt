@@ -56,8 +56,8 @@ pub(crate) fn has_wide_keysym(definition: &LineDefinition) -> bool
 }
 
 /// Whether the name of the result begins with a digit. O(1).
-pub(crate) fn has_digit_name(written: Written<'_>) -> bool
-    ensures { result ≡ words.has_digit_name written.entry }
+pub(crate) fn has_digit_name(written: &Written<'_>) -> bool
+    ensures { result ≡ words.has_digit_name written.now }
 {
     match written.result_name() {
         Some(name) => begins_with_digit(name.as_bytes()),
@@ -76,15 +76,15 @@ fn begins_with_digit(name: &[u8]) -> bool
 }
 
 /// Whether there is no string. O(1).
-pub(crate) fn has_no_string(written: Written<'_>) -> bool
-    ensures { result ≡ words.has_no_string written.entry }
+pub(crate) fn has_no_string(written: &Written<'_>) -> bool
+    ensures { result ≡ words.has_no_string written.now }
 {
     written.raw_text().is_none()
 }
 
 /// Whether the string has the escape of a letter. O(bytes).
-pub(crate) fn has_letter_escape(written: Written<'_>) -> bool
-    ensures { result ≡ words.has_letter_escape written.entry }
+pub(crate) fn has_letter_escape(written: &Written<'_>) -> bool
+    ensures { result ≡ words.has_letter_escape written.now }
 {
     match written.raw_text() {
         Some(raw) => has_letter_escape_in(raw.as_bytes()),

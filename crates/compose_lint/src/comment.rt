@@ -7,8 +7,8 @@ use crate::production::Written;
 
 /// The comment of a line with a string, if it has one and this is what it writes: what follows the
 /// first `#` that follows the string, without white space at its ends. O(bytes).
-pub(crate) fn comment_beside<'a>(line: &'a [u8], written: Option<Written<'_>>) -> Option<&'a str>
-    ensures { option_copied result ≡ words.comment_beside line.now written.entry }
+pub(crate) fn comment_beside<'a>(line: &'a [u8], written: Option<&Written<'_>>) -> Option<&'a str>
+    ensures { option_copied result ≡ words.comment_beside line.now (option_copied written.entry) }
 {
     comment_in(behind_string(line, written?.raw_text()?))
 }

@@ -157,8 +157,8 @@ fn has_return_after(line: &[u8], raw: &str) -> bool
 }
 
 /// Whether a carriage return stands outside of the string and the comment. O(bytes).
-pub(crate) fn has_return(line: &[u8], written: Written<'_>) -> bool
-    ensures { result ≡ words.has_return line.now written.entry }
+pub(crate) fn has_return(line: &[u8], written: &Written<'_>) -> bool
+    ensures { result ≡ words.has_return line.now written.now }
 {
     if has_return_before(line) {
         return true;

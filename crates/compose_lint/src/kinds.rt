@@ -116,12 +116,12 @@ fn push_text_kinds(
     alloc: Global,
     names: &Names,
     kinds: &mut Vec<Kind>,
-    written: Written<'_>,
+    written: &Written<'_>,
     definition: &LineDefinition,
 ) -> Result<(), AllocError>
     ensures { OnOk result
         (kinds.new.items
-        ≡ kinds.old.items ++ words.text_kinds names.now written.entry definition.now) }
+        ≡ kinds.old.items ++ words.text_kinds names.now written.now definition.now) }
 {
     let is_other = has_other_character(names, written, definition);
     push_when(kinds, is_other, Kind::Keysym)?;
@@ -151,13 +151,13 @@ fn push_libx11_kinds(
 fn push_libxkbcommon_kinds(
     kinds: &mut Vec<Kind>,
     readers: Readers,
-    written: Written<'_>,
+    written: &Written<'_>,
     definition: &LineDefinition,
 ) -> Result<(), AllocError>
     ensures { OnOk result
         (kinds.new.items
         ≡ kinds.old.items
-        ++ words.libxkbcommon_kinds readers written.entry definition.now) }
+        ++ words.libxkbcommon_kinds readers written.now definition.now) }
 {
     let reader = Reader::Libxkbcommon;
     let many = readers.libxkbcommon && has_eleven_keysyms(definition);
@@ -178,12 +178,12 @@ fn push_libxkbcommon_kinds(
 fn push_gtk_kinds(
     kinds: &mut Vec<Kind>,
     readers: Readers,
-    written: Written<'_>,
+    written: &Written<'_>,
     definition: &LineDefinition,
 ) -> Result<(), AllocError>
     ensures { OnOk result
         (kinds.new.items
-        ≡ kinds.old.items ++ words.gtk_kinds readers written.entry definition.now) }
+        ≡ kinds.old.items ++ words.gtk_kinds readers written.now definition.now) }
 {
     let none = has_no_string(written);
     push_when(
@@ -236,11 +236,11 @@ fn push_blank_kinds(
     kinds: &mut Vec<Kind>,
     readers: Readers,
     line: &[u8],
-    written: Written<'_>,
+    written: &Written<'_>,
 ) -> Result<(), AllocError>
     ensures { OnOk result
         (kinds.new.items
-        ≡ kinds.old.items ++ words.blank_kinds readers line.now written.entry) }
+        ≡ kinds.old.items ++ words.blank_kinds readers line.now written.now) }
 {
     let returned = readers.libx11 && has_return(line, written);
     push_when(
@@ -274,7 +274,7 @@ fn push_kinds_of(
     file: LintFile<'_, '_>,
     last: &LastLines<'_>,
     line: &LintLine<'_>,
-    written: Written<'_>,
+    written: &Written<'_>,
     definition: &LineDefinition,
 ) -> Result<(), AllocError>
     requires { (q : Bor (List ℕ))
@@ -284,7 +284,7 @@ fn push_kinds_of(
         (kinds.new.items
         ≡ kinds.old.items
         ++ words.kinds_of file.entry.names.now file.entry.readers file.entry.lines.now line.now
-        written.entry definition.now) }
+        written.now definition.now) }
 {
     push_defined_again(kinds, file.lines, last, line, definition)?;
     push_text_kinds(alloc, file.names, kinds, written, definition)?;

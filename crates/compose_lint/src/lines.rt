@@ -96,10 +96,10 @@ impl<'a> LintLine<'a> {
     }
 
     /// What it writes for a text, if it reads as a production.
-    pub(crate) fn written(&self) -> Option<Written<'a>>
-        ensures { result ≡ self.now.written }
+    pub(crate) fn written(&self) -> Option<&Written<'a>>
+        ensures { option_copied result ≡ self.now.written }
     {
-        self.written
+        self.written.as_ref()
     }
 }
 
@@ -138,13 +138,14 @@ pub(crate) fn line_read<'a>(
     let production = production_of(bytes);
     let definition = line_definition(alloc, names, production.as_ref())?;
     let written = written_in(production.as_ref());
+    let comment = comment_beside(bytes, written.as_ref());
     Ok(LintLine {
         source,
         line,
         bytes,
         written,
         definition,
-        comment: comment_beside(bytes, written),
+        comment,
     })
 }
 
@@ -153,7 +154,10 @@ fn written_in<'a>(production: Option<&Production<'a>>) -> Option<Written<'a>>
     ensures { result ≡ option_map (λ p. p.written) (option_copied production.entry) }
 {
     match production {
-        Some(production) => Some(production.written),
+        Some(production) => Some(Written {
+            raw_text: production.written.raw_text,
+            result_name: production.written.result_name,
+        }),
         None => None,
     }
 }

@@ -8,7 +8,7 @@ use std::marker::Model;
 
 /// What a production writes for the text of its keys: what stands between the quotes of its string,
 /// and the name of its result keysym.
-#[derive(Clone, Copy, Drop)]
+#[derive(Drop)]
 pub(crate) struct Written<'a> {
     pub(crate) raw_text: Option<&'a str>,
     pub(crate) result_name: Option<&'a str>,

@@ -38,10 +38,10 @@ pub(crate) fn is_normal(alloc: Global, text: &str) -> Result<bool, AllocError>
 /// Whether a string has the name of a keysym beside it that has another character.
 pub(crate) fn has_other_character(
     names: &Names,
-    written: Written<'_>,
+    written: &Written<'_>,
     definition: &LineDefinition,
 ) -> bool
-    ensures { result ≡ words.has_other_character names.now written.entry definition.now }
+    ensures { result ≡ words.has_other_character names.now written.now definition.now }
 {
     if written.raw_text().is_none() {
         return false;
