@@ -92,6 +92,11 @@ def trials(program, folder):
     write(folder, {"certificate.part": "of a run that was ended\n" * 99})
     yield "a file is replaced", (*run(program, folder, *make, "more.manifest", "repertoire"), read(folder, "certificate")), ("", 0, CERTIFICATE)
     yield "and not written over", (read(folder, "old"), read(folder, "certificate.part")), ("kept\n", None)
+    os.mkdir(os.path.join(folder, "tree"))
+    write(folder, {"tree/more.compose": f'include "{folder}/more.compose"\n'})
+    elsewhere = ("make", "-o", "certificate", "-f", "--system", "tree", "table.compose", "tree/more.compose", "repertoire")
+    yield "notes are printed beside a certificate that is written", (*run(program, folder, *elsewhere), read(folder, "certificate")), (
+        f"note: {folder}/more.compose lies outside of tree\n", 0, CERTIFICATE)
     there = ("make", "-o", "no/certificate", "table.manifest", "more.manifest", "repertoire")
     yield "a folder that is not there", run(program, folder, *there), ("refused: file: no/certificate\n", 2)
     os.mkdir(os.path.join(folder, "folder"))

@@ -1,10 +1,11 @@
 //! The arguments of the command line of `composecheck`, as requests.
 //!
-//! A command is a variant of [`Request`], a row of `commands`, and a line of `request_of`.
+//! A command that reads files and answers is a variant of [`Question`], another one of [`Request`]; each is a row of `commands`, and a line of
+//! `question_of` or `request_of`.
 //!
 //! ```text
 //! read_command_line(alloc, &arguments)?.request    // type table.manifest a b
-//! Request::Type { table: TypeTable::Manifest("table.manifest"), keys: ["a", "b"] }
+//! Request::Answer(Question::Keys { table: TypeTable::Manifest("table.manifest"), keys: ["a", "b"] })
 //! ```
 #![tactic(auto)]
 
@@ -17,6 +18,8 @@ mod how_arguments;
 mod lint_arguments;
 mod list_arguments;
 mod manifest_arguments;
+mod name_lists;
+mod question;
 mod request;
 mod rows;
 mod serve_arguments;
@@ -30,6 +33,7 @@ pub use how_arguments::HowArguments;
 pub use lint_arguments::LintArguments;
 pub use list_arguments::{ListArguments, ListSort};
 pub use manifest_arguments::ManifestArguments;
+pub use question::Question;
 pub use request::{CommandLine, Request, read_command_line};
 pub use serve_arguments::{ServeArguments, Served};
 pub use table_arguments::TableArguments;

@@ -1,5 +1,5 @@
 //! What `list` asks for.
-use crate::request::names_of_option;
+use crate::name_lists::names_of_option;
 use crate::table_arguments::{TableArguments, table_arguments};
 use clap::ArgMatches;
 use std::alloc::{AllocError, Global};

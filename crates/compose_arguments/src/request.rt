@@ -1,76 +1,19 @@
 //! What the command line asks for.
-ghost use Rattle.std.specs.Prelude.{◌≡◌, ◌==◌, map, IfOk};
-ghost use Rattle.std.specs.List.{slice_split};
-ghost use Rattle.compose_arguments.specs.Commas.{names_between};
-
 use crate::client_arguments::{LoadArguments, SessionArguments, load_arguments, session_arguments};
 use crate::command_line::command_line;
-use crate::diff_arguments::{DiffArguments, diff_arguments};
-use crate::given_tables::{BothTables, TypeTable, both_tables, type_table};
-use crate::how_arguments::{HowArguments, how_arguments};
-use crate::lint_arguments::{LintArguments, lint_arguments};
-use crate::list_arguments::{ListArguments, list_arguments};
-use crate::manifest_arguments::{ManifestArguments, manifest_arguments};
+use crate::name_lists::{fresh_names, given_fresh_names};
+use crate::question::{Question, question_of};
 use crate::serve_arguments::{ServeArguments, serve_arguments};
 use crate::update_arguments::{UpdateArguments, update_arguments};
 use clap::error::ErrorKind;
 use clap::{ArgMatches, Command, Error};
 use std::alloc::{AllocError, Global};
 
-/// What the command line asks for: its arguments and paths, which are lent by it.
+/// What the command line asks for.
 #[derive(Drop)]
 pub enum Request<'a> {
-    /// Type keys with a table.
-    Type {
-        table: TypeTable<'a>,
-        /// The names of the keysyms, at least one.
-        keys: Vec<&'a str>,
-    },
-    /// Check a certificate.
-    Check {
-        tables: BothTables<'a>,
-        /// The names of `--fresh` between commas, where it is given.
-        fresh: Option<Vec<&'a str>>,
-        repertoire: &'a str,
-        certificate: &'a str,
-    },
-    /// Explain how two tables differ.
-    Explain {
-        tables: BothTables<'a>,
-        /// The names of `--fresh` between commas.
-        fresh: Vec<&'a str>,
-        /// Whether all differences are asked for.
-        all: bool,
-    },
-    /// Tell what a new Compose file changes.
-    Diff {
-        arguments: DiffArguments<'a>,
-        /// The names of `--fresh` between commas.
-        fresh: Vec<&'a str>,
-    },
-    /// Tell how texts are typed.
-    How {
-        arguments: HowArguments<'a>,
-        /// The texts, at least one.
-        texts: Vec<&'a str>,
-    },
-    /// List the sequences of a Compose file.
-    List(ListArguments<'a>),
-    /// Find what is wrong in Compose files.
-    Lint(LintArguments<'a>),
-    /// Make a certificate.
-    Make {
-        tables: BothTables<'a>,
-        /// The names of `--fresh` between commas.
-        fresh: Vec<&'a str>,
-        /// Whether all characters that can't be typed are asked for.
-        all: bool,
-        repertoire: &'a str,
-        /// The path of the file that is written, where it is given.
-        output: Option<&'a str>,
-    },
-    /// Print the manifest of a Compose file.
-    Manifest(ManifestArguments<'a>),
+    /// Read files and answer.
+    Answer(Question<'a>),
     /// Take a Compose file into use.
     Update {
         arguments: UpdateArguments<'a>,
@@ -162,27 +105,11 @@ fn request_of<'a>(
         return Ok(None);
     };
     match command {
-        "type" => type_request(alloc, given),
-        "check" => check_request(alloc, given),
-        "explain" => explain_request(alloc, given),
-        "diff" => diff_request(alloc, given),
-        "how" => how_request(alloc, given),
-        "list" => Ok(Some(Request::List(list_arguments(alloc, given)?))),
-        "lint" => Ok(Some(Request::Lint(lint_arguments(alloc, given)?))),
-        "make" => make_request(alloc, given),
-        "serve" => serve_request(alloc, given),
-        "session" => session_request(alloc, given),
         "update" => update_request(alloc, given),
-        _ => Ok(request_without_lists(command, given)),
-    }
-}
-
-/// What a command asks for that takes no list.
-fn request_without_lists<'a>(command: &str, given: &ArgMatches<'a>) -> Option<Request<'a>> {
-    match command {
-        "manifest" => Some(Request::Manifest(manifest_arguments(given))),
-        "load" => load_arguments(given).map(Request::Load),
-        _ => None,
+        "serve" => serve_request(alloc, given),
+        "load" => Ok(load_arguments(given).map(Request::Load)),
+        "session" => session_request(alloc, given),
+        _ => Ok(question_of(alloc, command, given)?.map(Request::Answer)),
     }
 }
 
@@ -208,88 +135,6 @@ fn session_request<'a>(
     Ok(session_arguments(alloc, given)?.map(Request::Session))
 }
 
-/// The arguments of `type`.
-fn type_request<'a>(
-    alloc: Global,
-    given: &ArgMatches<'a>,
-) -> Result<Option<Request<'a>>, AllocError> {
-    let (Some(table), Some(keys)) = (type_table(given), given.get_strs("KEY")) else {
-        return Ok(None);
-    };
-    Ok(Some(Request::Type {
-        table,
-        keys: Vec::from_slice(alloc, keys)?,
-    }))
-}
-
-/// The arguments of `check`.
-fn check_request<'a>(
-    alloc: Global,
-    given: &ArgMatches<'a>,
-) -> Result<Option<Request<'a>>, AllocError> {
-    let Some((tables, repertoire, certificate)) = check_paths(given) else {
-        return Ok(None);
-    };
-    Ok(Some(Request::Check {
-        tables,
-        fresh: given_fresh_names(alloc, given)?,
-        repertoire,
-        certificate,
-    }))
-}
-
-/// The paths of `check`.
-fn check_paths<'a>(given: &ArgMatches<'a>) -> Option<(BothTables<'a>, &'a str, &'a str)> {
-    Some((
-        both_tables(given)?,
-        given.get_str("REPERTOIRE")?,
-        given.get_str("CERTIFICATE")?,
-    ))
-}
-
-/// The arguments of `explain`.
-fn explain_request<'a>(
-    alloc: Global,
-    given: &ArgMatches<'a>,
-) -> Result<Option<Request<'a>>, AllocError> {
-    let Some(tables) = both_tables(given) else {
-        return Ok(None);
-    };
-    Ok(Some(Request::Explain {
-        tables,
-        fresh: fresh_names(alloc, given)?,
-        all: given.get_flag("all"),
-    }))
-}
-
-/// The arguments of `diff`.
-fn diff_request<'a>(
-    alloc: Global,
-    given: &ArgMatches<'a>,
-) -> Result<Option<Request<'a>>, AllocError> {
-    let Some(arguments) = diff_arguments(given) else {
-        return Ok(None);
-    };
-    Ok(Some(Request::Diff {
-        arguments,
-        fresh: fresh_names(alloc, given)?,
-    }))
-}
-
-/// The arguments of `how`.
-fn how_request<'a>(
-    alloc: Global,
-    given: &ArgMatches<'a>,
-) -> Result<Option<Request<'a>>, AllocError> {
-    let Some(texts) = given.get_strs("TEXT") else {
-        return Ok(None);
-    };
-    Ok(Some(Request::How {
-        arguments: how_arguments(given),
-        texts: Vec::from_slice(alloc, texts)?,
-    }))
-}
-
 /// The arguments of `update`.
 fn update_request<'a>(
     alloc: Global,
@@ -302,70 +147,4 @@ fn update_request<'a>(
         arguments,
         fresh: fresh_names(alloc, given)?,
     }))
-}
-
-/// The arguments of `make`.
-fn make_request<'a>(
-    alloc: Global,
-    given: &ArgMatches<'a>,
-) -> Result<Option<Request<'a>>, AllocError> {
-    let (Some(tables), Some(repertoire)) = (both_tables(given), given.get_str("REPERTOIRE")) else {
-        return Ok(None);
-    };
-    Ok(Some(Request::Make {
-        tables,
-        fresh: fresh_names(alloc, given)?,
-        all: given.get_flag("all"),
-        repertoire,
-        output: given.get_str("output"),
-    }))
-}
-
-/// The names of `--fresh` between commas, where it is given.
-fn given_fresh_names<'a>(
-    alloc: Global,
-    given: &ArgMatches<'a>,
-) -> Result<Option<Vec<&'a str>>, AllocError> {
-    match given.get_str("fresh") {
-        Some(text) => Ok(Some(names_between(alloc, text)?)),
-        None => Ok(None),
-    }
-}
-
-/// The names of `--fresh` between commas; none where it is not given.
-fn fresh_names<'a>(alloc: Global, given: &ArgMatches<'a>) -> Result<Vec<&'a str>, AllocError> {
-    names_of_option(alloc, given, "fresh")
-}
-
-/// The names between commas that this option has; none where it is not given.
-pub(crate) fn names_of_option<'a>(
-    alloc: Global,
-    given: &ArgMatches<'a>,
-    option: &str,
-) -> Result<Vec<&'a str>, AllocError> {
-    match given.get_str(option) {
-        Some(text) => names_between(alloc, text),
-        None => Ok(Vec::new(alloc)),
-    }
-}
-
-/// The arguments between commas, none of an empty text. Nothing between two commas is an argument too.
-fn names_between<'a>(alloc: Global, text: &'a str) -> Result<Vec<&'a str>, AllocError>
-    ensures { IfOk result
-        (λ arguments. map (λ argument. argument.now) arguments.items ≡ names_between text.now) }
-{
-    if text.is_empty() {
-        return Ok(Vec::new(alloc));
-    }
-    split_words(alloc, text)
-}
-
-/// The parts of a text between commas.
-fn split_words<'a>(alloc: Global, text: &'a str) -> Result<Vec<&'a str>, AllocError>
-    ensures { IfOk result
-        (λ arguments. map (λ argument. argument.now) arguments.items
-        ≡ slice_split (λ b. b == 44) text.now) }
-{
-    let arguments: Vec<&'a str> = text.split(',').collect(alloc)?;
-    Ok(arguments)
 }

@@ -1,67 +1,47 @@
 //! Prints outcomes, and writes what is to be written to a file.
 use compose_answer::Ended;
 use compose_input::{Fault, Unopened};
-use compose_report::{Outcome, fault_outcome, fault_worded, no_memory, print};
-use std::alloc::{AllocError, Global};
+use compose_program::{FaultForm, fault_in_form};
+use compose_report::{Outcome, no_memory, print, print_beside_file};
 use std::rt::Files;
 use std::{fs, io};
-
-/// How it is told why what a command was given can't be read, or is refused.
-#[derive(Clone, Copy, Debug, PartialEq, Eq)]
-pub enum Telling {
-    /// By the line of the refusal.
-    Line,
-    /// By this line, and below it where the fault is, and why.
-    Detailed,
-    /// For people: where the fault is, and why, and by the line only where nothing more is to be said.
-    Worded,
-}
 
 /// Prints an outcome, if there is one, or writes its output to its file, whole or not at all, and gives how the run ends.
 pub fn put(
     rt: &(impl Files + Print + Eprint + AllocGlobal),
-    telling: Telling,
+    form: FaultForm,
     outcome: Result<Outcome, Fault>,
 ) -> Result<Ended, Fault> {
     match outcome {
-        Ok(outcome) => Ok(put_outcome(rt, telling, &outcome)),
+        Ok(outcome) => Ok(put_outcome(rt, form, &outcome)),
         Err(fault) => Err(fault),
     }
 }
 
-/// Prints an outcome, or writes its output to its file.
-fn put_outcome(
+/// Prints an outcome; an output that has a file is written to it.
+pub fn put_outcome(
     rt: &(impl Files + Print + Eprint + AllocGlobal),
-    telling: Telling,
+    form: FaultForm,
     outcome: &Outcome,
 ) -> Ended {
     let Some(path) = &outcome.file else {
         return print(rt, outcome);
     };
     match write_whole(rt, path, &outcome.output) {
-        Ok(()) => outcome.ended,
-        Err(fault) => put_fault(rt, telling, &fault),
+        Ok(()) => print_beside_file(rt, outcome),
+        Err(fault) => put_fault(rt, form, &fault),
     }
 }
 
-/// Prints why what a command was given can't be read, or is refused, and gives how the run ends.
+/// Prints in this form why what a command was given can't be read, or is refused, and gives how the run ends.
 pub fn put_fault(
     rt: &(impl Print + Eprint + AllocGlobal),
-    telling: Telling,
+    form: FaultForm,
     fault: &Fault,
 ) -> Ended {
-    match told_fault(rt.alloc(), telling, fault) {
+    match fault_in_form(rt.alloc(), form, fault) {
         Ok(outcome) => print(rt, &outcome),
         Err(_) => no_memory(rt),
-    }
-}
-
-/// The outcome of a run whose input can't be read, told so.
-fn told_fault(alloc: Global, telling: Telling, fault: &Fault) -> Result<Outcome, AllocError> {
-    match telling {
-        Telling::Line => fault_outcome(alloc, false, fault),
-        Telling::Detailed => fault_outcome(alloc, true, fault),
-        Telling::Worded => fault_worded(alloc, fault),
     }
 }
 

@@ -3,11 +3,12 @@ ghost use Rattle.std.specs.Prelude.{◌≤◌};
 ghost use Rattle.std.specs.Process.{exit_status};
 
 use crate::commands::answer;
-use crate::output::{Telling, put_fault};
+use crate::output::put_fault;
 use compose_answer::Ended;
-use compose_arguments::{BothTables, CommandLine, DiffForm, Request, TypeTable, read_command_line};
+use compose_arguments::{CommandLine, read_command_line};
 use compose_folder::{Disk, ReadOnce};
 use compose_input::Fault;
+use compose_program::{FaultForm, fault_form};
 use compose_report::{Outcome, arguments_outcome, exit_code, no_memory, print};
 use compose_tree::ComposeTable;
 use std::alloc::{AllocError, Global};
@@ -40,7 +41,7 @@ fn read_arguments(rt: &(impl Env + Print + Eprint + AllocGlobal)) -> Result<Vec<
     match env::args(rt) {
         Ok(arguments) => arguments.collect(rt.alloc()).map_err(|_| no_memory(rt)),
         Err(error) if error.kind() == io::ErrorKind::InvalidData => {
-            Err(put_fault(rt, Telling::Line, &Fault::Word))
+            Err(put_fault(rt, FaultForm::Line, &Fault::Word))
         }
         Err(_) => Err(no_memory(rt)),
     }
@@ -67,51 +68,10 @@ fn answer_command<T: ComposeTable>(
     asked: &CommandLine<'_>,
 ) -> Ended {
     let mut files = ReadOnce::new(rt.alloc(), Disk::new(rt));
-    let telling = telling_of(asked);
-    match answer::<T, _>(rt, &mut files, process_id, is_terminal, telling, asked) {
+    let form = fault_form(asked.verbose, &asked.request);
+    match answer::<T, _>(rt, &mut files, process_id, is_terminal, form, asked) {
         Ok(ended) => ended,
-        Err(fault) => put_fault(rt, telling, &fault),
-    }
-}
-
-/// How it is told why what the command was given is refused: for people where that is Compose files, and no manifests.
-fn telling_of(asked: &CommandLine<'_>) -> Telling {
-    if is_json(&asked.request) {
-        Telling::Detailed
-    } else if is_of_files(&asked.request) {
-        Telling::Worded
-    } else if asked.verbose {
-        Telling::Detailed
-    } else {
-        Telling::Line
-    }
-}
-
-/// Whether the answer is asked for in JSON.
-fn is_json(request: &Request<'_>) -> bool {
-    match request {
-        Request::Diff { arguments, .. } => matches!(arguments.form, DiffForm::Json),
-        Request::How { arguments, .. } => arguments.json,
-        Request::List(arguments) => arguments.json,
-        Request::Lint(arguments) => arguments.json,
-        _ => false,
-    }
-}
-
-/// Whether the command is given Compose files, and no manifests.
-fn is_of_files(request: &Request<'_>) -> bool {
-    match request {
-        Request::Diff { .. }
-        | Request::How { .. }
-        | Request::List(_)
-        | Request::Lint(_)
-        | Request::Manifest(_)
-        | Request::Update { .. } => true,
-        Request::Type { table, .. } => matches!(table, TypeTable::File(_)),
-        Request::Check { tables, .. }
-        | Request::Explain { tables, .. }
-        | Request::Make { tables, .. } => matches!(tables, BothTables::Files(_)),
-        _ => false,
+        Err(fault) => put_fault(rt, form, &fault),
     }
 }
 

@@ -3,12 +3,13 @@
 use crate::at_once::serve_many;
 use crate::connection_ends::{EndLines, print_text};
 use crate::next_connection::next_connection;
-use crate::output::{Telling, put};
+use crate::output::put;
 use compose_answer::Ended;
 use compose_arguments::ServeArguments;
 use compose_folder::{Folder, ReadOnce};
 use compose_hub::ConnectionEnd;
 use compose_input::Fault;
+use compose_program::FaultForm;
 use compose_runs::Options;
 use compose_serve::{Device, serve};
 use compose_service::Service;
@@ -32,7 +33,7 @@ pub fn serve_files<T: ComposeTable, F: Folder>(
 ) -> Result<Ended, Fault> {
     match start_service::<T, F>(rt.alloc(), files, options, arguments, allowed)? {
         Ok(mut service) => serve_on_socket(rt, process_id, &mut service, arguments),
-        Err(outcome) => put(rt, Telling::Line, Ok(outcome)),
+        Err(outcome) => put(rt, FaultForm::Line, Ok(outcome)),
     }
 }
 

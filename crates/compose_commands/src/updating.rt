@@ -2,12 +2,13 @@
 //! why what it was given can't be read, or is refused.
 use crate::client::load_outcome;
 use crate::environment::{read_environment, variable_text};
-use crate::output::{Telling, put};
+use crate::output::put;
 use crate::state_folder::StateFolder;
 use compose_answer::Ended;
 use compose_arguments::UpdateArguments;
 use compose_folder::{Folder, ReadOnce};
 use compose_input::Fault;
+use compose_program::FaultForm;
 use compose_report::Outcome;
 use compose_runs::{UpdateFiles, UpdateRun, run_update};
 use compose_tree::ComposeTable;
@@ -20,7 +21,7 @@ use std::rt::{Clock, Env, Files};
 pub fn update_files<T: ComposeTable, F: Folder>(
     rt: &(impl Clock + Env + Files<File = File> + Net + Print + Eprint + AllocGlobal),
     files: &mut ReadOnce<F>,
-    telling: Telling,
+    form: FaultForm,
     arguments: &UpdateArguments<'_>,
     fresh: &[&str],
 ) -> Result<Ended, Fault> {
@@ -29,13 +30,13 @@ pub fn update_files<T: ComposeTable, F: Folder>(
     let environment = read_environment(rt, false)?;
     let read = UpdateFiles::read(rt.alloc(), files, &environment, arguments)?;
     let _ = eprint!(rt; "{}", read.new.note);
-    update_read::<T>(rt, telling, &folder, socket.as_deref(), &read, fresh)
+    update_read::<T>(rt, form, &folder, socket.as_deref(), &read, fresh)
 }
 
 /// Takes the table of these files into use.
 fn update_read<T: ComposeTable>(
     rt: &(impl Files<File = File> + Net + Print + Eprint + AllocGlobal),
-    telling: Telling,
+    form: FaultForm,
     folder: &StateFolder,
     socket: Option<&str>,
     read: &UpdateFiles,
@@ -48,27 +49,27 @@ fn update_read<T: ComposeTable>(
             stored,
             certificate,
         } => {
-            let loaded = load_running(rt, telling, socket, read, certificate.as_deref())?;
+            let loaded = load_running(rt, form, socket, read, certificate.as_deref())?;
             match loaded {
-                Ended::Yes => keep(rt, telling, folder, &stored, ""),
+                Ended::Yes => keep(rt, form, folder, &stored, ""),
                 ended => Ok(ended),
             }
         }
         UpdateRun::Meant { stored } => keep(
             rt,
-            telling,
+            form,
             folder,
             &stored,
             "note: typing changes as it is meant to; a running service keeps its table until it starts again\n",
         ),
-        UpdateRun::Refused(outcome) => put(rt, telling, Ok(outcome)),
+        UpdateRun::Refused(outcome) => put(rt, form, Ok(outcome)),
     }
 }
 
 /// Loads the table into the service that is running, if one is, by the certificate, if a table was in use.
 fn load_running(
     rt: &(impl Files + Net + Print + Eprint + AllocGlobal),
-    telling: Telling,
+    form: FaultForm,
     socket: Option<&str>,
     read: &UpdateFiles,
     certificate: Option<&str>,
@@ -80,13 +81,13 @@ fn load_running(
         return Ok(Ended::Yes);
     }
     let outcome = load_outcome(rt, socket, &read.new, certificate.as_bytes());
-    put(rt, telling, outcome)
+    put(rt, form, outcome)
 }
 
 /// Keeps the bytes of the table for the next start of the service, with a note or none.
 fn keep(
     rt: &(impl Files<File = File> + Print + Eprint + AllocGlobal),
-    telling: Telling,
+    form: FaultForm,
     folder: &StateFolder,
     stored: &[u8],
     note: &str,
@@ -95,7 +96,7 @@ fn keep(
     let text = String::from_str(rt.alloc(), "stored\n")?;
     let notes = String::from_str(rt.alloc(), note)?;
     let outcome = Outcome::of_output(rt.alloc(), text, Ended::Yes).with_notes(notes);
-    put(rt, telling, Ok(outcome))
+    put(rt, form, Ok(outcome))
 }
 
 /// The folder of the table in use: the argument's, or else that of the environment.

@@ -21,4 +21,4 @@ pub use arguments::arguments_outcome;
 pub use exchange::exchange_outcome;
 pub use faults::{fault_outcome, fault_worded};
 pub use outcome::Outcome;
-pub use printing::{exit_code, no_memory, print, written};
+pub use printing::{exit_code, no_memory, print, print_beside_file, written};

@@ -20,6 +20,14 @@ pub fn print(rt: &(impl Print + Eprint), outcome: &Outcome) -> Ended
     ended
 }
 
+/// Prints what else is to be said by an outcome whose output was written to its file: its notes, and its errors. Gives how the run ends.
+pub fn print_beside_file(rt: &impl Eprint, outcome: &Outcome) -> Ended
+    ensures { result ≡ outcome.now.ended }
+{
+    let _ = eprint!(rt; "{}{}", outcome.notes, outcome.errors);
+    outcome.ended
+}
+
 /// How a run ends that has printed this, and would end so. An answer that can't be written is refused, and nothing is said of it where
 /// nobody reads on; a run without an answer ends as it does, whether that can be printed or not.
 pub fn written(rt: &impl Eprint, printed: io::Result<()>, ended: Ended) -> Ended

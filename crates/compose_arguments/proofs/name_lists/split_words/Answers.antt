@@ -2,7 +2,7 @@ use Rattle.std.proofs.Common.{ℕ, lit<}
 use Rattle.std.specs.Prelude.{Ok}
 use Rattle.std.proofs.lemmas.Iterator.Consumers.{map_from_collect}
 use Rattle.std.proofs.lemmas.Iterator.Splits.{YieldsList-from_str_split}
-use Rattle.compose_arguments.proofs.request.split_words.Goals as goal
+use Rattle.compose_arguments.proofs.name_lists.split_words.Goals as goal
 
 pub returns : goal.returns
 returns c =

@@ -1,0 +1,59 @@
+//! Lists of names in one argument, with commas between them.
+ghost use Rattle.std.specs.Prelude.{◌≡◌, ◌==◌, map, IfOk};
+ghost use Rattle.std.specs.List.{slice_split};
+ghost use Rattle.compose_arguments.specs.Commas.{names_between};
+
+use clap::ArgMatches;
+use std::alloc::{AllocError, Global};
+
+/// The names of `--fresh` between commas, where it is given.
+pub(crate) fn given_fresh_names<'a>(
+    alloc: Global,
+    given: &ArgMatches<'a>,
+) -> Result<Option<Vec<&'a str>>, AllocError> {
+    match given.get_str("fresh") {
+        Some(text) => Ok(Some(names_between(alloc, text)?)),
+        None => Ok(None),
+    }
+}
+
+/// The names of `--fresh` between commas; none where it is not given.
+pub(crate) fn fresh_names<'a>(
+    alloc: Global,
+    given: &ArgMatches<'a>,
+) -> Result<Vec<&'a str>, AllocError> {
+    names_of_option(alloc, given, "fresh")
+}
+
+/// The names between commas that this option has; none where it is not given.
+pub(crate) fn names_of_option<'a>(
+    alloc: Global,
+    given: &ArgMatches<'a>,
+    option: &str,
+) -> Result<Vec<&'a str>, AllocError> {
+    match given.get_str(option) {
+        Some(text) => names_between(alloc, text),
+        None => Ok(Vec::new(alloc)),
+    }
+}
+
+/// The arguments between commas, none of an empty text. Nothing between two commas is an argument too.
+fn names_between<'a>(alloc: Global, text: &'a str) -> Result<Vec<&'a str>, AllocError>
+    ensures { IfOk result
+        (λ arguments. map (λ argument. argument.now) arguments.items ≡ names_between text.now) }
+{
+    if text.is_empty() {
+        return Ok(Vec::new(alloc));
+    }
+    split_words(alloc, text)
+}
+
+/// The parts of a text between commas.
+fn split_words<'a>(alloc: Global, text: &'a str) -> Result<Vec<&'a str>, AllocError>
+    ensures { IfOk result
+        (λ arguments. map (λ argument. argument.now) arguments.items
+        ≡ slice_split (λ b. b == 44) text.now) }
+{
+    let arguments: Vec<&'a str> = text.split(',').collect(alloc)?;
+    Ok(arguments)
+}

@@ -1,0 +1,68 @@
+-- In which form it is said why what a command was given can't be read, or is refused (this project's profile).
+use Rattle.std.specs.Prelude.{Bool, true, false, if◌then◌else◌}
+use Rattle.compose_arguments.specs.declared.diff_arguments.DiffForm.{DiffForm}
+use Rattle.compose_arguments.specs.declared.diff_arguments.DiffForm.TheVariants.{Json}
+use Rattle.compose_arguments.specs.declared.given_tables.BothTables.{BothTables}
+use Rattle.compose_arguments.specs.declared.given_tables.BothTables.TheVariants.{Manifests, Files}
+use Rattle.compose_arguments.specs.declared.given_tables.TypeTable.{TypeTable}
+use Rattle.compose_arguments.specs.declared.given_tables.TypeTable.TheVariants.{Manifest as OneManifest, File}
+use Rattle.compose_arguments.specs.declared.question.Question.{Question}
+use Rattle.compose_arguments.specs.declared.question.Question.TheVariants.{Keys, Check, Explain, Diff, How, List as ListTable, Lint, Make}
+use Rattle.compose_arguments.specs.declared.request.Request.{Request}
+use Rattle.compose_arguments.specs.declared.request.Request.TheVariants.{Answer, Update}
+use Rattle.compose_input.specs.declared.fault.Fault.{Fault}
+use Rattle.compose_report.specs.Outcomes.{IsFaultOutcome, IsFaultWorded}
+use Rattle.compose_report.specs.declared.outcome.Outcome.{Outcome}
+use Rattle.compose_program.specs.declared.faults.FaultForm.{FaultForm}
+use Rattle.compose_program.specs.declared.faults.FaultForm.TheVariants.{Line, Details, Words}
+
+-- ---- an answer in JSON
+
+abbrev pub is_json_form : DiffForm → Bool
+is_json_form Json = true
+is_json_form _ = false
+
+abbrev pub is_json_answer : Question → Bool
+is_json_answer (Diff arguments fresh) = is_json_form arguments.form
+is_json_answer (How arguments texts) = arguments.json
+is_json_answer (ListTable arguments) = arguments.json
+is_json_answer (Lint arguments) = arguments.json
+is_json_answer _ = false
+
+abbrev pub is_json : Request → Bool
+is_json (Answer question) = is_json_answer question
+is_json _ = false
+
+-- ---- Compose files, and no manifests
+
+abbrev pub is_file : TypeTable → Bool
+is_file (OneManifest path) = false
+is_file (File table) = true
+
+abbrev pub are_files : BothTables → Bool
+are_files (Manifests paths) = false
+are_files (Files pair) = true
+
+abbrev pub is_answer_on_files : Question → Bool
+is_answer_on_files (Keys table keys) = is_file table
+is_answer_on_files (Check tables fresh repertoire certificate) = are_files tables
+is_answer_on_files (Explain tables fresh all) = are_files tables
+is_answer_on_files (Make tables fresh all repertoire output) = are_files tables
+is_answer_on_files _ = true
+
+abbrev pub is_of_files : Request → Bool
+is_of_files (Answer question) = is_answer_on_files question
+is_of_files (Update arguments fresh) = true
+is_of_files _ = false
+
+-- ---- the form
+
+-- details where the answer is in JSON, words where the command is given Compose files, and else the line, with the details where more is asked for
+abbrev pub fault_form : Bool → Request → FaultForm
+fault_form verbose request = if is_json request then Details else if is_of_files request then Words else if verbose then Details else Line
+
+-- the outcome of a run whose input can't be read, in this form
+abbrev pub IsFaultInForm : FaultForm → Fault → Outcome → Type 0
+IsFaultInForm Line fault outcome = IsFaultOutcome false fault outcome
+IsFaultInForm Details fault outcome = IsFaultOutcome true fault outcome
+IsFaultInForm Words fault outcome = IsFaultWorded fault outcome

@@ -1,0 +1,136 @@
+//! In which form it is said why what a command was given can't be read, or is refused.
+ghost use Rattle.std.specs.Prelude.{◌≡◌, IfOk};
+ghost use Rattle.compose_program.specs.Faults as said;
+ghost use Rattle.compose_program.specs.Faults.{IsFaultInForm};
+
+use compose_arguments::{BothTables, DiffForm, Question, Request, TypeTable};
+use compose_input::Fault;
+use compose_report::{Outcome, fault_outcome, fault_worded};
+use std::alloc::{AllocError, Global};
+
+/// The form in which it is said why what a command was given can't be read, or is refused.
+#[derive(Clone, Copy, Debug, PartialEq, Eq, Drop)]
+pub enum FaultForm {
+    /// The line of the refusal.
+    Line,
+    /// This line, and below it where the fault is, and why.
+    Details,
+    /// For people: where the fault is, and why, and the line only where nothing more is to be said.
+    Words,
+}
+
+/// The form for this request: details where the answer is in JSON, words where the command is given Compose files, and else the line,
+/// with the details where more is asked for. O(1).
+pub fn fault_form(verbose: bool, request: &Request<'_>) -> FaultForm
+    ensures { result ≡ said.fault_form verbose request.now }
+{
+    if is_json(request) {
+        return FaultForm::Details;
+    }
+    if is_of_files(request) {
+        return FaultForm::Words;
+    }
+    if verbose {
+        FaultForm::Details
+    } else {
+        FaultForm::Line
+    }
+}
+
+/// The outcome of a run whose input can't be read, or is refused, in this form. O(bytes of a refused manifest).
+pub fn fault_in_form(alloc: Global, form: FaultForm, fault: &Fault) -> Result<Outcome, AllocError>
+    ensures { IfOk result (λ outcome. IsFaultInForm form fault.now outcome) }
+{
+    match form {
+        FaultForm::Line => fault_outcome(alloc, false, fault),
+        FaultForm::Details => fault_outcome(alloc, true, fault),
+        FaultForm::Words => fault_worded(alloc, fault),
+    }
+}
+
+/// Whether the answer is asked for in JSON.
+fn is_json(request: &Request<'_>) -> bool
+    ensures { result ≡ said.is_json request.now }
+{
+    match request {
+        Request::Answer(question) => is_json_answer(question),
+        Request::Update { .. } | Request::Serve { .. } | Request::Load(_) | Request::Session(_) => {
+            false
+        }
+    }
+}
+
+/// Whether the answer to this question is asked for in JSON.
+fn is_json_answer(question: &Question<'_>) -> bool
+    ensures { result ≡ said.is_json_answer question.now }
+{
+    match question {
+        Question::Diff { arguments, .. } => is_json_form(arguments.form),
+        Question::How { arguments, .. } => arguments.json,
+        Question::List(arguments) => arguments.json,
+        Question::Lint(arguments) => arguments.json,
+        Question::Keys { .. }
+        | Question::Check { .. }
+        | Question::Explain { .. }
+        | Question::Make { .. }
+        | Question::Manifest(_) => false,
+    }
+}
+
+/// Whether this form of `diff` is JSON.
+fn is_json_form(form: DiffForm) -> bool
+    ensures { result ≡ said.is_json_form form }
+{
+    match form {
+        DiffForm::Json => true,
+        _ => false,
+    }
+}
+
+/// Whether the command is given Compose files, and no manifests.
+fn is_of_files(request: &Request<'_>) -> bool
+    ensures { result ≡ said.is_of_files request.now }
+{
+    match request {
+        Request::Answer(question) => is_answer_on_files(question),
+        Request::Update { .. } => true,
+        Request::Serve { .. } | Request::Load(_) | Request::Session(_) => false,
+    }
+}
+
+/// Whether this question is about Compose files.
+fn is_answer_on_files(question: &Question<'_>) -> bool
+    ensures { result ≡ said.is_answer_on_files question.now }
+{
+    match question {
+        Question::Keys { table, .. } => is_file(table),
+        Question::Check { tables, .. } => are_files(tables),
+        Question::Explain { tables, .. } => are_files(tables),
+        Question::Make { tables, .. } => are_files(tables),
+        Question::Diff { .. }
+        | Question::How { .. }
+        | Question::List(_)
+        | Question::Lint(_)
+        | Question::Manifest(_) => true,
+    }
+}
+
+/// Whether a table is given as its Compose file.
+fn is_file(table: &TypeTable<'_>) -> bool
+    ensures { result ≡ said.is_file table.now }
+{
+    match table {
+        TypeTable::Manifest(_) => false,
+        TypeTable::File(_) => true,
+    }
+}
+
+/// Whether two tables are given as their Compose files.
+fn are_files(tables: &BothTables<'_>) -> bool
+    ensures { result ≡ said.are_files tables.now }
+{
+    match tables {
+        BothTables::Manifests(_) => false,
+        BothTables::Files(_) => true,
+    }
+}

@@ -1,0 +1,15 @@
+//! The commands that read files and answer, as one function: from what is asked, what the environment says and what the files hold to what
+//! is printed and how the run ends. Nothing is printed here, and files are read through a [`ReadOnce`](compose_folder::ReadOnce) alone.
+//!
+//! ```text
+//! let asked = Asked { options, question };
+//! print(rt, &run_question::<PackedTable, _>(alloc, &mut files, &environment, options, question)?)
+//! ```
+#![tactic(auto)]
+
+mod answering;
+mod faults;
+mod questions;
+
+pub use answering::run_question;
+pub use faults::{FaultForm, fault_form, fault_in_form};

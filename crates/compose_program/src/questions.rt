@@ -1,0 +1,191 @@
+//! The outcome of each command that reads files and answers.
+ghost use Rattle.std.specs.Prelude.{◌≡◌, map, IfOk, IfErr};
+ghost use Rattle.std.specs.Option.{option_map};
+ghost use Rattle.compose_program.specs.Questions.{Answers, Fails, AnswersType, FailsToType, AnswersCheck, FailsToCheck, AnswersExplain, FailsToExplain, AnswersMake, FailsToMake};
+ghost use Rattle.compose_runs.specs.Checking.{allowed_names};
+
+use compose_arguments::{BothTables, Question, TypeTable};
+use compose_folder::{Folder, ReadOnce};
+use compose_input::Fault;
+use compose_report::Outcome;
+use compose_runs::{
+    CheckPaths, CheckTexts, Environment, MakeOptions, Options, run_check, run_check_files,
+    run_diff, run_explain, run_explain_files, run_how, run_lint, run_list, run_make,
+    run_make_files, run_manifest, run_type, run_type_file,
+};
+use compose_tree::ComposeTable;
+use std::alloc::Global;
+
+/// The outcome of the command that is asked this, or why what it was given can't be read, or is refused.
+pub(crate) fn answer<T: ComposeTable, F: Folder>(
+    alloc: Global,
+    files: &mut ReadOnce<F>,
+    environment: &Environment,
+    options: Options<'_>,
+    question: &Question<'_>,
+) -> Result<Outcome, Fault>
+    ensures kept { files.new.holds ≡ files.old.holds }
+    ensures outcome { IfOk result
+        (λ outcome. Answers files.old.holds environment.now options.entry question.now outcome) }
+    ensures fault { IfErr result
+        (λ fault. Fails files.old.holds environment.now options.entry question.now fault) }
+{
+    match question {
+        Question::Keys { table, keys } => {
+            run_typing::<T, F>(alloc, files, environment, options, table, keys)
+        }
+        Question::Check {
+            tables,
+            fresh,
+            repertoire,
+            certificate,
+        } => {
+            let texts = CheckTexts {
+                repertoire: *repertoire,
+                certificate: *certificate,
+            };
+            let allowed = fresh.as_deref();
+            run_checking::<T, F>(alloc, files, environment, options, tables, texts, allowed)
+        }
+        Question::Explain { tables, fresh, all } => {
+            run_explaining::<T, F>(alloc, files, environment, options, tables, fresh, *all)
+        }
+        Question::Diff { arguments, fresh } => {
+            run_diff::<T, F>(alloc, files, environment, options.names, arguments, fresh)
+        }
+        Question::How { arguments, texts } => {
+            run_how::<T, F>(alloc, files, environment, options.names, arguments, texts)
+        }
+        Question::List(arguments) => {
+            run_list::<T, F>(alloc, files, environment, options.names, arguments)
+        }
+        Question::Lint(arguments) => {
+            run_lint(alloc, files, environment, options.names, arguments)
+        }
+        Question::Make {
+            tables,
+            fresh,
+            all,
+            repertoire,
+            output,
+        } => {
+            let making = MakeOptions {
+                repertoire: *repertoire,
+                fresh,
+                all: *all,
+                output: *output,
+            };
+            run_making::<T, F>(alloc, files, environment, options, tables, making)
+        }
+        Question::Manifest(arguments) => run_manifest(alloc, files, environment, arguments),
+    }
+}
+
+/// The outcome of `type` on a manifest or a Compose file.
+fn run_typing<T: ComposeTable, F: Folder>(
+    alloc: Global,
+    files: &mut ReadOnce<F>,
+    environment: &Environment,
+    options: Options<'_>,
+    table: &TypeTable<'_>,
+    keys: &[&str],
+) -> Result<Outcome, Fault>
+    ensures kept { files.new.holds ≡ files.old.holds }
+    ensures outcome { IfOk result
+        (λ outcome. AnswersType files.old.holds environment.now options.entry table.now
+        (map (λ key. key.now) keys.now) outcome) }
+    ensures fault { IfErr result
+        (λ fault. FailsToType files.old.holds environment.now options.entry table.now fault) }
+{
+    match table {
+        TypeTable::Manifest(path) => run_type::<T, F>(alloc, files, options, *path, keys),
+        TypeTable::File(table) => {
+            run_type_file::<T, F>(alloc, files, environment, options.names, table, keys)
+        }
+    }
+}
+
+/// The outcome of `check` on manifests or Compose files.
+fn run_checking<T: ComposeTable, F: Folder>(
+    alloc: Global,
+    files: &mut ReadOnce<F>,
+    environment: &Environment,
+    options: Options<'_>,
+    tables: &BothTables<'_>,
+    texts: CheckTexts<'_>,
+    allowed: Option<&[&str]>,
+) -> Result<Outcome, Fault>
+    ensures kept { files.new.holds ≡ files.old.holds }
+    ensures outcome { IfOk result
+        (λ outcome. AnswersCheck files.old.holds environment.now options.entry tables.now
+        texts.entry (allowed_names allowed.entry) outcome) }
+    ensures fault { IfErr result
+        (λ fault. FailsToCheck files.old.holds environment.now options.entry tables.now texts.entry
+        fault) }
+{
+    match tables {
+        BothTables::Manifests(tables) => {
+            let paths = CheckPaths {
+                tables: *tables,
+                repertoire: texts.repertoire,
+                certificate: texts.certificate,
+            };
+            run_check::<T, F>(alloc, files, options, &paths, allowed)
+        }
+        BothTables::Files(pair) => {
+            run_check_files::<T, F>(alloc, files, environment, options, pair, texts, allowed)
+        }
+    }
+}
+
+/// The outcome of `explain` on manifests or Compose files.
+fn run_explaining<T: ComposeTable, F: Folder>(
+    alloc: Global,
+    files: &mut ReadOnce<F>,
+    environment: &Environment,
+    options: Options<'_>,
+    tables: &BothTables<'_>,
+    fresh: &[&str],
+    all: bool,
+) -> Result<Outcome, Fault>
+    ensures kept { files.new.holds ≡ files.old.holds }
+    ensures outcome { IfOk result
+        (λ outcome. AnswersExplain files.old.holds environment.now options.entry tables.now
+        (map (λ name. name.now) fresh.now) all outcome) }
+    ensures fault { IfErr result
+        (λ fault. FailsToExplain files.old.holds environment.now options.entry tables.now fault) }
+{
+    match tables {
+        BothTables::Manifests(paths) => {
+            run_explain::<T, F>(alloc, files, options, paths, fresh, all)
+        }
+        BothTables::Files(pair) => {
+            run_explain_files::<T, F>(alloc, files, environment, options, pair, fresh, all)
+        }
+    }
+}
+
+/// The outcome of `make` on manifests or Compose files.
+fn run_making<T: ComposeTable, F: Folder>(
+    alloc: Global,
+    files: &mut ReadOnce<F>,
+    environment: &Environment,
+    options: Options<'_>,
+    tables: &BothTables<'_>,
+    making: MakeOptions<'_>,
+) -> Result<Outcome, Fault>
+    ensures kept { files.new.holds ≡ files.old.holds }
+    ensures outcome { IfOk result
+        (λ outcome. AnswersMake files.old.holds environment.now options.entry tables.now
+        making.entry outcome) }
+    ensures fault { IfErr result
+        (λ fault. FailsToMake files.old.holds environment.now options.entry tables.now
+        making.entry.repertoire.now fault) }
+{
+    match tables {
+        BothTables::Manifests(paths) => run_make::<T, F>(alloc, files, options, paths, making),
+        BothTables::Files(pair) => {
+            run_make_files::<T, F>(alloc, files, environment, options, pair, making)
+        }
+    }
+}
