@@ -1,5 +1,5 @@
 -- What a command was given, seen as values.
-use Rattle.std.specs.Prelude.{◌≡◌, ℕ, Bool, false, List, [], ◌∷◌, map, string_bytes}
+use Rattle.std.specs.Prelude.{◌≡◌, ℕ, Bool, false, List, [], ◌∷◌, map, option_copied, string_bytes}
 use Rattle.compose_input.specs.declared.names.NameFiles.{NameFiles}
 use Rattle.compose_input.specs.declared.tables.TableFiles.{TableFiles}
 use Rattle.compose_details.specs.declared.given.GivenTable.{GivenTable}
@@ -25,6 +25,7 @@ pub record IsGivenTable (files : TableFiles) (table : GivenTable) : Type 0 where
   pub paths : table.paths.now ≡ files.paths.items
   pub sources : table.input.sources.now ≡ files.sources
   pub rule : table.input.rule ≡ files.rule
+  pub locale : option_copied table.locale ≡ files.locale
 
 abbrev pub AreGivenTables : List TableFiles → List GivenTable → Type 0
 AreGivenTables [] [] = Unit {0}

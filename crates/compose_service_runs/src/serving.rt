@@ -241,6 +241,7 @@ fn kept_table(alloc: Global, path: String, sources: Sources) -> Result<TableFile
         sources,
         rule: Rule::Longest,
         note: String::new(alloc),
+        locale: None,
     })
 }
 
