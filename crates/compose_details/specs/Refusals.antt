@@ -14,7 +14,7 @@ use Rattle.compose_fresh.specs.declared.fault.CheckFault.TheVariants.{FreshIgnor
 use Rattle.compose_answer.specs.declared.refusal.Refusal.{Refusal}
 use Rattle.compose_answer.specs.declared.refusal.Refusal.TheVariants.{Names, Key, Table, Side, Repertoire, Certificate, Fresh, TooManyFresh}
 use Rattle.compose_messages.specs.Faults.{name_line, name_said, certificate_line, certificate_said, repertoire_line, repertoire_said}
-use Rattle.compose_messages.specs.Hints.{certificate_hint, header_hint, hint_text, locale_hint, name_hint, source_not_utf8, table_hint}
+use Rattle.compose_messages.specs.Hints.{certificate_hint, header_hint, hint_text, locale_hint, name_hint, repertoire_hint, source_not_utf8, table_hint}
 use Rattle.compose_messages.specs.Characters.{IsKeyOfText, character_hint, text_in_place}
 use Rattle.compose_messages.specs.Messages.{naming}
 use Rattle.compose_messages.specs.Overlaps.{events}
@@ -122,6 +122,7 @@ refusal_hint given (Key index) = key_hint (not (is_unnamed given)) (map (λ a. a
 refusal_hint given (Table fault) = numbered_hint (not (is_unnamed given)) given.tables.now 0 fault
 refusal_hint given (Side Old fault) = numbered_hint (not (is_unnamed given)) given.tables.now 0 fault
 refusal_hint given (Side New fault) = numbered_hint (not (is_unnamed given)) given.tables.now 1 fault
+refusal_hint given (Repertoire fault) = repertoire_hint given.repertoire_text.now fault
 refusal_hint given (Certificate fault) = certificate_hint given.certificate_text.now fault
 refusal_hint given refusal = None
 

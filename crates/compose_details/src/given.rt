@@ -32,6 +32,8 @@ pub struct Given<'a> {
     pub tables: &'a [GivenTable<'a>],
     /// The path of the repertoire; empty where the command has none.
     pub repertoire: &'a str,
+    /// The text of the repertoire; empty where the command has none.
+    pub repertoire_text: &'a [u8],
     /// The path of the certificate; empty where the command has none.
     pub certificate: &'a str,
     /// The text of the certificate; empty where the command has none.
@@ -74,6 +76,7 @@ impl<'a> Given<'a> {
             arguments,
             tables,
             repertoire: "",
+            repertoire_text: &[],
             certificate: "",
             certificate_text: &[],
             all: false,

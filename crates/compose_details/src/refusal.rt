@@ -14,8 +14,8 @@ use compose_check::CheckFault;
 use compose_input::{Header, LocaleTable};
 use compose_messages::{
     CharacterHint, FaultWords, Hint, LocaleHint, Message, certificate_hint, certificate_words,
-    header_hint, key_of_text, name_hint, name_words, push_events, repertoire_words,
-    source_not_utf8, table_hint, text_in_place,
+    header_hint, key_of_text, name_hint, name_words, push_events, repertoire_hint,
+    repertoire_words, source_not_utf8, table_hint, text_in_place,
 };
 use compose_migration::Side;
 use compose_read::SettleFault;
@@ -249,6 +249,7 @@ fn refusal_hint(given: &Given<'_>, refusal: &Refusal) -> Option<Hint>
             side: Side::New,
             fault,
         } => numbered_hint(given.tables, are_given, 1, fault),
+        Refusal::Repertoire(fault) => repertoire_hint(given.repertoire_text, fault),
         Refusal::Certificate(fault) => certificate_hint(given.certificate_text, fault),
         _ => None,
     }

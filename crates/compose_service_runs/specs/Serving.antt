@@ -107,6 +107,7 @@ other_paths (State state) = (state.now, state.now)
 abbrev pub service_given : ServiceFiles → Served → List (List ℕ) → GivenParts
 service_given files served fresh = record (parts_of files.names fresh (files.table ∷ files.table ∷ [])) {
   repertoire = (other_paths served).0;
+  repertoire_text = files.repertoire.items;
   certificate = (other_paths served).1;
   certificate_text = files.certificate.items;
 }

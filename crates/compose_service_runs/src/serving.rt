@@ -353,6 +353,7 @@ fn reported_start<T: ComposeTable>(
     let (repertoire, certificate) = other_paths(&arguments.served);
     let given = Given {
         repertoire,
+        repertoire_text: &files.repertoire,
         certificate,
         certificate_text: &files.certificate,
         ..listed
