@@ -180,7 +180,7 @@ pub fn run_how<T: ComposeTable, F: Folder>(
     let read = TableRead::read(alloc, files, environment, names, &arguments.table)?;
     let repertoire = read_given(alloc, files, arguments.repertoire)?;
     let answered = how_answer::<T>(alloc, &read, arguments, &repertoire, words);
-    let text = text_of(&repertoire);
+    let text = held_text(&repertoire);
     Ok(how_outcome::<T>(alloc, read, arguments, text, words, answered)?)
 }
 
@@ -260,7 +260,7 @@ fn bytes_of(bytes: &Option<Vec<u8>>) -> Option<&[u8]>
 }
 
 /// The bytes; none where they are not there.
-fn text_of(bytes: &Option<Vec<u8>>) -> &[u8]
+fn held_text(bytes: &Option<Vec<u8>>) -> &[u8]
     ensures { result.now ≡ unwrap_or (option_map (λ held. held.items) bytes.now) [] }
 {
     match bytes {

@@ -16,7 +16,7 @@ returns-clause-outcome g c =
       is_repertoire = subst (λ f. IsGivenText f (option_copied c.args.arguments.now.repertoire) bytes) c.in_ok-read.ensures.kept c.in_ok-repertoire.ensures.read;
       answered = c.how_answer-answered.result;
       is = c.how_answer-answered.ensures;
-      printed = subst (λ t. IsHowOutcome c.args.arguments.now.json c.in_ok-read.read (unwrap_or (option_copied c.args.arguments.now.repertoire) []) t (map (λ word. word.now) c.args.words.now) c.how_answer-answered.result c.in_ok-how_outcome.field-0) c.text_of-text.ensures c.in_ok-how_outcome.ensures;
+      printed = subst (λ t. IsHowOutcome c.args.arguments.now.json c.in_ok-read.read (unwrap_or (option_copied c.args.arguments.now.repertoire) []) t (map (λ word. word.now) c.args.words.now) c.how_answer-answered.result c.in_ok-how_outcome.field-0) c.held_text-text.ensures c.in_ok-how_outcome.ensures;
     }
 
 pub returns-in_err-read-clause-fault : goal.returns-in_err-read-clause-fault
