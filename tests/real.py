@@ -181,14 +181,42 @@ def keysyms_of(names, values):
     return tuple(int(name, 16) if name.startswith("0x") else reference.keysym(name, values) for name in names)
 
 
+def definitions(path, values, given):
+    """The keysyms and the text of each production of a table and of those that it includes, in the order in which they are read."""
+    with open(path, "rb") as file:
+        lines = file.read().split(b"\n")
+    for read in map(reference.read_line, lines):
+        if isinstance(read, bytes):
+            yield from definitions(ENGLISH if read == b"%L" else read.decode(), values, given)
+        elif read:
+            events, raw, name = read
+            text = own_text(reference.keysym(name.decode(), values), given) if raw is None else reference.read_text(raw).decode()
+            yield keysyms_of([it.decode() for it in events], values), text
+
+
+def shortest_typings(path, values, given):
+    """For each text of a table the shortest sequence that gives it, and of several the first; a sequence with which a longer one begins gives none."""
+    texts = dict(definitions(path, values, given))
+    begun = {keys[:count] for keys in texts for count in range(1, len(keys))}
+    typings = {}
+    for keys in sorted(texts.keys() - begun, key=lambda it: (len(it), it)):
+        typings.setdefault(texts[keys], keys)
+    return typings
+
+
 def check_differences(program, folder, results):
     """What `diff` and `explain --all` print of each pair agrees: each list of keys of the one begins a sequence that the other lists as lost,
-    and each such sequence begins with such a list."""
+    and each such sequence begins with such a list. How each lost text is typed now is as in a second reading of the new table."""
     values = reference.header_values() | reference.header_values(SHORT_NAMES)
+    given = header_characters()
+    typings = {name: shortest_typings(tables(folder)[name], values, given) for name in locales()}
     for old, new in itertools.permutations(locales(), 2):
         ran = run(program, folder, "diff", "--overlap", "longest", "--format", "json", tables(folder)[old], tables(folder)[new])
         rows = [json.loads(line) for line in ran.stdout.splitlines()[:-1]]
         lost = {keysyms_of(row["keys"], values) for row in rows if row["change"] not in ("kept", "added")}
+        losses = [row for row in rows if row["change"] in ("changed", "waiting", "removed")]
+        typed = [row["now"] and keysyms_of(row["now"], values) for row in losses]
+        results.expect(f"how lost texts of {old} are typed in {new}", typed == [typings[new].get(row["old"]) for row in losses], typed[:5])
         every = run(program, folder, "explain", "--all", "--names", "names", f"{old}.longest", f"{new}.longest").stdout
         lists = {keysyms_of(names.split(), values) for names in re.findall(r"^keys (.*)$", every, re.M)}
         begins = {keys[:count] for keys in lost for count in range(1, len(keys) + 1)}

@@ -67,6 +67,6 @@ fn poll_all<S: Answer, E: Report>(
 fn unserved(alloc: Global, path: &str, kind: io::ErrorKind) -> Fault {
     match kind {
         io::ErrorKind::OutOfMemory => Fault::NoMemory,
-        _ => Fault::refused("socket", String::from_str(alloc, path)),
+        kind => Fault::socket(String::from_str(alloc, path), kind),
     }
 }

@@ -61,8 +61,11 @@ fn exchange(
     path: &str,
     sent: &ClientRequests,
 ) -> Result<Outcome, Fault> {
-    let Ok(stream) = UnixStream::connect(rt, path) else {
-        return Err(Fault::refused("socket", String::from_str(rt.alloc(), path)));
+    let stream = match UnixStream::connect(rt, path) {
+        Ok(stream) => stream,
+        Err(error) => {
+            return Err(Fault::socket(String::from_str(rt.alloc(), path), error.kind()));
+        }
     };
     let mut connection = Connection {
         stream,

@@ -18,6 +18,7 @@ use compose_socket::{SocketFault, SocketFile, listener_of_systemd};
 use compose_tree::ComposeTable;
 use std::alloc::Global;
 use std::fs;
+use std::io::ErrorKind;
 use std::net::Net;
 use std::os::unix::net::UnixListener;
 use std::rt::{Clock, Env, Files};
@@ -85,13 +86,16 @@ fn bind(
     match file.bind(rt, process_id) {
         Ok(listener) => Ok(listener),
         Err(SocketFault::NoMemory) => Err(Fault::NoMemory),
-        Err(_) => Err(refused_socket(rt.alloc(), arguments)),
+        Err(SocketFault::Taken) => {
+            Err(refused_socket(rt.alloc(), arguments, ErrorKind::AlreadyExists))
+        }
+        Err(SocketFault::System(kind)) => Err(refused_socket(rt.alloc(), arguments, kind)),
     }
 }
 
-/// That the socket can't be served on.
-fn refused_socket(alloc: Global, arguments: &ServeArguments<'_>) -> Fault {
-    Fault::refused("socket", String::from_str(alloc, arguments.socket))
+/// That the socket can't be served on, and why.
+fn refused_socket(alloc: Global, arguments: &ServeArguments<'_>, kind: ErrorKind) -> Fault {
+    Fault::socket(String::from_str(alloc, arguments.socket), kind)
 }
 
 /// Serves as many connections as are asked for, and prints how each ended.
@@ -104,7 +108,7 @@ fn serve_connections<T: ComposeTable>(
     let mut lines = EndLines::new(rt);
     for number in 1..=arguments.connections {
         let Some(stream) = next_connection(rt, listener, &mut lines) else {
-            return Err(refused_socket(rt.alloc(), arguments));
+            return Err(refused_socket(rt.alloc(), arguments, ErrorKind::Other));
         };
         let ended = serve(
             service,

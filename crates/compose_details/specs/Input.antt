@@ -5,12 +5,12 @@ use Rattle.std.specs.Option.{option_map_or}
 use Rattle.compose_shown.specs.Shown.{shown_text}
 use Rattle.compose_find.specs.declared.found_source.FindFault.{FindFault}
 use Rattle.compose_find.specs.declared.found_source.FindFault.TheVariants.{MissingFile}
-use Rattle.compose_messages.specs.Faults.{open_said, source_said}
+use Rattle.compose_messages.specs.Faults.{open_said, socket_said, source_said}
 use Rattle.compose_messages.specs.Hints.{include_hint}
 use Rattle.compose_messages.specs.declared.hints.Hint.{Hint}
 use Rattle.compose_input.specs.declared.fault.Unopened.{Unopened}
 use Rattle.compose_input.specs.declared.fault.Fault.{Fault}
-use Rattle.compose_input.specs.declared.fault.Fault.TheVariants.{Unread, Manifest, Source, Find, Refused, Word, NoMemory}
+use Rattle.compose_input.specs.declared.fault.Fault.TheVariants.{Unread, Manifest, Source, Find, Socket, Refused, Word, NoMemory}
 use Rattle.compose_details.specs.Lines.{line}
 use Rattle.compose_details.specs.Files.{manifest_lines, find_said}
 use Rattle.compose_details.specs.Refusals.{hint_line}
@@ -21,6 +21,7 @@ refusal_line own (Unread unopened) = codes "refused: file: " ++ (shown_text (str
 refusal_line own (Manifest path bytes fault) = codes "refused: manifest: " ++ (own ++ 10 ∷ [])
 refusal_line own (Source part path fault) = codes "refused: " ++ (part.now ++ (codes ": " ++ (own ++ 10 ∷ [])))
 refusal_line own (Find fault tried) = codes "refused: find: " ++ (shown_text own ++ 10 ∷ [])
+refusal_line own (Socket unopened) = codes "refused: socket: " ++ (shown_text (string_bytes unopened.path) ++ 10 ∷ [])
 refusal_line own (Refused part text) = codes "refused: " ++ (part.now ++ (codes ": " ++ (shown_text (string_bytes text) ++ 10 ∷ [])))
 refusal_line own Word = codes "refused: word: not UTF-8\n"
 refusal_line own NoMemory = codes "out of memory\n"
@@ -28,6 +29,10 @@ refusal_line own NoMemory = codes "out of memory\n"
 -- why nothing is read at a path
 abbrev pub unopened_line : Unopened → List ℕ
 unopened_line unopened = line (string_bytes unopened.path) None (open_said unopened.kind)
+
+-- why a socket can't be used
+abbrev pub socket_line : Unopened → List ℕ
+socket_line unopened = line (string_bytes unopened.path) None (socket_said unopened.kind)
 
 -- which include leads to no file, if the fault is one of an include
 abbrev pub include_line : FindFault → List ℕ
@@ -48,6 +53,7 @@ fault_details (Unread unopened) = unopened_line unopened
 fault_details (Manifest path bytes fault) = manifest_lines (string_bytes path) bytes.items fault
 fault_details (Source part path fault) = line (string_bytes path) None (source_said fault)
 fault_details (Find fault tried) = search_lines fault tried.items
+fault_details (Socket unopened) = socket_line unopened
 fault_details fault = []
 
 abbrev pub fault_lines : List ℕ → Bool → Fault → List ℕ

@@ -1,5 +1,5 @@
 -- What is told of a refusal (this project's profile).
-use Rattle.std.specs.Prelude.{◌≡◌, ℕ, Bool, not, if◌then◌else◌, List, [], ◌∷◌, ◌++◌, map, slice_get, Option, Some, None, Result, Ok, Err, codes}
+use Rattle.std.specs.Prelude.{◌≡◌, ℕ, Bool, not, if◌then◌else◌, List, [], ◌∷◌, ◌++◌, map, slice_get, string_bytes, bytes_eq, option_copied, Option, Some, None, Result, Ok, Err, codes}
 use Rattle.std.specs.Option.{option_map, option_map_or, option_and_then}
 use Rattle.keysym_core.specs.Names.{KeysymNames}
 use Rattle.keysym_core.specs.Header.{names_of}
@@ -14,7 +14,7 @@ use Rattle.compose_fresh.specs.declared.fault.CheckFault.TheVariants.{FreshIgnor
 use Rattle.compose_answer.specs.declared.refusal.Refusal.{Refusal}
 use Rattle.compose_answer.specs.declared.refusal.Refusal.TheVariants.{Names, Key, Table, Side, Repertoire, Certificate, Fresh, TooManyFresh}
 use Rattle.compose_messages.specs.Faults.{name_line, name_said, certificate_line, certificate_said, repertoire_line, repertoire_said}
-use Rattle.compose_messages.specs.Hints.{certificate_hint, header_hint, hint_text, name_hint, table_hint}
+use Rattle.compose_messages.specs.Hints.{certificate_hint, header_hint, hint_text, locale_hint, name_hint, repertoire_hint, source_not_utf8, table_hint}
 use Rattle.compose_messages.specs.Characters.{IsKeyOfText, character_hint, text_in_place}
 use Rattle.compose_messages.specs.Messages.{naming}
 use Rattle.compose_messages.specs.Overlaps.{events}
@@ -23,6 +23,7 @@ use Rattle.compose_details.specs.Lines.{line, remark, whole_line, header_line, i
 use Rattle.compose_details.specs.Faulty.{lines_of_table}
 use Rattle.compose_details.specs.Definitions.{overlap_lines}
 use Rattle.compose_input.specs.declared.names.Header.{Header}
+use Rattle.compose_input.specs.declared.tables.LocaleTable.{LocaleTable}
 use Rattle.compose_details.specs.declared.given.GivenTable.{GivenTable}
 use Rattle.compose_details.specs.declared.given.Given.{Given}
 
@@ -121,6 +122,7 @@ refusal_hint given (Key index) = key_hint (not (is_unnamed given)) (map (λ a. a
 refusal_hint given (Table fault) = numbered_hint (not (is_unnamed given)) given.tables.now 0 fault
 refusal_hint given (Side Old fault) = numbered_hint (not (is_unnamed given)) given.tables.now 0 fault
 refusal_hint given (Side New fault) = numbered_hint (not (is_unnamed given)) given.tables.now 1 fault
+refusal_hint given (Repertoire fault) = repertoire_hint given.repertoire_text.now fault
 refusal_hint given (Certificate fault) = certificate_hint given.certificate_text.now fault
 refusal_hint given refusal = None
 
@@ -131,6 +133,29 @@ refused_text given (Table fault) = numbered_text given 0 fault
 refused_text given (Side Old fault) = numbered_text given 0 fault
 refused_text given (Side New fault) = numbered_text given 1 fault
 refused_text given refusal = []
+
+-- the name of the locale, if its table is at this path
+abbrev pub locale_at : List ℕ → Option LocaleTable → Option (List ℕ)
+locale_at path None = None
+locale_at path (Some locale) = if bytes_eq (string_bytes locale.path) path then Some (string_bytes locale.name) else None
+
+-- the locale whose table the source with this index is
+abbrev pub locale_of_source : GivenTable → ℕ → Option (List ℕ)
+locale_of_source table source = option_and_then (λ path. locale_at (string_bytes path) (option_copied table.locale)) (slice_get table.paths.now source)
+
+-- the locale in whose table a text is not UTF-8, if that is the fault
+abbrev pub table_locale : GivenTable → TableFault → Option (List ℕ)
+table_locale table fault = option_and_then (locale_of_source table) (source_not_utf8 fault)
+
+-- of the table with this index
+abbrev pub numbered_locale : List GivenTable → ℕ → TableFault → Option (List ℕ)
+numbered_locale tables index fault = option_and_then (λ (table : GivenTable). table_locale table fault) (slice_get tables index)
+
+abbrev pub refused_locale : Given → Refusal → Option (List ℕ)
+refused_locale given (Table fault) = numbered_locale given.tables.now 0 fault
+refused_locale given (Side Old fault) = numbered_locale given.tables.now 0 fault
+refused_locale given (Side New fault) = numbered_locale given.tables.now 1 fault
+refused_locale given refusal = None
 
 -- the name of the key of the character that the text is, by these names; none where it is no character, or no key has it
 pub record IsCalled (names : KeysymNames) (text : List ℕ) (called : Option (List ℕ)) : Type 0 where
@@ -147,13 +172,22 @@ CallsKey (Err why) text called = called ≡ None
 abbrev pub character_line : List ℕ → List ℕ
 character_line name = character_hint name ++ 10 ∷ []
 
--- the name of the key of a character, if it has one, and else the hint
-abbrev pub last_hint : Option (List ℕ) → Option Hint → List ℕ
-last_hint (Some name) hint = character_line name
-last_hint None hint = hint_line hint
+-- the hint with the locale whose table is not in UTF-8
+abbrev pub locale_line : List ℕ → List ℕ
+locale_line name = locale_hint name ++ 10 ∷ []
+
+-- the locale whose table is not in UTF-8, if that is the fault, and else the hint
+abbrev pub other_hint : Option (List ℕ) → Option Hint → List ℕ
+other_hint (Some name) hint = locale_line name
+other_hint None hint = hint_line hint
+
+-- the name of the key of a character, if it has one, and else the other hint
+abbrev pub last_hint : Option (List ℕ) → Option (List ℕ) → Option Hint → List ℕ
+last_hint (Some name) locale hint = character_line name
+last_hint None locale hint = other_hint locale hint
 
 -- what is told of a refusal, and then the hint
 pub record IsRefusalDetails (given : Given) (refusal : Refusal) (details : List ℕ) : Type 0 where
   pub called : Option (List ℕ)
   pub is_called : CallsKey (names_of given.header.now) (refused_text given refusal) called
-  pub lines : details ≡ refusal_lines given refusal ++ last_hint called (refusal_hint given refusal)
+  pub lines : details ≡ refusal_lines given refusal ++ last_hint called (refused_locale given refusal) (refusal_hint given refusal)

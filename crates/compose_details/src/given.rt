@@ -3,7 +3,7 @@ ghost use Rattle.std.specs.Prelude.{List, map};
 ghost use Rattle.compose_details.specs.Given.{AreGivenTables, IsGiven, IsGivenTable, parts_of};
 ghost use Rattle.compose_input.specs.declared.tables.TableFiles.{TableFiles};
 
-use compose_input::{Header, NameFiles, TableFiles};
+use compose_input::{Header, LocaleTable, NameFiles, TableFiles};
 use compose_migration::TableInput;
 
 /// A table as it was given.
@@ -15,6 +15,8 @@ pub struct GivenTable<'a> {
     pub paths: &'a [String],
     /// Its sources, and what is done with its overlaps.
     pub input: TableInput<'a>,
+    /// The table of the locale, where one is known.
+    pub locale: Option<&'a LocaleTable>,
 }
 
 /// What a command was given.
@@ -30,6 +32,8 @@ pub struct Given<'a> {
     pub tables: &'a [GivenTable<'a>],
     /// The path of the repertoire; empty where the command has none.
     pub repertoire: &'a str,
+    /// The text of the repertoire; empty where the command has none.
+    pub repertoire_text: &'a [u8],
     /// The path of the certificate; empty where the command has none.
     pub certificate: &'a str,
     /// The text of the certificate; empty where the command has none.
@@ -50,6 +54,7 @@ impl<'a> GivenTable<'a> {
                 sources: &files.sources,
                 rule: files.rule,
             },
+            locale: files.locale.as_ref(),
         }
     }
 }
@@ -71,6 +76,7 @@ impl<'a> Given<'a> {
             arguments,
             tables,
             repertoire: "",
+            repertoire_text: &[],
             certificate: "",
             certificate_text: &[],
             all: false,

@@ -7,7 +7,7 @@ use crate::lines::push_line;
 use crate::refusal::push_hint;
 use compose_find::FindFault;
 use compose_input::{Fault, Unopened};
-use compose_messages::{Hint, Message, include_hint, open_words, source_words};
+use compose_messages::{Hint, Message, include_hint, open_words, socket_words, source_words};
 use compose_shown::Shown;
 use std::alloc::{AllocError, Global};
 use std::fmt::Write;
@@ -76,6 +76,9 @@ fn refusal_line(alloc: Global, fault: &Fault, own: &str) -> Result<String, Alloc
         }
         Fault::Manifest { .. } => format!(in alloc; "refused: manifest: {own}\n"),
         Fault::Source { part, .. } => format!(in alloc; "refused: {part}: {own}\n"),
+        Fault::Socket(Unopened { path, .. }) => {
+            format!(in alloc; "refused: socket: {path}\n", path = Shown(path))
+        }
         Fault::Find { .. } => format!(in alloc; "refused: find: {own}\n", own = Shown(own)),
         Fault::Refused { part, text } => {
             format!(in alloc; "refused: {part}: {text}\n", text = Shown(text))
@@ -99,6 +102,7 @@ fn push_details(alloc: Global, text: &mut String, fault: &Fault) -> Result<(), A
             push_line(text, path, None, &Message::Plain(source_words(*fault)))
         }
         Fault::Find { fault, tried } => push_search(text, fault, tried),
+        Fault::Socket(unopened) => push_socket(text, unopened),
         Fault::Refused { .. } | Fault::Word | Fault::NoMemory => Ok(()),
     }
 }
@@ -158,5 +162,18 @@ fn push_unopened(text: &mut String, unopened: &Unopened) -> Result<(), AllocErro
         &unopened.path,
         None,
         &Message::Plain(open_words(unopened.kind)),
+    )
+}
+
+/// Adds why a socket can't be used.
+fn push_socket(text: &mut String, unopened: &Unopened) -> Result<(), AllocError>
+    ensures { OnOk result
+        (string_bytes text.new ≡ string_bytes text.old ++ words.socket_line unopened.now) }
+{
+    push_line(
+        text,
+        &unopened.path,
+        None,
+        &Message::Plain(socket_words(unopened.kind)),
     )
 }

@@ -1,5 +1,5 @@
 //! What is told of a refusal.
-ghost use Rattle.std.specs.Prelude.{◌≡◌, ◌++◌, not, map, option_map, OnOk, IfOk, string_bytes};
+ghost use Rattle.std.specs.Prelude.{◌≡◌, ◌++◌, not, map, option_copied, option_map, OnOk, IfOk, string_bytes};
 ghost use Rattle.keysym_core.specs.Header.{names_of};
 ghost use Rattle.keysym_core.specs.Printed.{printed};
 ghost use Rattle.compose_details.specs.Refusals as words;
@@ -11,10 +11,11 @@ use crate::given::{Given, GivenTable};
 use crate::lines::{header_line, push_line, push_remark, whole_line};
 use compose_answer::Refusal;
 use compose_check::CheckFault;
-use compose_input::Header;
+use compose_input::{Header, LocaleTable};
 use compose_messages::{
-    CharacterHint, FaultWords, Hint, Message, certificate_hint, certificate_words, header_hint,
-    key_of_text, name_hint, name_words, push_events, repertoire_words, table_hint, text_in_place,
+    CharacterHint, FaultWords, Hint, LocaleHint, Message, certificate_hint, certificate_words,
+    header_hint, key_of_text, name_hint, name_words, push_events, repertoire_hint,
+    repertoire_words, source_not_utf8, table_hint, text_in_place,
 };
 use compose_migration::Side;
 use compose_read::SettleFault;
@@ -37,7 +38,8 @@ pub fn refusal_details(
     let called = key_called(alloc, given.header, refused_text(given, refusal))?;
     let mut text = String::new(alloc);
     push_refusal(alloc, &mut text, given, refusal)?;
-    push_last_hint(&mut text, &called, refusal_hint(given, refusal))?;
+    let locale = refused_locale(given, refusal);
+    push_last_hint(&mut text, &called, locale, refusal_hint(given, refusal))?;
     Ok(text)
 }
 
@@ -78,17 +80,45 @@ fn printed(alloc: Global, names: &Names, keysym: Keysym) -> Result<String, Alloc
 fn push_last_hint(
     text: &mut String,
     called: &Option<String>,
+    locale: Option<&str>,
     hint: Option<Hint>,
 ) -> Result<(), AllocError>
     ensures { OnOk result
         (string_bytes text.new
         ≡ string_bytes text.old
-        ++ words.last_hint (option_map string_bytes called.now) hint) }
+        ++ words.last_hint (option_map string_bytes called.now) (option_copied locale.entry)
+        hint) }
 {
     match called {
         Some(name) => push_character_hint(text, name),
+        None => push_other_hint(text, locale, hint),
+    }
+}
+
+/// Adds the hint with the locale whose table is not in UTF-8, if that is the fault, and else the other one, if there is one.
+fn push_other_hint(
+    text: &mut String,
+    locale: Option<&str>,
+    hint: Option<Hint>,
+) -> Result<(), AllocError>
+    ensures { OnOk result
+        (string_bytes text.new
+        ≡ string_bytes text.old ++ words.other_hint (option_copied locale.entry) hint) }
+{
+    match locale {
+        Some(name) => push_locale_hint(text, name),
         None => push_hint(text, hint),
     }
+}
+
+/// Adds the hint with the locale whose table is not in UTF-8.
+fn push_locale_hint(text: &mut String, name: &str) -> Result<(), AllocError>
+    ensures { OnOk result
+        (string_bytes text.new ≡ string_bytes text.old ++ words.locale_line name.now) }
+{
+    let hint = LocaleHint(name);
+    writeln!(text, "{hint}")?;
+    Ok(())
 }
 
 /// Adds the hint with the name of the key of a character.
@@ -117,6 +147,68 @@ fn refused_text<'a>(given: &Given<'a>, refusal: &Refusal) -> &'a str
             fault,
         } => table_text(given, 1, fault),
         _ => "",
+    }
+}
+
+/// The locale in whose table a text is not UTF-8, if that is the refusal.
+fn refused_locale<'a>(given: &Given<'a>, refusal: &Refusal) -> Option<&'a str>
+    ensures { option_copied result ≡ words.refused_locale given.now refusal.now }
+{
+    match refusal {
+        Refusal::Table(fault) => numbered_locale(given.tables, 0, fault),
+        Refusal::Side {
+            side: Side::Old,
+            fault,
+        } => numbered_locale(given.tables, 0, fault),
+        Refusal::Side {
+            side: Side::New,
+            fault,
+        } => numbered_locale(given.tables, 1, fault),
+        _ => None,
+    }
+}
+
+/// The locale in whose table a text is not UTF-8, if that is the fault of the table with this index.
+fn numbered_locale<'a>(
+    tables: &[GivenTable<'a>],
+    index: usize,
+    fault: &TableFault,
+) -> Option<&'a str>
+    ensures { option_copied result ≡ words.numbered_locale tables.now index fault.now }
+{
+    match tables.get(index) {
+        Some(table) => table_locale(table, fault),
+        None => None,
+    }
+}
+
+/// The locale in whose table a text is not UTF-8, if that is the fault of this table.
+fn table_locale<'a>(table: &GivenTable<'a>, fault: &TableFault) -> Option<&'a str>
+    ensures { option_copied result ≡ words.table_locale table.now fault.now }
+{
+    match source_not_utf8(fault) {
+        Some(source) => locale_of_source(table, source),
+        None => None,
+    }
+}
+
+/// The locale whose table the source with this index is.
+fn locale_of_source<'a>(table: &GivenTable<'a>, source: usize) -> Option<&'a str>
+    ensures { option_copied result ≡ words.locale_of_source table.now source }
+{
+    match table.paths.get(source) {
+        Some(path) => locale_at(table.locale, path),
+        None => None,
+    }
+}
+
+/// The name of this locale, if its table is at this path.
+fn locale_at<'a>(locale: Option<&'a LocaleTable>, path: &str) -> Option<&'a str>
+    ensures { option_copied result ≡ words.locale_at path.now (option_copied locale.entry) }
+{
+    match locale {
+        Some(locale) if locale.path.as_str() == path => Some(locale.name.as_str()),
+        _ => None,
     }
 }
 
@@ -157,6 +249,7 @@ fn refusal_hint(given: &Given<'_>, refusal: &Refusal) -> Option<Hint>
             side: Side::New,
             fault,
         } => numbered_hint(given.tables, are_given, 1, fault),
+        Refusal::Repertoire(fault) => repertoire_hint(given.repertoire_text, fault),
         Refusal::Certificate(fault) => certificate_hint(given.certificate_text, fault),
         _ => None,
     }

@@ -1,12 +1,14 @@
 //! What is said of the faults of worked tables and of the other files, and where they stand.
 use crate::tables::core;
 use compose_cert::{CertFault, RepertoireFault};
+use compose_lex::LexFault;
 use compose_manifest::ManifestFault;
 use compose_messages::{
-    CharacterHint, FaultWords, FileMessage, Hint, Message, Position, certificate_hint,
+    CharacterHint, FaultWords, FileMessage, Hint, LocaleHint, Message, Position, certificate_hint,
     certificate_words, fault_position, header_hint, include_hint, key_of_text, manifest_hint,
     manifest_words, name_hint, name_words, open_words, overlap_words, read_message,
-    repertoire_words, socket_words, source_words, table_hint, text_in_place,
+    repertoire_hint, repertoire_words, socket_words, source_not_utf8, source_words, table_hint,
+    text_in_place,
 };
 use compose_read::{ReadFault, SourceFault, Sources, read_definitions};
 use compose_tree::{BuildFault, TableFault};
@@ -52,7 +54,7 @@ static FAULTY: [(&str, &str, &str); 38] = [
     ("<a> <Shift_L> : \"x\"", "", "r:1:5: a sequence can't have an ignored keysym, as \"Shift_L\""),
     ("include \"%H/\u{202e}\"", "", "r:1:9: the manifest does not list the included file \"%H/\\u{202e}\""),
     ("include \"r\"", "", "r:1:9: the includes go in a circle: this file includes itself, as \"r\""),
-    ("include \"%L\"", "include \"r\"", "r:1:9: more than eight includes lead to the file \"%L\""),
+    ("include \"%L\"", "include \"r\"", "r:1:9: the includes go in a circle: more than eight lead to the file \"%L\""),
     ("\n\n\n\n\n\n\n\n\n\n\n\n\n\n\n\n\n\n\n\n <b> <nosuch> : \"x\"\n\n", "", "r:21:6: no keysym has the name \"nosuch\""),
     ("<a> : \"x\"\n<nosuch> : \"x\"", "", "r:2:1: no keysym has the name \"nosuch\""),
     ("<a> : \"x\"\ninclude \"%L\"\n<b>", "\u{feff}# é\r\n<b> : \"é\" nosuch\r\n", "%L:2:11: no keysym has the name \"nosuch\""),
@@ -537,6 +539,51 @@ fn hints_of_certificates(rt: HostRuntime) {
         assert_eq!(rt; certificate_hint(bytes, &fault), *expected);
         assert_eq!(rt; certificate_hint(bytes, &CertFault::TooLarge), None);
     }
+}
+
+#[test]
+fn hints_of_repertoires(rt: HostRuntime) {
+    let rows: [(&[u8], Option<Hint>); 4] = [
+        (b"# a table\n\n<a> : \"x\"\n", Some(Hint::NoRepertoire)),
+        (b"include \"%L\"", Some(Hint::NoRepertoire)),
+        (b"U+00E9\nx\n", None),
+        (b"", None),
+    ];
+    for (bytes, expected) in &rows {
+        let fault = RepertoireFault::BadLine { line: 1 };
+        assert_eq!(rt; repertoire_hint(bytes, &fault), *expected);
+        assert_eq!(rt; repertoire_hint(bytes, &RepertoireFault::TooMany), None);
+    }
+}
+
+#[test]
+fn hints_of_locales(rt: HostRuntime) -> Result<(), Fail> {
+    let hint = LocaleHint("de_DE\u{1b}");
+    let printed = format!(in rt.alloc(); "{hint}")?;
+    assert_eq!(rt;
+        printed.as_str(),
+        "composecheck: hint: this is the table of the locale de_DE\\u{1b}; `--locale en_US.UTF-8` takes that of another one"
+    );
+    Ok(())
+}
+
+#[test]
+fn sources_that_are_not_utf8(rt: HostRuntime) {
+    let (source, line) = (3, 7);
+    let bytes = TableFault::Read(ReadFault::NotUtf8 { source, line });
+    assert_eq!(rt; source_not_utf8(&bytes), Some(3));
+    let lexed = |fault| {
+        TableFault::Read(ReadFault::Lex {
+            source,
+            line,
+            fault,
+        })
+    };
+    assert_eq!(rt; source_not_utf8(&lexed(LexFault::TextNotUtf8)), Some(3));
+    assert_eq!(rt; source_not_utf8(&lexed(LexFault::EmptyText)), None);
+    let unknown = TableFault::Read(ReadFault::MissingInclude { source, line });
+    assert_eq!(rt; source_not_utf8(&unknown), None);
+    assert_eq!(rt; source_not_utf8(&TableFault::NoMemory), None);
 }
 
 #[test]

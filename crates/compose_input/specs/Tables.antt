@@ -1,5 +1,6 @@
 -- The files of a table, as a manifest lists them, read of a folder (this project's profile).
-use Rattle.std.specs.Prelude.{◌≡◌, ℕ, List, [], ◌∷◌, ◌++◌, map, Option, Ok, unwrap_or, string_bytes}
+use Rattle.std.specs.Prelude.{◌≡◌, ℕ, List, [], ◌∷◌, ◌++◌, map, Option, Some, None, Ok, option_copied, unwrap_or, string_bytes}
+use Rattle.std.specs.Option.{option_map}
 use Rattle.compose_model.specs.declared.Rule.{Rule}
 use Rattle.compose_model.specs.declared.Rule.TheVariants.{Refuse}
 use Rattle.compose_read.specs.Lines.{Source}
@@ -10,8 +11,10 @@ use Rattle.compose_find.specs.declared.table.FoundTable.{FoundTable}
 use Rattle.compose_migration.specs.Migration.{TableSources}
 use Rattle.compose_input.specs.Texts.{named}
 use Rattle.compose_input.specs.Search.{IsSystemTable, IsNote}
+use Rattle.compose_input.specs.Places.{IsLocaleTable}
 use Rattle.compose_input.specs.declared.places.Places.{Places}
 use Rattle.compose_input.specs.declared.tables.TableFiles.{TableFiles}
+use Rattle.compose_input.specs.declared.tables.LocaleTable.{LocaleTable}
 
 -- the file at this path is a manifest that lists this
 abbrev pub IsManifest : Option (List FolderEntry) → List ℕ → Listing → Type 0
@@ -45,6 +48,21 @@ pub record IsListed (folder : Option (List FolderEntry)) (path : List ℕ) (tabl
   pub rule : table.rule ≡ unwrap_or listing.rule Refuse
   pub at : string_bytes table.path ≡ path
   pub note : string_bytes table.note ≡ []
+  pub locale : table.locale ≡ None
+
+-- the name of a locale, and the path of its table
+abbrev pub locale_parts : LocaleTable → List ℕ × List ℕ
+locale_parts locale = (string_bytes locale.name, string_bytes locale.path)
+
+-- both, where both are known
+abbrev pub named_table : Option (List ℕ) → Option (List ℕ) → Option (List ℕ × List ℕ)
+named_table (Some name) (Some path) = Some (name, path)
+named_table name path = None
+
+-- the locale is the one of these places, with its table, where both are known
+abbrev pub IsLocale : Option (List FolderEntry) → Places → Option LocaleTable → Type 0
+IsLocale folder places locale =
+    (path : Option (List ℕ)) × IsLocaleTable folder places path × (option_map locale_parts locale ≡ named_table (option_copied places.locale) path)
 
 -- the table is the one of the Compose file at this path, as it lies on the system, under this rule
 pub record IsFoundOnSystem (folder : Option (List FolderEntry)) (places : Places) (path : List ℕ) (rule : Rule) (table : TableFiles) : Type 0 where
@@ -55,3 +73,4 @@ pub record IsFoundOnSystem (folder : Option (List FolderEntry)) (places : Places
   pub ruled : table.rule ≡ rule
   pub at : string_bytes table.path ≡ path
   pub note : IsNote places path found.files.items (string_bytes table.note)
+  pub locale : IsLocale folder places table.locale

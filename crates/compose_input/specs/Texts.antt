@@ -37,3 +37,9 @@ abbrev pub IsRefused : List ℕ → Result (String Global) AllocError → Fault 
 IsRefused part said (faults.Refused p text) = (p.now ≡ part) × (said ≡ Ok text)
 IsRefused part said faults.NoMemory = (error : AllocError) × (said ≡ Err error)
 IsRefused part said fault = ⊥
+
+-- the fault says that the socket at this path can't be used, and why, unless memory ran out for saying so
+abbrev pub IsSocket : Result (String Global) AllocError → ErrorKind → Fault → Type 0
+IsSocket path kind (faults.Socket unopened) = (path ≡ Ok unopened.path) × (unopened.kind ≡ kind)
+IsSocket path kind faults.NoMemory = (error : AllocError) × (path ≡ Err error)
+IsSocket path kind fault = ⊥

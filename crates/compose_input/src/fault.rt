@@ -8,7 +8,7 @@ use compose_read::SourceFault;
 use std::alloc::{AllocError, AllocFailed};
 use std::io::ErrorKind;
 
-/// A path at which nothing can be read, and why.
+/// A path at which nothing can be read, or no socket used, and why.
 #[derive(Debug, Drop)]
 pub struct Unopened {
     pub path: String,
@@ -42,9 +42,11 @@ pub enum Fault {
         /// The paths at which the file of an include was looked for, where none is there.
         tried: Vec<Unopened>,
     },
+    /// A socket can't be bound, accepted from or connected to.
+    Socket(Unopened),
     /// Another part of what a command was given is refused.
     Refused {
-        /// Which part it is: `socket`, `load` or `connection`.
+        /// Which part it is: `load`, `state` or `connection`.
         part: &'static str,
         /// What is refused, or why.
         text: String,
@@ -56,7 +58,7 @@ pub enum Fault {
 }
 
 impl Fault {
-    ghost use Rattle.compose_input.specs.Texts.{IsRefused};
+    ghost use Rattle.compose_input.specs.Texts.{IsRefused, IsSocket};
 
     /// That this part of what a command was given is refused, and why; or that memory was, for saying so. O(1).
     pub fn refused(part: &'static str, text: Result<String, AllocError>) -> Fault
@@ -64,6 +66,16 @@ impl Fault {
     {
         match text {
             Ok(text) => Fault::Refused { part, text },
+            Err(_) => Fault::NoMemory,
+        }
+    }
+
+    /// That the socket at this path can't be used, and why; or that memory was refused, for saying so. O(1).
+    pub fn socket(path: Result<String, AllocError>, kind: ErrorKind) -> Fault
+        ensures { IsSocket path kind result }
+    {
+        match path {
+            Ok(path) => Fault::Socket(Unopened { path, kind }),
             Err(_) => Fault::NoMemory,
         }
     }

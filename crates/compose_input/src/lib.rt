@@ -23,5 +23,5 @@ pub use headers::{add_names, line_count};
 pub use names::{Header, NameFiles};
 pub use places::Places;
 pub use search::find_files;
-pub use tables::{TableFiles, files_note};
+pub use tables::{LocaleTable, TableFiles, files_note};
 pub use texts::read_text;

@@ -1,8 +1,9 @@
 //! The files of a table.
-ghost use Rattle.std.specs.Prelude.{◌≡◌, map, IfOk, IfErr, OnOk, string_bytes};
+ghost use Rattle.std.specs.Prelude.{◌≡◌, map, option_copied, option_map, IfOk, IfErr, OnOk, string_bytes};
 ghost use Rattle.compose_input.specs.Faults.{FailsManifest, FailsEntry, FailEntries};
 ghost use Rattle.compose_input.specs.Search.{IsNote};
-ghost use Rattle.compose_input.specs.Tables.{IsManifest, AreEntries, IsEntryRead};
+ghost use Rattle.compose_input.specs.Tables.{IsManifest, AreEntries, IsEntryRead, IsLocale, locale_parts, named_table};
+ghost use Rattle.compose_input.specs.declared.fault.Fault.TheVariants.{NoMemory};
 
 use crate::fault::Fault;
 use crate::places::Places;
@@ -27,6 +28,17 @@ pub struct TableFiles {
     pub rule: Rule,
     /// What there is to note of where its files lie, in lines.
     pub note: String,
+    /// The table of the locale, where one is known.
+    pub locale: Option<LocaleTable>,
+}
+
+/// The table of a locale, which `%L` stands for.
+#[derive(Debug, Drop)]
+pub struct LocaleTable {
+    /// The name of the locale.
+    pub name: String,
+    /// The path of its table.
+    pub path: String,
 }
 
 impl TableFiles {
@@ -55,6 +67,7 @@ impl TableFiles {
             sources: read.sources,
             rule: manifest.rule(),
             note: String::new(alloc),
+            locale: None,
         })
     }
 
@@ -74,12 +87,14 @@ impl TableFiles {
     {
         let found = find_files(files, alloc, places, path)?;
         let note = files_note(alloc, places, path, &found.files)?;
+        let locale = known_locale(files, alloc, places)?;
         Ok(TableFiles {
             path: String::from_str(alloc, path)?,
             paths: paths_of(alloc, found.files)?,
             sources: found.sources,
             rule,
             note,
+            locale,
         })
     }
 
@@ -130,6 +145,40 @@ pub fn files_note(
         Some(tree) => outside_text(alloc, tree, places.root, found),
         None => Ok(String::new(alloc)),
     }
+}
+
+/// The locale and its table, where both are known.
+fn known_locale<F: Folder>(
+    files: &mut ReadOnce<F>,
+    alloc: Global,
+    places: Places<'_>,
+) -> Result<Option<LocaleTable>, Fault>
+    ensures kept { files.new.holds ≡ files.old.holds }
+    ensures known { IfOk result (λ locale. IsLocale files.old.holds places.entry locale) }
+    ensures fault { IfErr result (λ fault. fault ≡ NoMemory) }
+{
+    let path = places.locale_table(files, alloc)?;
+    Ok(named_table(alloc, places.locale, path)?)
+}
+
+/// The locale with this name and the table at this path, where both are known.
+fn named_table(
+    alloc: Global,
+    name: Option<&str>,
+    path: Option<String>,
+) -> Result<Option<LocaleTable>, AllocError>
+    ensures { IfOk result
+        (λ locale. option_map locale_parts locale
+        ≡ named_table (option_copied name.entry) (option_map string_bytes path)) }
+{
+    let Some(path) = path else {
+        return Ok(None);
+    };
+    let Some(name) = name else {
+        return Ok(None);
+    };
+    let name = String::from_str(alloc, name)?;
+    Ok(Some(LocaleTable { name, path }))
 }
 
 /// The paths of files that were found.

@@ -1,5 +1,5 @@
 -- Which hint helps against a refusal (this project's profile).
-use Rattle.std.specs.Prelude.{ℕ, Bool, true, false, not, ◌-◌, ◌==◌, ◌&&◌, ◌||◌, nat_eq, if◌then◌else◌, List, [], ◌∷◌, drop, Option, Some, None, Result, Ok, get_or, codes, bytes_eq}
+use Rattle.std.specs.Prelude.{ℕ, Bool, true, false, not, ◌-◌, ◌==◌, ◌&&◌, ◌||◌, nat_eq, if◌then◌else◌, List, [], ◌∷◌, ◌++◌, drop, Option, Some, None, Result, Ok, get_or, codes, bytes_eq}
 use Rattle.std.specs.List.{list_any, starts_with, ends_with}
 use Rattle.compose_text.specs.Bytes.{begins, is_blank}
 use Rattle.compose_text.specs.Lines.{lines_of}
@@ -8,20 +8,24 @@ use Rattle.keysym_core.specs.declared.fault.NameFault.{NameFault}
 use Rattle.keysym_core.specs.declared.fault.NameFault.TheVariants as names
 use Rattle.compose_cert.specs.declared.CertFault.{CertFault}
 use Rattle.compose_cert.specs.declared.CertFault.TheVariants.{NotText}
+use Rattle.compose_cert.specs.declared.RepertoireFault.{RepertoireFault}
+use Rattle.compose_cert.specs.declared.RepertoireFault.TheVariants as repertoires
 use Rattle.compose_lex.specs.Line.{Reading, include, production}
 use Rattle.compose_lex.specs.Fault.{reading_of}
 use Rattle.compose_lex.specs.declared.LexFault.{LexFault}
+use Rattle.compose_lex.specs.declared.LexFault.TheVariants.{TextNotUtf8}
 use Rattle.compose_read.specs.Lines.{Source}
 use Rattle.compose_read.specs.declared.ReadFault.TheVariants.{UnknownKeysym, Lex, NotUtf8, MissingInclude}
 use Rattle.compose_read.specs.declared.settling.SettleFault.TheVariants.{Overlap}
 use Rattle.compose_tree.specs.declared.reading.TableFault.{TableFault}
 use Rattle.compose_tree.specs.declared.reading.TableFault.TheVariants.{Read, Settle}
+use Rattle.compose_shown.specs.Shown.{shown_text}
 use Rattle.compose_manifest.specs.declared.manifest.ManifestFault.{ManifestFault}
 use Rattle.compose_manifest.specs.declared.manifest.ManifestFault.TheVariants.{BadLine}
 use Rattle.compose_messages.specs.Places.{line_at, text_or_nothing}
 use Rattle.compose_messages.specs.Tokens.{named}
 use Rattle.compose_messages.specs.declared.hints.Hint.{Hint}
-use Rattle.compose_messages.specs.declared.hints.Hint.TheVariants.{BuiltinNames, OwnNames, UnicodeName, ComposeKey, Encoding, Utf16, Certificate, Repertoire, Manifest, OverlapLongest, Fresh, Table, NoCertificate, NamesEncoding, HomeFolder}
+use Rattle.compose_messages.specs.declared.hints.Hint.TheVariants.{BuiltinNames, OwnNames, UnicodeName, ComposeKey, Encoding, Utf16, Certificate, Repertoire, Manifest, OverlapLongest, Fresh, Table, NoCertificate, NoRepertoire, NamesEncoding, HomeFolder}
 
 abbrev pub hint_text : Hint → List ℕ
 hint_text BuiltinNames = codes "composecheck: hint: `--names builtin` has the names of keysymdef.h"
@@ -37,6 +41,7 @@ hint_text OverlapLongest = codes "composecheck: hint: with the line `overlap lon
 hint_text Fresh = codes "composecheck: hint: `--fresh` takes the keysyms for which nothing has to be promised"
 hint_text Table = codes "composecheck: hint: this is a Compose table; `composecheck manifest TABLE` prints its manifest"
 hint_text NoCertificate = codes "composecheck: hint: this is a Compose file, and no certificate"
+hint_text NoRepertoire = codes "composecheck: hint: this is a Compose file, and no repertoire"
 hint_text NamesEncoding = codes "composecheck: hint: a header of names is in UTF-8; `iconv -f ENCODING -t UTF-8` converts another one"
 hint_text HomeFolder = codes "composecheck: hint: an include says the home folder as %H, and not as ~"
 
@@ -94,6 +99,16 @@ table_hint sources are_given (Read (MissingInclude source line)) = include_hint 
 table_hint sources are_given (Settle (Overlap short long)) = Some OverlapLongest
 table_hint sources are_given fault = None
 
+-- the hint where the table of a locale is not in UTF-8, with the locale's name
+abbrev pub locale_hint : List ℕ → List ℕ
+locale_hint locale = codes "composecheck: hint: this is the table of the locale " ++ (shown_text locale ++ codes "; `--locale en_US.UTF-8` takes that of another one")
+
+-- the source in which a line or a string is not UTF-8
+abbrev pub source_not_utf8 : TableFault → Option ℕ
+source_not_utf8 (Read (NotUtf8 source line)) = Some source
+source_not_utf8 (Read (Lex source line TextNotUtf8)) = Some source
+source_not_utf8 fault = None
+
 -- what is read of a line is a production or an include
 abbrev pub is_of_table : Result Reading LexFault → Bool
 is_of_table (Ok (production events raw name)) = true
@@ -110,6 +125,11 @@ has_table_line bytes = list_any is_table_line (lines_of bytes)
 abbrev pub certificate_hint : List ℕ → CertFault → Option Hint
 certificate_hint bytes (NotText n) = if has_table_line bytes then Some NoCertificate else None
 certificate_hint bytes fault = None
+
+-- the file is a Compose table, and no repertoire
+abbrev pub repertoire_hint : List ℕ → RepertoireFault → Option Hint
+repertoire_hint bytes (repertoires.BadLine n) = if has_table_line bytes then Some NoRepertoire else None
+repertoire_hint bytes fault = None
 
 -- the file is a Compose table: its faulty line is one of a table, or its path ends in `Compose`
 abbrev pub manifest_hint : List ℕ → List ℕ → ManifestFault → Option Hint

@@ -1,5 +1,5 @@
 -- What is said of a fault (this project's profile), and how it is printed.
-use Rattle.std.specs.Prelude.{ℕ, not, ◌-◌, nat_lt, if◌then◌else◌, List, [], ◌∷◌, ◌++◌, length, slice_get, take, Option, Some, None, bytes_eq, codes}
+use Rattle.std.specs.Prelude.{ℕ, not, ◌-◌, nat_le, nat_lt, if◌then◌else◌, List, [], ◌∷◌, ◌++◌, length, slice_get, take, Option, Some, None, bytes_eq, codes}
 use Rattle.std.specs.Option.{option_map_or}
 use Rattle.std.specs.Fmt.{decimal}
 use Rattle.compose_lex.specs.declared.LexFault.{LexFault}
@@ -72,10 +72,12 @@ lex_said line TextTooLong = codes "the string has more than 255 bytes"
 lex_said line TextNotUtf8 = codes "the string is not UTF-8"
 lex_said line fault = codes "out of memory"
 
--- where more than eight includes lead to the file of this name, and the last of them stands in the file `own`
-abbrev pub depth_said : List ℕ → List ℕ → List ℕ
-depth_said own name =
+-- where more than eight includes lead to the file of this name, and the last of them stands in the file `own`, in a table of so many files: of at
+-- most nine files one is among the ten of that way twice
+abbrev pub depth_said : ℕ → List ℕ → List ℕ → List ℕ
+depth_said count own name =
     if bytes_eq own name then quoting (codes "the includes go in a circle: this file includes itself, as ") name else
+    if nat_le count 9 then quoting (codes "the includes go in a circle: more than eight lead to the file ") name else
     quoting (codes "more than eight includes lead to the file ") name
 
 -- the name of the source with this index
@@ -99,5 +101,5 @@ abbrev pub fault_line : List Source → ReadFault → List ℕ
 fault_line sources fault = option_map_or (λ at. line_at sources at.0 at.1) (line_of fault) []
 
 abbrev pub read_said : List Source → ReadFault → List ℕ
-read_said sources (IncludeDepth s l) = depth_said (name_of sources s) (named (line_at sources s l) 0)
+read_said sources (IncludeDepth s l) = depth_said (length sources) (name_of sources s) (named (line_at sources s l) 0)
 read_said sources fault = line_said (fault_line sources fault) fault

@@ -7,10 +7,11 @@ ghost use Rattle.compose_messages.specs.Hints as hints;
 use crate::lines::{nth_line, source_line, text_or_nothing};
 use crate::tokens::{contains, is_blank, named};
 use arrayvec::ArrayVec;
-use compose_cert::CertFault;
-use compose_lex::{Said, lex_line_into};
+use compose_cert::{CertFault, RepertoireFault};
+use compose_lex::{LexFault, Said, lex_line_into};
 use compose_manifest::ManifestFault;
 use compose_read::{ReadFault, SettleFault, Sources};
+use compose_shown::Shown;
 use compose_text::{first_line, hexadecimal_number};
 use compose_tree::TableFault;
 use keysym_core::NameFault;
@@ -45,6 +46,8 @@ pub enum Hint {
     Table,
     /// The file is a table, and no certificate.
     NoCertificate,
+    /// The file is a table, and no repertoire.
+    NoRepertoire,
     /// The encoding of headers of names.
     NamesEncoding,
     /// How an include says the home folder.
@@ -96,6 +99,9 @@ impl fmt::Display for Hint {
             Hint::NoCertificate => {
                 f.write_str("composecheck: hint: this is a Compose file, and no certificate")
             }
+            Hint::NoRepertoire => {
+                f.write_str("composecheck: hint: this is a Compose file, and no repertoire")
+            }
             Hint::NamesEncoding => f.write_str(
                 "composecheck: hint: a header of names is in UTF-8; `iconv -f ENCODING -t UTF-8` converts another one",
             ),
@@ -131,6 +137,42 @@ pub fn table_hint(sources: &Sources, fault: &TableFault, are_given: bool) -> Opt
             include_hint(named(source_line(sources, *source, *line), 0))
         }
         TableFault::Settle(SettleFault::Overlap { .. }) => Some(Hint::OverlapLongest),
+        _ => None,
+    }
+}
+
+/// The hint where the table of a locale is not in UTF-8, with the locale's name.
+#[derive(Clone, Copy, Debug, PartialEq, Eq)]
+pub struct LocaleHint<'a>(pub &'a str);
+
+impl fmt::Display for LocaleHint<'_> {
+    ghost use Rattle.std.specs.Prelude.{Some};
+    ghost use Rattle.compose_messages.specs.Hints.{locale_hint};
+
+    ghost output = { λ hint. Some (locale_hint hint.0.now) };
+
+    fn fmt<W: fmt::Write>(&self, f: &mut fmt::Formatter<W>) -> fmt::Result {
+        let locale = Shown(self.0);
+        write!(
+            f,
+            "composecheck: hint: this is the table of the locale {locale}; `--locale en_US.UTF-8` takes that of another one"
+        )
+    }
+}
+
+/// The index of the source in which a line or a string is not UTF-8, if that is the fault. O(1).
+pub fn source_not_utf8(fault: &TableFault) -> Option<usize>
+    ensures { result ≡ hints.source_not_utf8 fault.now }
+{
+    match fault {
+        TableFault::Read(ReadFault::NotUtf8 { source, .. }) => Some(*source),
+        TableFault::Read(
+            ReadFault::Lex {
+                source,
+                fault: LexFault::TextNotUtf8,
+                ..
+            },
+        ) => Some(*source),
         _ => None,
     }
 }
@@ -255,6 +297,16 @@ pub fn certificate_hint(bytes: &[u8], fault: &CertFault) -> Option<Hint>
 {
     match fault {
         CertFault::NotText { .. } if has_table_line(bytes) => Some(Hint::NoCertificate),
+        _ => None,
+    }
+}
+
+/// The hint where a table was given in place of a repertoire: a line is one of a table. O(bytes).
+pub fn repertoire_hint(bytes: &[u8], fault: &RepertoireFault) -> Option<Hint>
+    ensures { result ≡ hints.repertoire_hint bytes.now fault.now }
+{
+    match fault {
+        RepertoireFault::BadLine { .. } if has_table_line(bytes) => Some(Hint::NoRepertoire),
         _ => None,
     }
 }

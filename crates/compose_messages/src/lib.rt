@@ -30,7 +30,8 @@ pub use faults::{
     socket_words, source_words,
 };
 pub use hints::{
-    Hint, certificate_hint, header_hint, include_hint, manifest_hint, name_hint, table_hint,
+    Hint, LocaleHint, certificate_hint, header_hint, include_hint, manifest_hint, name_hint,
+    repertoire_hint, source_not_utf8, table_hint,
 };
 pub use message::{FileMessage, Message};
 pub use overlap::{overlap_words, push_events};

@@ -32,9 +32,11 @@ pub fn read_message<'a>(sources: &'a Sources, fault: &ReadFault) -> Message<'a>
             "the manifest does not list the included file ",
             named(line, 0),
         ),
-        ReadFault::IncludeDepth { source, .. } => {
-            depth_message(name_of(sources, *source), named(line, 0))
-        }
+        ReadFault::IncludeDepth { source, .. } => depth_message(
+            sources.count(),
+            name_of(sources, *source),
+            named(line, 0),
+        ),
         ReadFault::TooManyLines { .. } => Message::Plain("more than 1,000,000 lines are read"),
         ReadFault::TooManyDefinitions { .. } => {
             Message::Plain("more than 100,000 sequences are defined")
@@ -50,13 +52,19 @@ fn name_of(sources: &Sources, source: usize) -> &str
     sources.name(source).unwrap_or("")
 }
 
-/// What is said where more than eight includes lead to the file of this name, and the last of them stands in the file `own`.
-fn depth_message<'a>(own: &str, name: &'a str) -> Message<'a>
-    ensures { message_text result ≡ messages.depth_said own.now name.now }
+/// What is said where more than eight includes lead to the file of this name, and the last of them stands in the file `own`, in a
+/// table of so many files. Of at most nine files one is among the ten of that way twice.
+fn depth_message<'a>(count: usize, own: &str, name: &'a str) -> Message<'a>
+    ensures { message_text result ≡ messages.depth_said count own.now name.now }
 {
     if own == name {
         Message::Quoting(
             "the includes go in a circle: this file includes itself, as ",
+            name,
+        )
+    } else if count <= 9 {
+        Message::Quoting(
+            "the includes go in a circle: more than eight lead to the file ",
             name,
         )
     } else {

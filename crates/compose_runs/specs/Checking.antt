@@ -40,7 +40,7 @@ texts_of paths = record { repertoire = paths.repertoire; certificate = paths.cer
 -- what was given to `check`
 abbrev pub given_parts : CheckFiles → CheckTexts → Option (List (List ℕ)) → GivenParts
 given_parts check texts allowed =
-    record (listed_parts check.both.names (unwrap_or allowed []) (check.both.old ∷ check.both.new ∷ [])) { repertoire = texts.repertoire.now; certificate = texts.certificate.now; certificate_text = check.certificate.items }
+    record (listed_parts check.both.names (unwrap_or allowed []) (check.both.old ∷ check.both.new ∷ [])) { repertoire = texts.repertoire.now; repertoire_text = check.repertoire.items; certificate = texts.certificate.now; certificate_text = check.certificate.items }
 
 -- the answer on these files, reported
 pub record IsCheckOutcome (verbose : Bool) (check : CheckFiles) (paths : CheckPaths) (allowed : Option (List (List ℕ))) (outcome : Outcome) : Type 0 where

@@ -61,15 +61,15 @@ pub record HasErrors (said : List ℕ) (before outcome : Outcome) : Type 0 where
   pub ended : outcome.ended ≡ before.ended
 
 -- the lines of the sequences, and on standard error a line for each text that has none
-pub record IsWaysOutcome (read : TableRead) (repertoire : List ℕ) (words : List (List ℕ)) (ways : Ways) (outcome : Outcome) : Type 0 where
+pub record IsWaysOutcome (read : TableRead) (repertoire text : List ℕ) (words : List (List ℕ)) (ways : Ways) (outcome : Outcome) : Type 0 where
   pub shown : Outcome
-  pub is_shown : IsTableOutcome false read [] repertoire (Ok (answer_by (list_all (λ is_found. is_found) ways.found.items) ways.lines)) shown
+  pub is_shown : IsTableOutcome false read [] repertoire text (Ok (answer_by (list_all (λ is_found. is_found) ways.found.items) ways.lines)) shown
   pub errors : HasErrors (missing_lines words ways.found.items) shown outcome
 
--- the same, or why nothing is answered, for people unless it is numbered; the repertoire is at this path
-abbrev pub IsHowOutcome : Bool → TableRead → List ℕ → List (List ℕ) → Result Ways Refusal → Outcome → Type 0
-IsHowOutcome numbered read repertoire words (Ok ways) outcome = IsWaysOutcome read repertoire words ways outcome
-IsHowOutcome numbered read repertoire words (Err refusal) outcome = IsTableOutcome numbered read [] repertoire (Err refusal) outcome
+-- the same, or why nothing is answered, for people unless it is numbered; the repertoire is at this path, with this text
+abbrev pub IsHowOutcome : Bool → TableRead → List ℕ → List ℕ → List (List ℕ) → Result Ways Refusal → Outcome → Type 0
+IsHowOutcome numbered read repertoire text words (Ok ways) outcome = IsWaysOutcome read repertoire text words ways outcome
+IsHowOutcome numbered read repertoire text words (Err refusal) outcome = IsTableOutcome numbered read [] repertoire text (Err refusal) outcome
 
 -- the same on the files that the folder has, in this environment, below the notes on where they lie
 pub record IsHowRun (folder : Option (List Entry)) (environment : Environment) (names : List (List ℕ)) (arguments : HowArguments) (words : List (List ℕ)) (outcome : Outcome) : Type 0 where
@@ -79,4 +79,4 @@ pub record IsHowRun (folder : Option (List Entry)) (environment : Environment) (
   pub is_repertoire : IsGivenText folder (option_copied arguments.repertoire) repertoire
   pub answered : Result Ways Refusal
   pub is : AnswersHow read arguments repertoire words answered
-  pub printed : IsHowOutcome arguments.json read (unwrap_or (option_copied arguments.repertoire) []) words answered outcome
+  pub printed : IsHowOutcome arguments.json read (unwrap_or (option_copied arguments.repertoire) []) (unwrap_or repertoire []) words answered outcome

@@ -65,4 +65,4 @@ pub record IsListRun (folder : Option (List Entry)) (environment : Environment) 
   pub is_read : IsTableRead folder environment names arguments.table read
   pub answered : Result Answer Refusal
   pub is : AnswersList arguments.next read arguments answered
-  pub printed : IsTableOutcome arguments.json read (map (λ key. key.now) arguments.prefix.items) [] answered outcome
+  pub printed : IsTableOutcome arguments.json read (map (λ key. key.now) arguments.prefix.items) [] [] answered outcome

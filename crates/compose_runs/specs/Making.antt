@@ -29,16 +29,16 @@ abbrev pub AnswersMake : Bool → Result Answer Refusal → GivenMigration → L
 AnswersMake true answered given repertoire = Gives IsAllMadeText answered (make_parts given repertoire)
 AnswersMake false answered given repertoire = Gives IsMadeText answered (make_parts given repertoire)
 
--- what was given to `make`
-abbrev pub make_given : MigrationFiles → MakeOptions → GivenParts
-make_given files making = record (parts_of files.names (map (λ name. name.now) making.fresh.now) (files.old ∷ files.new ∷ [])) { repertoire = making.repertoire.now }
+-- what was given to `make`, the text of the repertoire among it
+abbrev pub make_given : MigrationFiles → List ℕ → MakeOptions → GivenParts
+make_given files text making = record (parts_of files.names (map (λ name. name.now) making.fresh.now) (files.old ∷ files.new ∷ [])) { repertoire = making.repertoire.now; repertoire_text = text }
 
 -- the answer on these files, reported
 pub record IsMakeOutcome (verbose : Bool) (files : MigrationFiles) (repertoire : List ℕ) (making : MakeOptions) (outcome : Outcome) : Type 0 where
   pub answered : Result Answer Refusal
   pub is : AnswersMake making.all answered (migration_given files (map (λ name. name.now) making.fresh.now)) repertoire
   pub given : Given
-  pub parts : IsGiven (make_given files making) given
+  pub parts : IsGiven (make_given files repertoire making) given
   pub reported : IsReported verbose given answered outcome
 
 -- the file to which the output is written: a certificate, to the path that was given
@@ -69,7 +69,7 @@ pub record IsMakeRun (folder : Option (List Entry)) (options : Options) (paths :
 pub record IsMakeFilesOutcome (verbose : Bool) (files : MigrationFiles) (repertoire : List ℕ) (making : MakeOptions) (outcome : Outcome) : Type 0 where
   pub answered : Result Answer Refusal
   pub is : AnswersMake making.all answered (migration_given files (map (λ name. name.now) making.fresh.now)) repertoire
-  pub reported : IsFilesReport verbose files (make_given files making) answered outcome
+  pub reported : IsFilesReport verbose files (make_given files repertoire making) answered outcome
 
 -- the same on the files that the folder has, in this environment
 pub record IsMakeFilesRun (folder : Option (List Entry)) (environment : Environment) (options : Options) (pair : FilePair) (making : MakeOptions) (outcome : Outcome) : Type 0 where

@@ -44,11 +44,11 @@ abbrev pub is_refused : Result Answer Refusal → Bool
 is_refused (Ok answer) = false
 is_refused (Err refusal) = true
 
--- the answer, or each faulty line of what was given, these key names and the repertoire at this path among it, for people unless it is numbered,
--- below the notes
-pub record IsTableOutcome (numbered : Bool) (read : TableRead) (keys : List (List ℕ)) (repertoire : List ℕ) (answered : Result Answer Refusal) (outcome : Outcome) : Type 0 where
+-- the answer, or each faulty line of what was given, these key names and the repertoire at this path with this text among it, for people unless it is
+-- numbered, below the notes
+pub record IsTableOutcome (numbered : Bool) (read : TableRead) (keys : List (List ℕ)) (repertoire text : List ℕ) (answered : Result Answer Refusal) (outcome : Outcome) : Type 0 where
   pub given : Given
-  pub parts : IsGiven (record (parts_of read.names keys (read.table ∷ [])) { repertoire = repertoire }) given
+  pub parts : IsGiven (record (parts_of read.names keys (read.table ∷ [])) { repertoire = repertoire; repertoire_text = text }) given
   pub reported : Outcome
   pub is : IsWorded numbered (is_refused answered) given answered reported
   pub noted : IsNoted (string_bytes read.notes) reported outcome

@@ -46,7 +46,7 @@ pub record IsTypeFileOutcome (read : TableRead) (words : List (List ℕ)) (outco
   pub are_keys : AreWritten (names_of read.names.lines.items) words keys
   pub answered : Result Answer Refusal
   pub is : Gives IsTyped answered (type_parts read.names.lines.items keys (sources_of read.table))
-  pub reported : IsTableOutcome false read keys [] answered outcome
+  pub reported : IsTableOutcome false read keys [] [] answered outcome
 
 -- the same on the files that the folder has, in this environment
 pub record IsTypeFileRun (folder : Option (List Entry)) (environment : Environment) (names : List (List ℕ)) (arguments : TableArguments) (words : List (List ℕ)) (outcome : Outcome) : Type 0 where

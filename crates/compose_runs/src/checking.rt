@@ -219,6 +219,7 @@ fn check_report<T: ComposeTable>(
     let listed = Given::of(&check.both.names, allowed.unwrap_or(&[]), &tables);
     let given = Given {
         repertoire: texts.repertoire,
+        repertoire_text: &check.repertoire,
         certificate: texts.certificate,
         certificate_text: &check.certificate,
         ..listed

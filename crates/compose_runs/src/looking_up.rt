@@ -46,7 +46,7 @@ pub fn run_list<T: ComposeTable, F: Folder>(
 {
     let read = TableRead::read(alloc, files, environment, names, &arguments.table)?;
     let answered = list_answer::<T>(alloc, &read, arguments);
-    Ok(read.outcome::<T>(alloc, arguments.json, &arguments.prefix, "", answered)?)
+    Ok(read.outcome::<T>(alloc, arguments.json, &arguments.prefix, "", &[], answered)?)
 }
 
 /// The sequences of the table, or the keys that can follow.
@@ -180,7 +180,8 @@ pub fn run_how<T: ComposeTable, F: Folder>(
     let read = TableRead::read(alloc, files, environment, names, &arguments.table)?;
     let repertoire = read_given(alloc, files, arguments.repertoire)?;
     let answered = how_answer::<T>(alloc, &read, arguments, &repertoire, words);
-    Ok(how_outcome::<T>(alloc, read, arguments, words, answered)?)
+    let text = held_text(&repertoire);
+    Ok(how_outcome::<T>(alloc, read, arguments, text, words, answered)?)
 }
 
 /// The bytes of the file at this path, if one is given.
@@ -258,6 +259,16 @@ fn bytes_of(bytes: &Option<Vec<u8>>) -> Option<&[u8]>
     }
 }
 
+/// The bytes; none where they are not there.
+fn held_text(bytes: &Option<Vec<u8>>) -> &[u8]
+    ensures { result.now ≡ unwrap_or (option_map (λ held. held.items) bytes.now) [] }
+{
+    match bytes {
+        Some(bytes) => bytes,
+        None => &[],
+    }
+}
+
 /// The texts that these words stand for.
 fn wanted_texts(alloc: Global, words: &[&str]) -> Result<Vec<String>, AllocError>
     ensures { IfOk result
@@ -288,18 +299,21 @@ fn how_outcome<T: ComposeTable>(
     alloc: Global,
     read: TableRead<'_>,
     arguments: &HowArguments<'_>,
+    text: &[u8],
     words: &[&str],
     answered: Result<Ways, Refusal>,
 ) -> Result<Outcome, AllocError>
     ensures { IfOk result
         (λ outcome. IsHowOutcome arguments.now.json read.entry
-        (unwrap_or (option_copied arguments.now.repertoire) [])
+        (unwrap_or (option_copied arguments.now.repertoire) []) text.now
         (map (λ word. word.now) words.now) answered outcome) }
 {
     let repertoire = arguments.repertoire.unwrap_or("");
     match answered {
-        Ok(ways) => ways_outcome::<T>(alloc, read, repertoire, words, ways),
-        Err(refusal) => read.outcome::<T>(alloc, arguments.json, &[], repertoire, Err(refusal)),
+        Ok(ways) => ways_outcome::<T>(alloc, read, repertoire, text, words, ways),
+        Err(refusal) => {
+            read.outcome::<T>(alloc, arguments.json, &[], repertoire, text, Err(refusal))
+        }
     }
 }
 
@@ -308,16 +322,17 @@ fn ways_outcome<T: ComposeTable>(
     alloc: Global,
     read: TableRead<'_>,
     repertoire: &str,
+    text: &[u8],
     words: &[&str],
     ways: Ways,
 ) -> Result<Outcome, AllocError>
     ensures { IfOk result
-        (λ outcome. IsWaysOutcome read.entry repertoire.now (map (λ word. word.now) words.now) ways
-        outcome) }
+        (λ outcome. IsWaysOutcome read.entry repertoire.now text.now
+        (map (λ word. word.now) words.now) ways outcome) }
 {
     let errors = missing_lines(alloc, words, &ways.found)?;
     let answer = answer_of(ways);
-    let outcome = read.outcome::<T>(alloc, false, &[], repertoire, Ok(answer))?;
+    let outcome = read.outcome::<T>(alloc, false, &[], repertoire, text, Ok(answer))?;
     Ok(with_errors(outcome, errors))
 }
 

@@ -66,7 +66,7 @@ fn make_outcome<T: ComposeTable>(
         (λ outcome. IsMakeOutcome verbose both.now repertoire.now making.entry outcome) }
 {
     let answered = make_answer::<T>(alloc, both, repertoire, making);
-    make_report::<T>(alloc, true, verbose, both, making, answered)
+    make_report::<T>(alloc, true, verbose, both, repertoire, making, answered)
 }
 
 /// The outcome of `make` on Compose files as they lie on the system. The files of names are read first, then those of the old table, those of the
@@ -107,7 +107,7 @@ fn make_files_outcome<T: ComposeTable>(
 {
     let answered = make_answer::<T>(alloc, both, repertoire, making);
     let verbose = wants_details(verbose, &answered);
-    let printed = make_report::<T>(alloc, false, verbose, both, making, answered)?;
+    let printed = make_report::<T>(alloc, false, verbose, both, repertoire, making, answered)?;
     let notes = both.notes(alloc)?;
     Ok(printed.with_notes(notes))
 }
@@ -118,16 +118,19 @@ fn make_report<T: ComposeTable>(
     numbered: bool,
     verbose: bool,
     both: &MigrationFiles<'_>,
+    repertoire: &[u8],
     making: MakeOptions<'_>,
     answered: Result<Answer, Refusal>,
 ) -> Result<Outcome, AllocError>
     ensures { IfOk result
-        (λ outcome. IsReport numbered verbose (make_given both.now making.entry) answered outcome) }
+        (λ outcome. IsReport numbered verbose
+        (make_given both.now repertoire.now making.entry) answered outcome) }
 {
     let tables = [GivenTable::of(&both.old), GivenTable::of(&both.new)];
     let listed = Given::of(&both.names, making.fresh, &tables);
     let given = Given {
         repertoire: making.repertoire,
+        repertoire_text: repertoire,
         ..listed
     };
     worded_outcome::<T>(alloc, numbered, verbose, &given, answered)

@@ -63,25 +63,27 @@ impl<'n> TableRead<'n> {
         })
     }
 
-    /// The outcome of an answer on the table, the keys of these names and the repertoire at this path, or of why there is none, with each faulty line
-    /// of what was given, for people unless `numbered`. An empty path is that of no repertoire.
+    /// The outcome of an answer on the table, the keys of these names and the repertoire at this path with this text, or of why there is none, with
+    /// each faulty line of what was given, for people unless `numbered`. An empty path and text are those of no repertoire.
     pub(crate) fn outcome<T: ComposeTable>(
         self,
         alloc: Global,
         numbered: bool,
         key_names: &[&str],
         repertoire: &str,
+        repertoire_text: &[u8],
         answered: Result<Answer, Refusal>,
     ) -> Result<Outcome, AllocError>
         ensures { IfOk result
             (λ outcome. IsTableOutcome numbered self.entry (map (λ name. name.now) key_names.now)
-            repertoire.now answered outcome) }
+            repertoire.now repertoire_text.now answered outcome) }
     {
         let verbose = is_refused(&answered);
         let tables = [GivenTable::of(&self.table)];
         let listed = Given::of(&self.names, key_names, &tables);
         let given = Given {
             repertoire,
+            repertoire_text,
             ..listed
         };
         let outcome = worded_outcome::<T>(alloc, numbered, verbose, &given, answered)?;

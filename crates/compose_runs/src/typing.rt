@@ -90,5 +90,5 @@ fn type_file_outcome<T: ComposeTable>(
     let written = written_keys(alloc, &read.names.lines, words)?;
     let keys = borrowed(alloc, &written)?;
     let answered = type_keys::<T>(alloc, &read.names.lines, &keys, &read.table.input());
-    read.outcome::<T>(alloc, false, &keys, "", answered)
+    read.outcome::<T>(alloc, false, &keys, "", &[], answered)
 }

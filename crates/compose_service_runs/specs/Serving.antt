@@ -46,6 +46,7 @@ pub record IsKeptTable (path : List ℕ) (table : TableFiles) : Type 0 where
   pub paths : map string_bytes table.paths.items ≡ map (λ source. source.name) table.sources
   pub rule : table.rule ≡ Longest
   pub note : string_bytes table.note ≡ []
+  pub locale : table.locale ≡ None
 
 -- the table of these sources that is kept at this path, and this certificate
 pub record AreKeptParts (path : List ℕ) (sources : List Source) (certificate : List ℕ) (kept : KeptBundle) : Type 0 where
@@ -106,6 +107,7 @@ other_paths (State state) = (state.now, state.now)
 abbrev pub service_given : ServiceFiles → Served → List (List ℕ) → GivenParts
 service_given files served fresh = record (parts_of files.names fresh (files.table ∷ files.table ∷ [])) {
   repertoire = (other_paths served).0;
+  repertoire_text = files.repertoire.items;
   certificate = (other_paths served).1;
   certificate_text = files.certificate.items;
 }

@@ -241,6 +241,7 @@ fn kept_table(alloc: Global, path: String, sources: Sources) -> Result<TableFile
         sources,
         rule: Rule::Longest,
         note: String::new(alloc),
+        locale: None,
     })
 }
 
@@ -352,6 +353,7 @@ fn reported_start<T: ComposeTable>(
     let (repertoire, certificate) = other_paths(&arguments.served);
     let given = Given {
         repertoire,
+        repertoire_text: &files.repertoire,
         certificate,
         certificate_text: &files.certificate,
         ..listed

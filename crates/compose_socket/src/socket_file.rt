@@ -14,9 +14,9 @@ pub enum SocketFault {
     /// Something stands at the path that is not to be replaced.
     #[error("1 Taken")]
     Taken,
-    /// The system refused a call.
+    /// The system refused a call, and why.
     #[error("2 System")]
-    System,
+    System(io::ErrorKind),
     /// Memory was refused.
     #[error("3 NoMemory")]
     NoMemory,
@@ -27,7 +27,7 @@ impl From<io::Error> for SocketFault {
         match error.kind() {
             io::ErrorKind::OutOfMemory => SocketFault::NoMemory,
             io::ErrorKind::AlreadyExists => SocketFault::Taken,
-            _ => SocketFault::System,
+            kind => SocketFault::System(kind),
         }
     }
 }

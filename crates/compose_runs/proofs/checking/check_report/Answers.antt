@@ -9,7 +9,7 @@ use Rattle.compose_runs.proofs.checking.check_report.Goals as goal
 pub returns : goal.returns
 returns g c =
     let check = c.args.check.now in let texts = c.args.texts in let answered = c.args.answered in
-    let given = record c.of-listed.result { repertoire = texts.repertoire; certificate = texts.certificate; certificate_text = c.deref.result } in
+    let given = record c.of-listed.result { repertoire = texts.repertoire; repertoire_text = c.deref.result; certificate = texts.certificate; certificate_text = c.deref-2.result } in
     let parts = c.of-listed.ensures (check.both.old ∷ check.both.new ∷ []) (c.of.ensures, (c.of-2.ensures, tt)) in
     ok_map (IsWorded c.args.numbered c.args.verbose given answered) (IsReport c.args.numbered c.args.verbose (given_parts check texts (allowed_names c.args.allowed)) answered) c.worded_outcome.result
     (λ outcome reported. record {
@@ -20,8 +20,9 @@ returns g c =
         arguments = parts.arguments ∙ (ap (λ (l : Bor (List (Bor (List ℕ)))). map (λ name. name.now) l.now) c.unwrap_or.ensures ∙ names_or_none c.args.allowed _ refl);
         tables = parts.tables;
         repertoire = refl;
+        repertoire_text = c.deref.ensures.value;
         certificate = refl;
-        certificate_text = c.deref.ensures.value;
+        certificate_text = c.deref-2.ensures.value;
         all = parts.all;
       };
       reported = reported;

@@ -19,6 +19,7 @@ returns g c =
         arguments = parts.arguments;
         tables = parts.tables;
         repertoire = parts.repertoire;
+        repertoire_text = parts.repertoire_text;
         certificate = parts.certificate;
         certificate_text = parts.certificate_text;
         all = refl;

@@ -10,11 +10,11 @@ use Rattle.compose_runs.proofs.looking_up.how_outcome.Goals as goal
 pub returns-in-Ok : goal.returns-in-Ok
 returns-in-Ok g c =
     let r = c.ways_outcome.result in let read = c.args.read in let words = map (λ word. word.now) c.args.words.now in let given = c.args.arguments.now.repertoire in
-    subst (λ (a : Result Ways Refusal). IfOk r (IsHowOutcome c.args.arguments.now.json read (unwrap_or (option_copied given) []) words a)) (sym c.in-Ok.is)
-    (subst (λ path. IfOk r (IsWaysOutcome read path words c.in-Ok.ways)) (ap (λ (path : Bor (List ℕ)). path.now) c.unwrap_or-repertoire.ensures ∙ now_unwrap_or given _) c.ways_outcome.ensures)
+    subst (λ (a : Result Ways Refusal). IfOk r (IsHowOutcome c.args.arguments.now.json read (unwrap_or (option_copied given) []) c.args.text.now words a)) (sym c.in-Ok.is)
+    (subst (λ path. IfOk r (IsWaysOutcome read path c.args.text.now words c.in-Ok.ways)) (ap (λ (path : Bor (List ℕ)). path.now) c.unwrap_or-repertoire.ensures ∙ now_unwrap_or given _) c.ways_outcome.ensures)
 
 pub returns-in-Err : goal.returns-in-Err
 returns-in-Err g c =
     let r = c.outcome.result in let read = c.args.read in let words = map (λ word. word.now) c.args.words.now in let given = c.args.arguments.now.repertoire in
-    subst (λ (a : Result Ways Refusal). IfOk r (IsHowOutcome c.args.arguments.now.json read (unwrap_or (option_copied given) []) words a)) (sym c.in-Err.is)
-    (subst (λ path. IfOk r (IsTableOutcome c.args.arguments.now.json read [] path (Err c.in-Err.refusal))) (ap (λ (path : Bor (List ℕ)). path.now) c.unwrap_or-repertoire.ensures ∙ now_unwrap_or given _) c.outcome.ensures)
+    subst (λ (a : Result Ways Refusal). IfOk r (IsHowOutcome c.args.arguments.now.json read (unwrap_or (option_copied given) []) c.args.text.now words a)) (sym c.in-Err.is)
+    (subst (λ path. IfOk r (IsTableOutcome c.args.arguments.now.json read [] path c.args.text.now (Err c.in-Err.refusal))) (ap (λ (path : Bor (List ℕ)). path.now) c.unwrap_or-repertoire.ensures ∙ now_unwrap_or given _) c.outcome.ensures)

@@ -1,9 +1,9 @@
-use Rattle.std.proofs.Common.{rules, ◌≡◌, refl, inl, inr, map, subst}
-use Rattle.std.specs.Prelude.{Err, option_copied, option_map}
+use Rattle.std.proofs.Common.{rules, ◌≡◌, refl, inl, inr, map, subst, []}
+use Rattle.std.specs.Prelude.{Err, option_copied, option_map, unwrap_or}
 use Rattle.compose_input.specs.declared.fault.Fault.TheVariants.{NoMemory}
 use Rattle.compose_runs.proofs.Failing.{fails}
 use Rattle.compose_runs.specs.Faults.{FailsAccepted, FailsHow}
-use Rattle.compose_runs.specs.HowTo.{IsGivenText}
+use Rattle.compose_runs.specs.HowTo.{IsGivenText, IsHowOutcome}
 use Rattle.compose_runs.proofs.looking_up.run_how.Goals as goal
 
 pub returns-clause-outcome : goal.returns-clause-outcome
@@ -16,7 +16,7 @@ returns-clause-outcome g c =
       is_repertoire = subst (λ f. IsGivenText f (option_copied c.args.arguments.now.repertoire) bytes) c.in_ok-read.ensures.kept c.in_ok-repertoire.ensures.read;
       answered = c.how_answer-answered.result;
       is = c.how_answer-answered.ensures;
-      printed = c.in_ok-how_outcome.ensures;
+      printed = subst (λ t. IsHowOutcome c.args.arguments.now.json c.in_ok-read.read (unwrap_or (option_copied c.args.arguments.now.repertoire) []) t (map (λ word. word.now) c.args.words.now) c.how_answer-answered.result c.in_ok-how_outcome.field-0) c.held_text-text.ensures c.in_ok-how_outcome.ensures;
     }
 
 pub returns-in_err-read-clause-fault : goal.returns-in_err-read-clause-fault

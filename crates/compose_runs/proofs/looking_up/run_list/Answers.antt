@@ -10,5 +10,5 @@ returns-clause-outcome g c =
       is_read = c.in_ok-read.ensures.read;
       answered = answered;
       is = c.list_answer-answered.ensures;
-      printed = subst (λ (ks : List (Bor (List ℕ))). IsTableOutcome c.args.arguments.now.json c.in_ok-read.read (map (λ key. key.now) ks) [] answered c.in_ok-outcome.field-0) c.deref.ensures.value c.in_ok-outcome.ensures;
+      printed = subst (λ (ks : List (Bor (List ℕ))). IsTableOutcome c.args.arguments.now.json c.in_ok-read.read (map (λ key. key.now) ks) [] [] answered c.in_ok-outcome.field-0) c.deref.ensures.value c.in_ok-outcome.ensures;
     }

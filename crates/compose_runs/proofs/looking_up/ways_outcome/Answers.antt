@@ -9,6 +9,6 @@ returns g c =
     let shown = c.in_ok-outcome.outcome in let words = map (λ word. word.now) c.args.words.now in
     record {
       shown = shown;
-      is_shown = subst (λ a. IsTableOutcome false c.args.read [] c.args.repertoire.now (Ok a) shown) c.answer_of-answer.ensures c.in_ok-outcome.ensures;
+      is_shown = subst (λ a. IsTableOutcome false c.args.read [] c.args.repertoire.now c.args.text.now (Ok a) shown) c.answer_of-answer.ensures c.in_ok-outcome.ensures;
       errors = subst (λ e. HasErrors e shown c.with_errors.result) (c.in_ok-errors.ensures ∙ ap (missing_lines words) c.deref.ensures.value) c.with_errors.ensures;
     }

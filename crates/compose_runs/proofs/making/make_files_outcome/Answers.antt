@@ -12,7 +12,7 @@ returns g c =
       is = c.make_answer-answered.ensures;
       reported = record {
         printed = printed;
-        is = subst (λ v. IsReport false v (make_given c.args.both.now c.args.making) answered printed) c.wants_details-verbose.ensures c.in_ok-printed.ensures;
+        is = subst (λ v. IsReport false v (make_given c.args.both.now c.args.repertoire.now c.args.making) answered printed) c.wants_details-verbose.ensures c.in_ok-printed.ensures;
         noted = subst (λ notes. IsNoted notes printed c.with_notes.result) c.in_ok-notes.ensures c.with_notes.ensures;
       };
     }

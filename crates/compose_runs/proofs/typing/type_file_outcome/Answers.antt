@@ -18,7 +18,7 @@ returns g c =
     let written = map string_bytes c.in_ok-written.written.items in let keys = map now_of c.in_ok-keys.keys.items in
     let same : keys ≡ written = c.in_ok-keys.ensures ∙ ap (map string_bytes) c.deref-2.ensures.value in
     let answered = c.type_keys-answered.result in
-    ok_map (IsTableOutcome false read (map now_of c.deref-5.result.now) [] answered) (IsTypeFileOutcome read words) c.outcome.result
+    ok_map (IsTableOutcome false read (map now_of c.deref-5.result.now) [] [] answered) (IsTypeFileOutcome read words) c.outcome.result
     (λ outcome reported. record {
       keys = keys;
       are_keys = subst (AreWritten (names_of lines) words) (sym same) (subst (λ h. AreWritten (names_of h) words written) c.deref.ensures.value c.in_ok-written.ensures);
@@ -26,5 +26,5 @@ returns g c =
       is = subst (λ s. Gives IsTyped answered (type_parts lines keys s)) c.input.ensures
           (subst (λ k. Gives IsTyped answered (type_parts lines (map now_of k) (table_given c.input.result))) c.deref-4.ensures.value
           (subst (λ h. Gives IsTyped answered (type_parts h (map now_of c.deref-4.result.now) (table_given c.input.result))) c.deref-3.ensures.value c.type_keys-answered.ensures));
-      reported = subst (λ k. IsTableOutcome false read (map now_of k) [] answered outcome) c.deref-5.ensures.value reported;
+      reported = subst (λ k. IsTableOutcome false read (map now_of k) [] [] answered outcome) c.deref-5.ensures.value reported;
     }) c.outcome.ensures

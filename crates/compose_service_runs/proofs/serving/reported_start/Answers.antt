@@ -8,7 +8,7 @@ use Rattle.compose_service_runs.proofs.serving.reported_start.Goals as goal
 pub returns : goal.returns
 returns g c =
     let files = c.args.files.now in let answered = c.args.answered in let paths = c.other_paths in
-    let given = record c.of-listed.result { repertoire = paths.result.0; certificate = paths.result.1; certificate_text = c.deref.result } in
+    let given = record c.of-listed.result { repertoire = paths.result.0; repertoire_text = c.deref.result; certificate = paths.result.1; certificate_text = c.deref-2.result } in
     let parts = c.of-listed.ensures (files.table ∷ files.table ∷ []) (c.of.ensures, (c.of-2.ensures, tt)) in
     ok_map (IsReported true given answered) (IsStartReported files c.args.arguments.now.served (map (λ name. name.now) c.args.key_names.now) answered) c.outcome_of.result
     (λ outcome reported. record {
@@ -19,8 +19,9 @@ returns g c =
         arguments = parts.arguments;
         tables = parts.tables;
         repertoire = paths.ensures.repertoire;
+        repertoire_text = c.deref.ensures.value;
         certificate = paths.ensures.certificate;
-        certificate_text = c.deref.ensures.value;
+        certificate_text = c.deref-2.ensures.value;
         all = parts.all;
       };
       reported = reported;

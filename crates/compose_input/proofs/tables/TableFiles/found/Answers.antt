@@ -11,4 +11,5 @@ returns-clause-found g c = record {
   ruled = refl;
   at = c.in_ok-from_str.ensures.ok;
   note = subst (λ files. IsNote c.args.places c.args.path.now files (string_bytes c.in_ok-note.note)) c.deref.ensures.value c.in_ok-note.ensures;
+  locale = c.in_ok-locale.ensures.known;
 }

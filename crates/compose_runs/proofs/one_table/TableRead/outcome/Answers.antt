@@ -4,7 +4,7 @@ use Rattle.compose_runs.proofs.one_table.TableRead.outcome.Goals as goal
 
 pub returns : goal.returns
 returns g c =
-    let given = record c.of-listed.result { repertoire = c.args.repertoire } in let answered = c.args.answered in
+    let given = record c.of-listed.result { repertoire = c.args.repertoire; repertoire_text = c.args.repertoire_text } in let answered = c.args.answered in
     let parts = c.of-listed.ensures (c.args.self.table ∷ []) (c.of.ensures, tt) in
     record {
       given = given;
@@ -14,6 +14,7 @@ returns g c =
         arguments = parts.arguments;
         tables = parts.tables;
         repertoire = refl;
+        repertoire_text = refl;
         certificate = parts.certificate;
         certificate_text = parts.certificate_text;
         all = parts.all;
