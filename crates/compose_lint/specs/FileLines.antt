@@ -4,7 +4,7 @@ use Rattle.std.specs.List.{list_any, starts_with, zip}
 use Rattle.std.specs.Option.{option_map_or}
 use Rattle.compose_text.specs.Bytes.{is_blank}
 use Rattle.compose_read.specs.Visits.{raw_include}
-use Rattle.compose_lint.specs.Productions.{Written, production_of}
+use Rattle.compose_lint.specs.Productions.{Written, production_of, written_of}
 pub use Rattle.compose_lint.specs.Productions.{begins_string_or_comment, head_len}
 use Rattle.compose_lint.specs.Lines.{LintLine}
 
@@ -28,7 +28,7 @@ is_unended bytes = not (starts_with nat_eq (reverse bytes) (10 ∷ []))
 
 -- the line reads as a definition without the name of a result, or as an include
 abbrev pub ends_in_string : List ℕ → Bool
-ends_in_string line = option_map_or (λ p. not (is_some p.name)) (production_of line) false || is_some (raw_include line)
+ends_in_string line = option_map_or (λ p. not (is_some p.name)) (written_of line) false || is_some (raw_include line)
 
 -- the last line, without a newline: libxkbcommon skips it, unless the name of a result stands in it
 abbrev pub is_without_newline : List ℕ → ℕ → LintLine → Bool

@@ -4,11 +4,11 @@ ghost use Rattle.std.specs.List.{list_any};
 ghost use Rattle.std.specs.Option.{option_map_or};
 ghost use Rattle.compose_text.specs.Bytes.{is_blank};
 ghost use Rattle.compose_read.specs.Visits.{raw_include};
-ghost use Rattle.compose_lint.specs.Productions.{production_of};
+ghost use Rattle.compose_lint.specs.Productions.{written_of};
 ghost use Rattle.compose_lint.specs.FileLines as words;
 
 use crate::lines::LintLine;
-use crate::production::{Production, production_of};
+use crate::production::{Written, production_of};
 use arrayvec::ArrayVec;
 use compose_lex::{Said, lex_line_into};
 
@@ -68,10 +68,10 @@ fn ends_in_string(line: &[u8]) -> bool
 /// Whether the line reads as a definition without the name of a result.
 fn is_nameless(line: &[u8]) -> bool
     ensures { result
-        ≡ option_map_or (λ p. not (is_some p.name)) (production_of line.now) false }
+        ≡ option_map_or (λ p. not (is_some p.name)) (written_of line.now) false }
 {
     match production_of(line) {
-        Some(production) => production.result_name().is_none(),
+        Some(production) => production.written.result_name().is_none(),
         None => false,
     }
 }
@@ -157,13 +157,13 @@ fn has_return_after(line: &[u8], raw: &str) -> bool
 }
 
 /// Whether a carriage return stands outside of the string and the comment. O(bytes).
-pub(crate) fn has_return(line: &[u8], production: &Production<'_>) -> bool
-    ensures { result ≡ words.has_return line.now production.now }
+pub(crate) fn has_return(line: &[u8], written: &Written<'_>) -> bool
+    ensures { result ≡ words.has_return line.now written.now }
 {
     if has_return_before(line) {
         return true;
     }
-    match production.raw_text() {
+    match written.raw_text() {
         Some(raw) => has_return_after(line, raw),
         None => false,
     }
