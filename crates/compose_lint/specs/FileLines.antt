@@ -65,3 +65,8 @@ is_spaced p = (p.0 == 60 && is_blank p.1) || (is_blank p.0 && p.1 == 62)
 -- a blank beside the name of a key: libxkbcommon skips the line
 abbrev pub has_spaced_name : List ℕ → Bool
 has_spaced_name line = list_any is_spaced (zip (take (head_len line) line) (drop 1 (take (head_len line) line)))
+
+-- the same in words for private functions: of these bytes, which follow this one
+abbrev pub has_spaced_name_after : ℕ → List ℕ → Bool
+has_spaced_name_after before [] = false
+has_spaced_name_after before (b ∷ line) = not (begins_string_or_comment b) && (is_spaced (before, b) || has_spaced_name_after b line)
