@@ -1,11 +1,12 @@
 -- Blanks beside the names of keys, looked for byte by byte; and a line without a carriage return.
 use Rattle.std.proofs.Common.{◌≡◌, ◌∙◌, ℕ, suc, ◌+◌, List, [], ◌∷◌, Bool, true, false, cond, not, ◌&&◌, ◌||◌, length, take, drop, refl, sym, ap, arith}
-use Rattle.std.specs.Prelude.{Option, Some, None, nat_lt, ◌==◌, position, take_while, unwrap_or}
+use Rattle.std.specs.Prelude.{Option, Some, None, nat_lt, ◌==◌, is_some, position, take_while, unwrap_or}
 use Rattle.std.specs.List.{list_any, zip, position_or_len}
 use Rattle.std.specs.Option.{option_map_or}
+use Rattle.compose_read.specs.Visits.{raw_include}
 use Rattle.memchr.specs.Find.{Nowhere, Passes, is_byte}
 use Rattle.compose_lint.specs.Productions.{Written}
-use Rattle.compose_lint.specs.FileLines.{begins_string_or_comment, head_len, is_spaced, has_spaced_name, has_spaced_name_after, has_return, tail}
+use Rattle.compose_lint.specs.FileLines.{begins_string_or_comment, head_len, is_spaced, has_spaced_name, has_spaced_name_after, has_return, has_return_in_include, tail}
 
 -- ---- blanks beside names
 
@@ -95,3 +96,11 @@ no_return line p h =
     by : (raw : Option (List ℕ)) → option_map_or (λ raw. list_any is_return (tail line raw)) raw false ≡ false
     by None = refl
     by (Some raw) = any_while (λ b. not (b == 35)) (drop (length raw) (drop 2 (drop (head_len line) line))) (any_rest (length raw) _ (any_rest 2 _ (any_rest (head_len line) line (none_there line h))))
+
+-- nor before the string of an include
+pub no_return_in_include : (line : List ℕ) → Nowhere (Passes (is_byte 13) line) 0 (length line) → has_return_in_include line ≡ false
+no_return_in_include line h = ap (λ t. is_some (raw_include line) && t) (any_first (head_len line) line (none_there line h)) ∙ by (is_some (raw_include line))
+  where
+    by : (b : Bool) → (b && false) ≡ false
+    by true = refl
+    by false = refl

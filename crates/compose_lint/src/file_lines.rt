@@ -180,6 +180,16 @@ fn has_return_outside(line: &[u8], written: &Written<'_>) -> bool
     }
 }
 
+/// Whether the line is an include with a carriage return before its string. O(bytes).
+pub(crate) fn has_return_in_include(line: &[u8]) -> bool
+    ensures { result ≡ words.has_return_in_include line.now }
+{
+    match memchr(b'\r', line) {
+        Some(_) => raw_include(line).is_some() && has_return_before(line),
+        None => false,
+    }
+}
+
 /// Whether these bytes are `<` and a blank, or a blank and `>`.
 fn is_spaced(first: u8, second: u8) -> bool
     ensures { result ≡ words.is_spaced (first, second) }
