@@ -16,8 +16,8 @@ use Rattle.compose_read.specs.Lines.{Source, Visit, source_named, max_depth}
 use Rattle.compose_read.specs.Read.{at_line, event_keysym, sequence_of, string_text, result_text, definition_of, said, line_gives}
 use Rattle.compose_read.specs.declared.ReadFault.{ReadFault}
 use Rattle.compose_read.specs.declared.ReadFault.TheVariants.{NotUtf8, UnknownKeysym, IgnoredKeysym, MissingInclude, IncludeDepth}
-use Rattle.compose_lint.specs.Productions.{parts_of, production_of, fed_sequence, string_given, name_given, definition_given}
-use Rattle.compose_lint.specs.Lines.{definition_in}
+use Rattle.compose_lint.specs.Productions.{parts_of, production_of, written_of, comment_of, fed_sequence, string_given, name_given, definition_given}
+use Rattle.compose_lint.specs.Lines.{LintLine, definition_in, lint_line, line_read}
 
 module _ (names : KeysymNames) (sources : List Source) (v : Visit) where
   -- the keysyms of the keys
@@ -78,7 +78,7 @@ module _ (names : KeysymNames) (sources : List Source) (v : Visit) where
   chain_is (Ok s) (Ok (Some t)) (Ok other) = refl
 
   production_is : (events : List (List ℕ)) (raw name : Option (List ℕ))
-      → definition_in (definition_of names v events raw name >>= (λ d. let x : Result (Option Definition) ReadFault = Ok (Some d) in x)) ≡ definition_given names (record { events = events; raw = raw; name = name })
+      → definition_in (definition_of names v events raw name >>= (λ d. let x : Result (Option Definition) ReadFault = Ok (Some d) in x)) ≡ definition_given names (record { events = events; written = record { raw = raw; name = name } })
   production_is events raw name =
       chain_is (sequence_of names v 0 events) (string_text v raw) (result_text names v (length events) name)
       ∙ ap (λ o. chained o (result_ok (string_text v raw)) (result_ok (result_text names v (length events) name))) (sequence_is 0 events)
@@ -104,3 +104,8 @@ module _ (names : KeysymNames) (sources : List Source) (v : Visit) where
           ≡ option_and_then (definition_given names) (cond b (parts_of (reading_of v.bytes)) None)
       by true = reading_is (reading_of v.bytes)
       by false = refl
+
+  -- the line is the same by itself
+  pub read_is : lint_line names sources v ≡ line_read names v.source v.line v.bytes
+  read_is =
+      ap (λ (d : Option Definition). let l : LintLine = record { source = v.source; line = v.line; bytes = v.bytes; written = written_of v.bytes; definition = d; comment = comment_of v.bytes } in l) given_is

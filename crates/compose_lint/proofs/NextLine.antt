@@ -4,12 +4,10 @@ use Rattle.std.specs.Prelude.{Option, Some, slice_get}
 use Rattle.std.specs.Option.{option_map}
 use Rattle.std.proofs.lemmas.Option.{slice_get-get_or, same_Some}
 use Rattle.keysym_core.specs.Names.{KeysymNames}
-use Rattle.compose_model.specs.Table.{Definition}
 use Rattle.compose_text.specs.Lines.{lines_of}
 use Rattle.compose_read.specs.Lines.{Source, numbered, source_lines, without_mark}
-use Rattle.compose_read.specs.Read.{line_gives}
-use Rattle.compose_lint.specs.Productions.{comment_of}
-use Rattle.compose_lint.specs.Lines.{LintLine, definition_in, lint_line, lines_in}
+use Rattle.compose_lint.specs.Lines.{LintLine, lint_line, line_read, lines_in}
+use Rattle.compose_lint.proofs.Given.{read_is}
 
 no_source : Source
 no_source = record { name = []; bytes = [] }
@@ -25,16 +23,16 @@ module _ (names : KeysymNames) (sources : List Source) (source : ℕ) where
       (ap (option_map (λ (s : Source). s.bytes)) (sym (slice_get-get_or sources source (record { name = []; bytes = [] }) within)) ∙ is)))
 
   -- one line further
-  pub next_line : (line : ℕ) (bytes rest behind : List ℕ) (d : Option Definition) (e : Option (List ℕ)) (found after whole : List LintLine) → lines_of rest ≡ bytes ∷ lines_of behind
-      → d ≡ definition_in (line_gives names sources (record { source = source; line = line + 1; bytes = bytes; depth = 0 })) → e ≡ comment_of bytes
-      → after ≡ found ++ record { source = source; line = line + 1; bytes = bytes; definition = d; comment = e } ∷ []
+  pub next_line : (line : ℕ) (bytes rest behind : List ℕ) (l : LintLine) (found after whole : List LintLine) → lines_of rest ≡ bytes ∷ lines_of behind
+      → l ≡ line_read names source (line + 1) bytes → after ≡ found ++ l ∷ []
       → found ++ map (lint_line names sources) (numbered source 0 (1 + line) (lines_of rest)) ≡ whole
       → after ++ map (lint_line names sources) (numbered source 0 (1 + (line + 1)) (lines_of behind)) ≡ whole
-  next_line line bytes rest behind d e found after whole parted given said pushed before =
+  next_line line bytes rest behind l found after whole parted given pushed before =
       let one : line + 1 ≡ 1 + line = omega arith in
       ap (λ ls. ls ++ map (lint_line names sources) (numbered source 0 (1 + (line + 1)) (lines_of behind))) pushed
-      ∙ append_assoc found (record { source = source; line = line + 1; bytes = bytes; definition = d; comment = e } ∷ []) (map (lint_line names sources) (numbered source 0 (1 + (line + 1)) (lines_of behind)))
-      ∙ ap₂ (λ x y. found ++ record { source = source; line = line + 1; bytes = bytes; definition = x; comment = y } ∷ map (lint_line names sources) (numbered source 0 (1 + (line + 1)) (lines_of behind))) given said
+      ∙ append_assoc found (l ∷ []) (map (lint_line names sources) (numbered source 0 (1 + (line + 1)) (lines_of behind)))
+      ∙ ap (λ x. found ++ x ∷ map (lint_line names sources) (numbered source 0 (1 + (line + 1)) (lines_of behind)))
+      (given ∙ sym (read_is names sources (record { source = source; line = line + 1; bytes = bytes; depth = 0 })))
       ∙ ap (λ n. found ++ map (lint_line names sources) (numbered source 0 n (bytes ∷ lines_of behind))) one
       ∙ ap (λ ls. found ++ map (lint_line names sources) (numbered source 0 (1 + line) ls)) (sym parted)
       ∙ before

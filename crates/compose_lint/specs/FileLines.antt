@@ -4,7 +4,7 @@ use Rattle.std.specs.List.{list_any, starts_with, zip}
 use Rattle.std.specs.Option.{option_map_or}
 use Rattle.compose_text.specs.Bytes.{is_blank}
 use Rattle.compose_read.specs.Visits.{raw_include}
-use Rattle.compose_lint.specs.Productions.{Written, production_of}
+use Rattle.compose_lint.specs.Productions.{Written, production_of, written_of}
 pub use Rattle.compose_lint.specs.Productions.{begins_string_or_comment, head_len}
 use Rattle.compose_lint.specs.Lines.{LintLine}
 
@@ -28,7 +28,7 @@ is_unended bytes = not (starts_with nat_eq (reverse bytes) (10 ∷ []))
 
 -- the line reads as a definition without the name of a result, or as an include
 abbrev pub ends_in_string : List ℕ → Bool
-ends_in_string line = option_map_or (λ p. not (is_some p.name)) (production_of line) false || is_some (raw_include line)
+ends_in_string line = option_map_or (λ p. not (is_some p.name)) (written_of line) false || is_some (raw_include line)
 
 -- the last line, without a newline: libxkbcommon skips it, unless the name of a result stands in it
 abbrev pub is_without_newline : List ℕ → ℕ → LintLine → Bool
@@ -58,6 +58,10 @@ tail line raw = take_while (λ b. not (b == 35)) (drop (length raw) (drop 2 (dro
 abbrev pub has_return : List ℕ → Written → Bool
 has_return line p = list_any (λ b. b == 13) (take (head_len line) line) || option_map_or (λ raw. list_any (λ b. b == 13) (tail line raw)) p.raw false
 
+-- a carriage return before the string of an include: libX11 skips the line
+abbrev pub has_return_in_include : List ℕ → Bool
+has_return_in_include line = is_some (raw_include line) && list_any (λ b. b == 13) (take (head_len line) line)
+
 -- a blank after `<` (code 60) or before `>` (code 62)
 abbrev pub is_spaced : ℕ × ℕ → Bool
 is_spaced p = (p.0 == 60 && is_blank p.1) || (is_blank p.0 && p.1 == 62)
@@ -65,3 +69,8 @@ is_spaced p = (p.0 == 60 && is_blank p.1) || (is_blank p.0 && p.1 == 62)
 -- a blank beside the name of a key: libxkbcommon skips the line
 abbrev pub has_spaced_name : List ℕ → Bool
 has_spaced_name line = list_any is_spaced (zip (take (head_len line) line) (drop 1 (take (head_len line) line)))
+
+-- the same in words for private functions: of these bytes, which follow this one
+abbrev pub has_spaced_name_after : ℕ → List ℕ → Bool
+has_spaced_name_after before [] = false
+has_spaced_name_after before (b ∷ line) = not (begins_string_or_comment b) && (is_spaced (before, b) || has_spaced_name_after b line)

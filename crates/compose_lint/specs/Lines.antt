@@ -1,18 +1,19 @@
 -- The lines of the sources, each once, and the definition that each of them gives.
 use Rattle.std.specs.Prelude.{ℕ, Bool, not, ◌+◌, ◌==◌, nat_lt, if◌then◌else◌, List, [], ◌∷◌, length, take, map, filter, flat_map, slice_get, Option, None, Result, Ok, Err}
-use Rattle.std.specs.Option.{option_map_or}
+use Rattle.std.specs.Option.{option_map_or, option_and_then}
 use Rattle.keysym_core.specs.Names.{KeysymNames}
 use Rattle.compose_model.specs.Table.{Definition}
 use Rattle.compose_read.specs.Lines.{Source, Visit, own_lines, source_named, visits}
 use Rattle.compose_read.specs.Read.{line_gives, max_lines}
 use Rattle.compose_read.specs.declared.ReadFault.{ReadFault}
-use Rattle.compose_lint.specs.Productions.{comment_of}
+use Rattle.compose_lint.specs.Productions.{Written, comment_of, definition_given, production_of, written_of}
 
--- a line: the index of its source, its number from 1, its bytes, the definition that it gives, and the comment beside its string
+-- a line: the index of its source, its number from 1, its bytes, what it writes for a text, the definition that it gives, and the comment beside its string
 pub record LintLine : Type 0 where
   pub source : ℕ
   pub line : ℕ
   pub bytes : List ℕ
+  pub written : Option Written
   pub definition : Option Definition
   pub comment : Option (List ℕ)
 
@@ -22,7 +23,11 @@ definition_in (Ok definition) = definition
 definition_in (Err fault) = None
 
 abbrev pub lint_line : KeysymNames → List Source → Visit → LintLine
-lint_line names sources v = record { source = v.source; line = v.line; bytes = v.bytes; definition = definition_in (line_gives names sources v); comment = comment_of v.bytes }
+lint_line names sources v = record { source = v.source; line = v.line; bytes = v.bytes; written = written_of v.bytes; definition = definition_in (line_gives names sources v); comment = comment_of v.bytes }
+
+-- the same by itself, in words for private functions
+abbrev pub line_read : KeysymNames → ℕ → ℕ → List ℕ → LintLine
+line_read names source line bytes = record { source = source; line = line; bytes = bytes; written = written_of bytes; definition = option_and_then (definition_given names) (production_of bytes); comment = comment_of bytes }
 
 -- the lines of a source
 abbrev pub lines_in : KeysymNames → List Source → ℕ → List LintLine

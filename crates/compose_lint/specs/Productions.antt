@@ -11,19 +11,27 @@ use Rattle.compose_lex.specs.Fault.{reading_of}
 use Rattle.compose_lex.specs.Escape.{text_of}
 use Rattle.compose_lex.specs.declared.LexFault.{LexFault}
 
--- the names of the keys, what stands between the quotes of the string, and the name of the result keysym
+-- what stands between the quotes of the string, and the name of the result keysym
 pub record Written : Type 0 where
-  pub events : List (List ℕ)
   pub raw : Option (List ℕ)
   pub name : Option (List ℕ)
 
-abbrev pub parts_of : Result Reading LexFault → Option Written
-parts_of (Ok (production events raw name)) = Some (record { events = events; raw = raw; name = name })
+-- the names of the keys, and what is written for their text
+pub record Production : Type 0 where
+  pub events : List (List ℕ)
+  pub written : Written
+
+abbrev pub parts_of : Result Reading LexFault → Option Production
+parts_of (Ok (production events raw name)) = Some (record { events = events; written = record { raw = raw; name = name } })
 parts_of _ = None
 
 -- what the line writes, if it is a text and reads as a production
-abbrev pub production_of : List ℕ → Option Written
+abbrev pub production_of : List ℕ → Option Production
 production_of line = if is_utf8 line then parts_of (reading_of line) else None
+
+-- what it writes for the text of its keys
+abbrev pub written_of : List ℕ → Option Written
+written_of line = option_map (λ p. p.written) (production_of line)
 
 -- ---- where the parts of a line stand
 
@@ -47,9 +55,13 @@ trimmed bytes = if is_utf8 bytes then Some (trim bytes) else None
 abbrev pub comment_in : List ℕ → Option (List ℕ)
 comment_in bytes = option_and_then (λ i. trimmed (drop 1 (drop i bytes))) (position (λ b. b == 35) bytes)
 
+-- the comment beside the string of a line, if this is what the line writes
+abbrev pub comment_beside : List ℕ → Option Written → Option (List ℕ)
+comment_beside line written = option_and_then (λ p. option_and_then (λ raw. comment_in (behind_string line raw)) p.raw) written
+
 -- the comment of a line with a string
 abbrev pub comment_of : List ℕ → Option (List ℕ)
-comment_of line = option_and_then (λ p. option_and_then (λ raw. comment_in (behind_string line raw)) p.raw) (production_of line)
+comment_of line = comment_beside line (written_of line)
 
 -- ---- words for private functions
 
@@ -76,5 +88,5 @@ name_given names (Some name) = option_map (text names) (value names name)
 abbrev pub text_given : KeysymNames → Option (List ℕ) → Option (List ℕ) → Option (List ℕ)
 text_given names raw name = option_and_then (λ string. option_map (λ other. unwrap_or string other) (name_given names name)) (string_given raw)
 
-abbrev pub definition_given : KeysymNames → Written → Option Definition
-definition_given names p = option_and_then (λ s. option_map (λ t. record { sequence = s; text = t }) (text_given names p.raw p.name)) (fed_sequence names p.events)
+abbrev pub definition_given : KeysymNames → Production → Option Definition
+definition_given names p = option_and_then (λ s. option_map (λ t. record { sequence = s; text = t }) (text_given names p.written.raw p.written.name)) (fed_sequence names p.events)

@@ -5,7 +5,7 @@ ghost use Rattle.compose_text.specs.Bytes.{begins};
 ghost use Rattle.compose_lint.specs.Readers as words;
 
 use crate::definition::LineDefinition;
-use crate::production::Production;
+use crate::production::Written;
 
 /// Whether the sequence has ten keysyms or more. O(1).
 pub(crate) fn has_ten_keysyms(definition: &LineDefinition) -> bool
@@ -56,10 +56,10 @@ pub(crate) fn has_wide_keysym(definition: &LineDefinition) -> bool
 }
 
 /// Whether the name of the result begins with a digit. O(1).
-pub(crate) fn has_digit_name(production: &Production<'_>) -> bool
-    ensures { result ≡ words.has_digit_name production.now }
+pub(crate) fn has_digit_name(written: &Written<'_>) -> bool
+    ensures { result ≡ words.has_digit_name written.now }
 {
-    match production.result_name() {
+    match written.result_name() {
         Some(name) => begins_with_digit(name.as_bytes()),
         None => false,
     }
@@ -76,17 +76,17 @@ fn begins_with_digit(name: &[u8]) -> bool
 }
 
 /// Whether there is no string. O(1).
-pub(crate) fn has_no_string(production: &Production<'_>) -> bool
-    ensures { result ≡ words.has_no_string production.now }
+pub(crate) fn has_no_string(written: &Written<'_>) -> bool
+    ensures { result ≡ words.has_no_string written.now }
 {
-    production.raw_text().is_none()
+    written.raw_text().is_none()
 }
 
 /// Whether the string has the escape of a letter. O(bytes).
-pub(crate) fn has_letter_escape(production: &Production<'_>) -> bool
-    ensures { result ≡ words.has_letter_escape production.now }
+pub(crate) fn has_letter_escape(written: &Written<'_>) -> bool
+    ensures { result ≡ words.has_letter_escape written.now }
 {
-    match production.raw_text() {
+    match written.raw_text() {
         Some(raw) => has_letter_escape_in(raw.as_bytes()),
         None => false,
     }

@@ -3,15 +3,14 @@ ghost use Rattle.std.specs.Prelude.{◌≡◌, ◌==◌, drop, position, option_
 ghost use Rattle.compose_lint.specs.Productions as words;
 
 use crate::file_lines::head_len;
-use crate::production::production_of;
+use crate::production::Written;
 
-/// The comment of a line with a string, if it has one: what follows the first `#` that
-/// follows the string, without white space at its ends. O(bytes).
-pub(crate) fn comment_of(line: &[u8]) -> Option<&[u8]>
-    ensures { option_copied result ≡ words.comment_of line.now }
+/// The comment of a line with a string, if it has one and this is what it writes: what follows the
+/// first `#` that follows the string, without white space at its ends. O(bytes).
+pub(crate) fn comment_beside<'a>(line: &'a [u8], written: Option<&Written<'_>>) -> Option<&'a str>
+    ensures { option_copied result ≡ words.comment_beside line.now (option_copied written.entry) }
 {
-    let production = production_of(line)?;
-    comment_in(behind_string(line, production.raw_text()?))
+    comment_in(behind_string(line, written?.raw_text()?))
 }
 
 /// What follows the string with this raw text. O(bytes).
@@ -32,7 +31,7 @@ pub(crate) fn behind(bytes: &[u8], count: usize) -> &[u8]
 }
 
 /// What follows the first `#` of these bytes, if there is one.
-fn comment_in(bytes: &[u8]) -> Option<&[u8]>
+fn comment_in(bytes: &[u8]) -> Option<&str>
     ensures { option_copied result ≡ words.comment_in bytes.now }
 {
     match comment_at(bytes) {
@@ -49,11 +48,11 @@ fn comment_at(bytes: &[u8]) -> Option<usize>
 }
 
 /// The bytes as a text without white space at its ends, if they are one.
-fn trimmed(bytes: &[u8]) -> Option<&[u8]>
+fn trimmed(bytes: &[u8]) -> Option<&str>
     ensures { option_copied result ≡ words.trimmed bytes.now }
 {
     match str::from_utf8(bytes) {
-        Ok(text) => Some(text.trim().as_bytes()),
+        Ok(text) => Some(text.trim()),
         Err(_) => None,
     }
 }

@@ -19,7 +19,7 @@ fn commented<'a>(line: &'a LintLine<'_>) -> Option<Note<'a>>
     let definition = line.definition()?;
     Some(Note {
         key: comment,
-        value: definition.text().as_bytes(),
+        value: definition.text(),
     })
 }
 

@@ -11,8 +11,8 @@ use std::marker::Model;
 /// A key, and the value that stands beside it.
 #[derive(Drop)]
 pub(crate) struct Note<'a> {
-    pub(crate) key: &'a [u8],
-    pub(crate) value: &'a [u8],
+    pub(crate) key: &'a str,
+    pub(crate) value: &'a str,
 }
 
 impl<'a> Model for Note<'a> {
@@ -26,13 +26,13 @@ impl<'a> Model for Note<'a> {
 impl<'a> Note<'a> {
     ghost use Rattle.std.specs.Prelude.{◌≡◌};
 
-    pub(crate) fn key(&self) -> &'a [u8]
+    pub(crate) fn key(&self) -> &'a str
         ensures { result.now ≡ self.now.key }
     {
         self.key
     }
 
-    pub(crate) fn value(&self) -> &'a [u8]
+    pub(crate) fn value(&self) -> &'a str
         ensures { result.now ≡ self.now.value }
     {
         self.value
@@ -40,16 +40,16 @@ impl<'a> Note<'a> {
 }
 
 /// How often each value stands beside each key.
-type Counts<'a> = IndexMap<(&'a [u8], &'a [u8]), usize>;
+type Counts<'a> = IndexMap<(&'a str, &'a str), usize>;
 
 /// For each key the value that stands most often beside it.
-pub(crate) type Leaders<'a> = IndexMap<&'a [u8], Leader<'a>>;
+pub(crate) type Leaders<'a> = IndexMap<&'a str, Leader<'a>>;
 
 /// The first value that stands as often as any beside a key, how often it does, and whether another
 /// does as well.
 #[derive(Drop)]
 pub(crate) struct Leader<'a> {
-    value: &'a [u8],
+    value: &'a str,
     count: usize,
     is_tied: bool,
 }
@@ -76,7 +76,7 @@ fn counts<'a>(alloc: Global, notes: &[Note<'a>]) -> Result<Counts<'a>, AllocErro
 }
 
 /// The leader, as a value is looked at that stands so often beside the key.
-fn next_leader<'a>(leader: Option<&Leader<'a>>, value: &'a [u8], count: usize) -> Leader<'a>
+fn next_leader<'a>(leader: Option<&Leader<'a>>, value: &'a str, count: usize) -> Leader<'a>
     ensures { result ≡ words.next_leading (option_copied leader.entry) value.now count }
 {
     let Some(leader) = leader else {
@@ -118,7 +118,7 @@ pub(crate) fn leaders<'a>(alloc: Global, notes: &[Note<'a>]) -> Result<Leaders<'
 
 /// Whether another value than this one stands more often beside the key than any other, where these
 /// are the leaders of some notes. O(bytes of the key and the value).
-pub(crate) fn has_other(leaders: &Leaders<'_>, key: &[u8], value: &[u8]) -> bool
+pub(crate) fn has_other(leaders: &Leaders<'_>, key: &str, value: &str) -> bool
     ensures { (notes : List words.Note)
         → ((k : Bor (List ℕ))
         → words.IsLed (words.times notes k.now) k.now notes
@@ -129,7 +129,7 @@ pub(crate) fn has_other(leaders: &Leaders<'_>, key: &[u8], value: &[u8]) -> bool
 }
 
 /// Whether the leader is another value than this one, and no other stands as often.
-fn leads_other(leader: Option<&Leader<'_>>, value: &[u8]) -> bool
+fn leads_other(leader: Option<&Leader<'_>>, value: &str) -> bool
     ensures { result ≡ words.leads_other value.now (option_copied leader.entry) }
 {
     match leader {

@@ -1,15 +1,12 @@
 //! The definition that a line gives.
-ghost use Rattle.std.specs.Prelude.{◌≡◌, ◌++◌, List, map, length, Some, IfOk, option_copied, string_bytes};
-ghost use Rattle.std.specs.Option.{option_map};
+ghost use Rattle.std.specs.Prelude.{◌≡◌, ◌++◌, map, length, Some, IfOk, option_copied, string_bytes};
+ghost use Rattle.std.specs.Option.{option_map, option_and_then};
 ghost use Rattle.std.specs.Result.{result_ok};
 ghost use Rattle.keysym_core.specs.Names.{text};
 ghost use Rattle.compose_lex.specs.Escape.{text_of};
-ghost use Rattle.compose_read.specs.Lines.{Source, Visit};
-ghost use Rattle.compose_read.specs.Read.{line_gives};
 ghost use Rattle.compose_lint.specs.Productions as words;
-ghost use Rattle.compose_lint.specs.Lines.{definition_in};
 
-use crate::production::{Production, production_of};
+use crate::production::Production;
 use compose_lex::{LexFault, unescape};
 use keysym_core::{Keysym, Names};
 use std::alloc::{AllocError, Global};
@@ -47,17 +44,18 @@ impl LineDefinition {
     }
 }
 
-/// The definition that a line gives; a faulty line gives none. O(bytes).
+/// The definition that a line gives, if this is what it writes; a faulty line gives none. O(bytes).
 pub(crate) fn line_definition(
     alloc: Global,
     names: &Names,
-    line: &[u8],
+    production: Option<&Production<'_>>,
 ) -> Result<Option<LineDefinition>, AllocError>
-    ensures { (sources : List Source) (v : Visit) → v.bytes ≡ line.now
-        → IfOk result (λ d. d ≡ definition_in (line_gives names.now sources v)) }
+    ensures { IfOk result
+        (λ d. d
+        ≡ option_and_then (words.definition_given names.now) (option_copied production.entry)) }
 {
-    match production_of(line) {
-        Some(production) => definition_given(alloc, names, &production),
+    match production {
+        Some(production) => definition_given(alloc, names, production),
         None => Ok(None),
     }
 }
@@ -73,7 +71,12 @@ fn definition_given(
     let Some(sequence) = fed_sequence(alloc, names, &production.events)? else {
         return Ok(None);
     };
-    match text_given(alloc, names, production.raw_text, production.result_name)? {
+    match text_given(
+        alloc,
+        names,
+        production.written.raw_text,
+        production.written.result_name,
+    )? {
         Some(text) => Ok(Some(LineDefinition { sequence, text })),
         None => Ok(None),
     }

@@ -5,9 +5,7 @@ ghost use Rattle.compose_read.specs.Read.{max_lines};
 ghost use Rattle.compose_read.specs.Visits.{visit_of};
 ghost use Rattle.compose_lint.specs.Lines.{included_lines, lint_line};
 
-use crate::comment::comment_of;
-use crate::definition::line_definition;
-use crate::lines::LintLine;
+use crate::lines::{LintLine, line_read};
 use compose_read::{Sources, VisitedLine, Visits};
 use keysym_core::Names;
 use std::alloc::{AllocError, Global};
@@ -70,11 +68,5 @@ fn visited_line<'a>(
 ) -> Result<LintLine<'a>, AllocError>
     ensures { IfOk result (λ l. l ≡ lint_line names.now _sources.now (visit_of line.entry)) }
 {
-    Ok(LintLine {
-        source: line.source,
-        line: line.line,
-        bytes: line.bytes,
-        definition: line_definition(alloc, names, line.bytes)?,
-        comment: comment_of(line.bytes),
-    })
+    line_read(alloc, names, line.source, line.line, line.bytes)
 }

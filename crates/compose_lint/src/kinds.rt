@@ -4,7 +4,6 @@ ghost use Rattle.std.specs.Borrow.{Bor};
 ghost use Rattle.std.specs.Option.{option_and_then};
 ghost use Rattle.indexmap.specs.IndexMap.{get_by};
 ghost use Rattle.compose_lint.specs.Counting.{last_defining};
-ghost use Rattle.compose_lint.specs.Productions.{production_of};
 ghost use Rattle.compose_lint.specs.Lines.{all_lines};
 ghost use Rattle.compose_lint.specs.Longer.{longer_place};
 ghost use Rattle.compose_lint.specs.Comments.{comments_in, turned};
@@ -21,12 +20,13 @@ use crate::counting::{LastLines, last_lines};
 use crate::definition::LineDefinition;
 use crate::faults::push_fault_kinds;
 use crate::file_lines::{
-    has_return, has_spaced_name, is_after_mark, is_joined, is_without_newline,
+    has_return, has_return_in_include, has_spaced_name, is_after_mark, is_joined,
+    is_without_newline,
 };
 use crate::finding::{Finding, Kind};
 use crate::lines::LintLine;
 use crate::longer::LongerPlaces;
-use crate::production::Production;
+use crate::production::Written;
 use crate::reader::{Class, Reader, Readers};
 use crate::source_lines::SourceLines;
 use crate::texts::{has_other_character, is_normal, repeats_mark};
@@ -117,14 +117,14 @@ fn push_text_kinds(
     alloc: Global,
     names: &Names,
     kinds: &mut Vec<Kind>,
-    production: &Production<'_>,
+    written: &Written<'_>,
     definition: &LineDefinition,
 ) -> Result<(), AllocError>
     ensures { OnOk result
         (kinds.new.items
-        ≡ kinds.old.items ++ words.text_kinds names.now production.now definition.now) }
+        ≡ kinds.old.items ++ words.text_kinds names.now written.now definition.now) }
 {
-    let is_other = has_other_character(names, production, definition);
+    let is_other = has_other_character(names, written, definition);
     push_when(kinds, is_other, Kind::Keysym)?;
     push_when(kinds, repeats_mark(definition.text()), Kind::Mark)?;
     push_when(kinds, !is_normal(alloc, definition.text())?, Kind::Form)
@@ -152,13 +152,13 @@ fn push_libx11_kinds(
 fn push_libxkbcommon_kinds(
     kinds: &mut Vec<Kind>,
     readers: Readers,
-    production: &Production<'_>,
+    written: &Written<'_>,
     definition: &LineDefinition,
 ) -> Result<(), AllocError>
     ensures { OnOk result
         (kinds.new.items
         ≡ kinds.old.items
-        ++ words.libxkbcommon_kinds readers production.now definition.now) }
+        ++ words.libxkbcommon_kinds readers written.now definition.now) }
 {
     let reader = Reader::Libxkbcommon;
     let many = readers.libxkbcommon && has_eleven_keysyms(definition);
@@ -169,9 +169,9 @@ fn push_libxkbcommon_kinds(
     push_when(kinds, long, Kind::Reader(reader, Class::LongestText))?;
     let nul = readers.libxkbcommon && has_nul(definition);
     push_when(kinds, nul, Kind::Reader(reader, Class::Nul))?;
-    let digit = readers.libxkbcommon && has_digit_name(production);
+    let digit = readers.libxkbcommon && has_digit_name(written);
     push_when(kinds, digit, Kind::Reader(reader, Class::DigitName))?;
-    let letter = readers.libxkbcommon && has_letter_escape(production);
+    let letter = readers.libxkbcommon && has_letter_escape(written);
     push_when(kinds, letter, Kind::Reader(reader, Class::LetterEscape))
 }
 
@@ -179,14 +179,14 @@ fn push_libxkbcommon_kinds(
 fn push_gtk_kinds(
     kinds: &mut Vec<Kind>,
     readers: Readers,
-    production: &Production<'_>,
+    written: &Written<'_>,
     definition: &LineDefinition,
 ) -> Result<(), AllocError>
     ensures { OnOk result
         (kinds.new.items
-        ≡ kinds.old.items ++ words.gtk_kinds readers production.now definition.now) }
+        ≡ kinds.old.items ++ words.gtk_kinds readers written.now definition.now) }
 {
-    let none = has_no_string(production);
+    let none = has_no_string(written);
     push_when(
         kinds,
         readers.gtk3 && none,
@@ -229,7 +229,13 @@ fn push_file_kinds(
         Kind::Reader(Reader::Libxkbcommon, Class::NoNewline),
     )?;
     let joined = readers.libx11 && is_joined(lines, line);
-    push_when(kinds, joined, Kind::Reader(Reader::LibX11, Class::Joined))
+    push_when(kinds, joined, Kind::Reader(Reader::LibX11, Class::Joined))?;
+    let returned = readers.libx11 && has_return_in_include(line.bytes());
+    push_when(
+        kinds,
+        returned,
+        Kind::Reader(Reader::LibX11, Class::CarriageReturn),
+    )
 }
 
 /// Adds what other readers make of blanks in a production.
@@ -237,13 +243,13 @@ fn push_blank_kinds(
     kinds: &mut Vec<Kind>,
     readers: Readers,
     line: &[u8],
-    production: &Production<'_>,
+    written: &Written<'_>,
 ) -> Result<(), AllocError>
     ensures { OnOk result
         (kinds.new.items
-        ≡ kinds.old.items ++ words.blank_kinds readers line.now production.now) }
+        ≡ kinds.old.items ++ words.blank_kinds readers line.now written.now) }
 {
-    let returned = readers.libx11 && has_return(line, production);
+    let returned = readers.libx11 && has_return(line, written);
     push_when(
         kinds,
         returned,
@@ -268,14 +274,14 @@ pub(crate) struct LintFile<'b, 'a> {
     pub(crate) lines: &'b [LintLine<'a>],
 }
 
-/// Adds what is found in a line of the file with this definition, which the production gives.
+/// Adds what is found in a line of the file with this definition, which what it writes gives.
 fn push_kinds_of(
     alloc: Global,
     kinds: &mut Vec<Kind>,
     file: LintFile<'_, '_>,
     last: &LastLines<'_>,
     line: &LintLine<'_>,
-    production: &Production<'_>,
+    written: &Written<'_>,
     definition: &LineDefinition,
 ) -> Result<(), AllocError>
     requires { (q : Bor (List ℕ))
@@ -285,14 +291,14 @@ fn push_kinds_of(
         (kinds.new.items
         ≡ kinds.old.items
         ++ words.kinds_of file.entry.names.now file.entry.readers file.entry.lines.now line.now
-        production.now definition.now) }
+        written.now definition.now) }
 {
     push_defined_again(kinds, file.lines, last, line, definition)?;
-    push_text_kinds(alloc, file.names, kinds, production, definition)?;
-    push_blank_kinds(kinds, file.readers, line.bytes(), production)?;
+    push_text_kinds(alloc, file.names, kinds, written, definition)?;
+    push_blank_kinds(kinds, file.readers, line.bytes(), written)?;
     push_libx11_kinds(kinds, file.readers, definition)?;
-    push_libxkbcommon_kinds(kinds, file.readers, production, definition)?;
-    push_gtk_kinds(kinds, file.readers, production, definition)
+    push_libxkbcommon_kinds(kinds, file.readers, written, definition)?;
+    push_gtk_kinds(kinds, file.readers, written, definition)
 }
 
 /// Adds what is found in a line of the file for the definition that it gives, if it gives one.
@@ -310,11 +316,11 @@ fn push_kinds_if(
         (kinds.new.items
         ≡ kinds.old.items
         ++ words.kinds_if file.entry.names.now file.entry.readers file.entry.lines.now line.now
-        (production_of line.now.bytes) line.now.definition) }
+        line.now.written line.now.definition) }
 {
-    match (line.production(), line.definition()) {
-        (Some(production), Some(definition)) => {
-            push_kinds_of(alloc, kinds, file, last, line, &production, definition)
+    match (line.written(), line.definition()) {
+        (Some(written), Some(definition)) => {
+            push_kinds_of(alloc, kinds, file, last, line, written, definition)
         }
         _ => Ok(()),
     }

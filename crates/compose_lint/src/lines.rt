@@ -1,12 +1,13 @@
 //! The lines of a source, and the definition that each gives.
-ghost use Rattle.std.specs.Prelude.{◌≡◌, ◌<◌, length, map, IfOk};
+ghost use Rattle.std.specs.Prelude.{◌≡◌, ◌<◌, length, map, IfOk, option_copied};
+ghost use Rattle.std.specs.Option.{option_map};
 ghost use Rattle.compose_read.specs.Lines.{own_lines, without_mark};
-ghost use Rattle.compose_lint.specs.Lines.{lines_in};
+ghost use Rattle.compose_lint.specs.Lines.{line_read, lines_in};
 
-use crate::comment::comment_of;
+use crate::comment::comment_beside;
 use crate::definition::{LineDefinition, line_definition};
 use crate::finding::LinePlace;
-use crate::production::{Production, production_of};
+use crate::production::{Production, Written, production_of};
 use compose_read::Sources;
 use compose_text::first_line;
 use keysym_core::Names;
@@ -22,9 +23,11 @@ pub(crate) struct LintLine<'a> {
     pub(crate) line: usize,
     /// Its bytes, without the newline.
     pub(crate) bytes: &'a [u8],
+    /// What it writes for a text, if it reads as a production.
+    pub(crate) written: Option<Written<'a>>,
     pub(crate) definition: Option<LineDefinition>,
     /// The comment beside its string.
-    pub(crate) comment: Option<&'a [u8]>,
+    pub(crate) comment: Option<&'a str>,
 }
 
 impl<'a> Model for LintLine<'a> {
@@ -37,6 +40,7 @@ impl<'a> Model for LintLine<'a> {
       source = l.source;
       line = l.line;
       bytes = l.bytes.now;
+      written = l.written;
       definition = l.definition;
       comment = option_copied l.comment;
     } };
@@ -44,7 +48,6 @@ impl<'a> Model for LintLine<'a> {
 
 impl<'a> LintLine<'a> {
     ghost use Rattle.std.specs.Prelude.{◌≡◌, option_copied};
-    ghost use Rattle.compose_lint.specs.Productions.{production_of};
     ghost use Rattle.compose_lint.specs.Longer.{place_of};
 
     /// The definition that it gives.
@@ -86,17 +89,17 @@ impl<'a> LintLine<'a> {
     }
 
     /// The comment beside its string, if it has both.
-    pub(crate) fn comment(&self) -> Option<&'a [u8]>
+    pub(crate) fn comment(&self) -> Option<&'a str>
         ensures { option_copied result ≡ self.now.comment }
     {
         self.comment
     }
 
-    /// What it writes, if it reads as a production.
-    pub(crate) fn production(&self) -> Option<Production<'a>>
-        ensures { result ≡ production_of self.now.bytes }
+    /// What it writes for a text, if it reads as a production.
+    pub(crate) fn written(&self) -> Option<&Written<'a>>
+        ensures { option_copied result ≡ self.now.written }
     {
-        production_of(self.bytes)
+        self.written.as_ref()
     }
 }
 
@@ -116,17 +119,47 @@ pub(crate) fn lines_in<'a>(
     while let Some((bytes, behind)) = first_line(rest) {
         line += 1;
         rest = behind;
-        let definition = line_definition(alloc, names, bytes)?;
-        let comment = comment_of(bytes);
-        lines.push(LintLine {
-            source,
-            line,
-            bytes,
-            definition,
-            comment,
-        })?;
+        let read = line_read(alloc, names, source, line, bytes)?;
+        lines.push(read)?;
     }
     Ok(lines)
+}
+
+/// The line with these bytes, under this number in the source with this index. O(bytes).
+pub(crate) fn line_read<'a>(
+    alloc: Global,
+    names: &Names,
+    source: usize,
+    line: usize,
+    bytes: &'a [u8],
+) -> Result<LintLine<'a>, AllocError>
+    ensures { IfOk result (λ l. l ≡ line_read names.now source line bytes.now) }
+{
+    let production = production_of(bytes);
+    let definition = line_definition(alloc, names, production.as_ref())?;
+    let written = written_in(production.as_ref());
+    let comment = comment_beside(bytes, written.as_ref());
+    Ok(LintLine {
+        source,
+        line,
+        bytes,
+        written,
+        definition,
+        comment,
+    })
+}
+
+/// What a production writes for a text.
+fn written_in<'a>(production: Option<&Production<'a>>) -> Option<Written<'a>>
+    ensures { result ≡ option_map (λ p. p.written) (option_copied production.entry) }
+{
+    match production {
+        Some(production) => Some(Written {
+            raw_text: production.written.raw_text,
+            result_name: production.written.result_name,
+        }),
+        None => None,
+    }
 }
 
 /// The bytes without a UTF-8 byte order mark at their beginning.

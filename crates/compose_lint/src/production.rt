@@ -6,29 +6,46 @@ use arrayvec::ArrayVec;
 use compose_lex::{Said, lex_line_into};
 use std::marker::Model;
 
-/// What a production writes: the names of its keys, what stands between the quotes of its string,
+/// What a production writes for the text of its keys: what stands between the quotes of its string,
 /// and the name of its result keysym.
 #[derive(Drop)]
-pub(crate) struct Production<'a> {
-    pub(crate) events: ArrayVec<&'a str, 32>,
+pub(crate) struct Written<'a> {
     pub(crate) raw_text: Option<&'a str>,
     pub(crate) result_name: Option<&'a str>,
 }
 
-impl<'a> Model for Production<'a> {
-    ghost use Rattle.std.specs.Prelude.{map, option_copied};
-    ghost use Rattle.compose_lint.specs.Productions.{Written};
+impl<'a> Model for Written<'a> {
+    ghost use Rattle.std.specs.Prelude.{option_copied};
+    ghost use Rattle.compose_lint.specs.Productions as words;
 
-    ghost Value = { Written };
+    ghost Value = { words.Written };
 
     ghost view = { λ p. record {
-      events = map (λ e. e.now) p.events.items;
       raw = option_copied p.raw_text;
       name = option_copied p.result_name;
     } };
 }
 
-impl<'a> Production<'a> {
+/// What a production writes: the names of its keys, and what stands for their text.
+#[derive(Drop)]
+pub(crate) struct Production<'a> {
+    pub(crate) events: ArrayVec<&'a str, 32>,
+    pub(crate) written: Written<'a>,
+}
+
+impl<'a> Model for Production<'a> {
+    ghost use Rattle.std.specs.Prelude.{map};
+    ghost use Rattle.compose_lint.specs.Productions as words;
+
+    ghost Value = { words.Production };
+
+    ghost view = { λ p. record {
+      events = map (λ e. e.now) p.events.items;
+      written = p.written;
+    } };
+}
+
+impl<'a> Written<'a> {
     ghost use Rattle.std.specs.Prelude.{◌≡◌, option_copied};
 
     /// What stands between the quotes of the string, if there is one.
@@ -62,8 +79,10 @@ pub(crate) fn production_of(line: &[u8]) -> Option<Production<'_>>
             },
         ) => Some(Production {
             events,
-            raw_text,
-            result_name,
+            written: Written {
+                raw_text,
+                result_name,
+            },
         }),
         _ => None,
     }

@@ -5,11 +5,11 @@ ghost use Rattle.keysym_core.specs.Names.{value, character_of};
 ghost use Rattle.compose_lint.specs.Texts as words;
 
 use crate::definition::LineDefinition;
-use crate::production::Production;
+use crate::production::Written;
 use keysym_core::Names;
 use std::alloc::{AllocError, Global};
 use unicode_normalization::char::canonical_combining_class;
-use unicode_normalization::to_nfc;
+use unicode_normalization::is_nfc;
 
 /// Whether the text has one combining mark twice in a row. O(characters).
 pub(crate) fn repeats_mark(text: &str) -> bool
@@ -31,22 +31,21 @@ fn is_mark(character: char) -> bool
 pub(crate) fn is_normal(alloc: Global, text: &str) -> Result<bool, AllocError>
     ensures { IfOk result (λ is. is ≡ words.is_normal text.now) }
 {
-    let normal = to_nfc(alloc, text)?;
-    Ok(normal.as_str() == text)
+    is_nfc(alloc, text)
 }
 
 /// Whether a string has the name of a keysym beside it that has another character.
 pub(crate) fn has_other_character(
     names: &Names,
-    production: &Production<'_>,
+    written: &Written<'_>,
     definition: &LineDefinition,
 ) -> bool
-    ensures { result ≡ words.has_other_character names.now production.now definition.now }
+    ensures { result ≡ words.has_other_character names.now written.now definition.now }
 {
-    if production.raw_text().is_none() {
+    if written.raw_text().is_none() {
         return false;
     }
-    match named_character(names, production.result_name()) {
+    match named_character(names, written.result_name()) {
         Some(character) => !is_text_of(character, definition.text()),
         None => false,
     }

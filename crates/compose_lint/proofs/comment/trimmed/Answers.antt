@@ -8,7 +8,7 @@ use Rattle.compose_lint.proofs.comment.trimmed.Goals as goal
 pub returns-in-Ok : goal.returns-in-Ok
 returns-in-Ok c =
     let cases = c.in-Ok.ensures.cases in
-    rw (is_utf8-from_IsUtf8 c.args.bytes.now cases.1) (ap (λ t. Some t) (c.as_bytes.ensures.value ∙ c.trim.ensures.trim ∙ ap trim cases.0))
+    rw (is_utf8-from_IsUtf8 c.args.bytes.now cases.1) (ap (λ t. Some t) (c.trim.ensures.trim ∙ ap trim cases.0))
 
 pub returns-in-Err : goal.returns-in-Err
 returns-in-Err c = elim (cases_Bool (is_utf8 c.args.bytes.now)) [ inl e ↦ absurd (c.in-Err.ensures.cases.0 (IsUtf8-from_is_utf8 c.args.bytes.now e)) | inr e ↦ rw e refl ]

@@ -1,7 +1,7 @@
-use Rattle.std.proofs.Common.{◌∙◌, ◌++◌, ◌+◌, map, refl, sym, ap, rules, arith}
+use Rattle.std.proofs.Common.{◌∙◌, ◌++◌, ◌+◌, map, sym, ap, rules, arith}
 use Rattle.std.proofs.lemmas.List.{append-nil}
 use Rattle.compose_text.specs.Lines.{lines_of}
-use Rattle.compose_read.specs.Lines.{Visit, numbered}
+use Rattle.compose_read.specs.Lines.{numbered}
 use Rattle.compose_lint.specs.Lines.{lint_line}
 use Rattle.compose_lint.proofs.NextLine.{lines_at_first, next_line}
 use Rattle.compose_lint.proofs.lines.lines_in.Goals as goal
@@ -16,10 +16,9 @@ loop-bytes-init c =
 
 pub loop-bytes-preserved : goal.loop-bytes-preserved
 loop-bytes-preserved c =
-    let sources = c.args.sources.now in let line = c.loop-bytes.line in let bytes = c.in-Some.bytes.now in
-    let visit : Visit = record { source = c.args.source; line = line + 1; bytes = bytes; depth = 0 } in record {
-      read = next_line c.args.names.now sources c.args.source line bytes c.loop-bytes.rest.now c.in-Some.behind.now c.in_ok-definition.definition _ c.loop-bytes.lines.items c.push.new.self.items
-          _ c.in-Some.ensures.lines (c.in_ok-definition.ensures sources visit refl) c.comment_of-comment.ensures c.in_ok-push.ensures.items c.loop-bytes.invariant.read;
+    record {
+      read = next_line c.args.names.now c.args.sources.now c.args.source c.loop-bytes.line c.in-Some.bytes.now c.loop-bytes.rest.now c.in-Some.behind.now c.in_ok-read.read c.loop-bytes.lines.items
+          c.push.new.self.items _ c.in-Some.ensures.lines c.in_ok-read.ensures c.in_ok-push.ensures.items c.loop-bytes.invariant.read;
       counted = omega (arith, c.in-Some.ensures.shorter, c.loop-bytes.invariant.counted);
     }
 
