@@ -255,7 +255,7 @@ def measure_differences(program, folder, aims):
     explain = [program, "explain", "--all", "--names", "builtin", "english", "finnish"]
     times = least_processes({"diff": [program, "diff", ENGLISH, FINNISH], "explain": explain}, folder, 15)
     print(f"diff of two tables: {times['diff'] * 1000:.2f} ms; explain --all {times['explain'] * 1000:.2f}; ratio {times['diff'] / times['explain']:.2f}")
-    aims.add("diff, of explain --all", "time", 1.2, times["diff"] / times["explain"])
+    aims.add("diff, of explain --all", "time", 1.5, times["diff"] / times["explain"])
     write(folder, "many old", many_definitions("a"))
     write(folder, "many new", many_definitions("b"))
     seconds, memory = process([program, "diff", "many old", "many new"], folder)
