@@ -14,6 +14,11 @@ pub err_map : {X E : Type 0} (P Q : E → Type 0) (r : Result X E) → ((e : E) 
 err_map P Q (Ok x) f h = tt
 err_map P Q (Err e) f h = f e h
 
+-- the fault that `?` hands over
+pub handed : {X : Type 0} (P : Fault → Type 0) (r : Result X Fault) (fault : Fault) → IsErrAnd r (λ e. e ≡ fault) → P fault → IfErr r P
+handed P (Ok x) fault h p = tt
+handed P (Err e) fault h p = subst P (sym h) p
+
 -- memory ran out
 pub memory : {X : Type 0} (P : Fault → Type 0) (r : Result X Fault) → IsErrAnd r (λ fault. fault ≡ NoMemory) → P NoMemory → IfErr r P
 memory P (Ok x) h p = tt

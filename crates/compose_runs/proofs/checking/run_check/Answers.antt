@@ -1,7 +1,6 @@
-use Rattle.std.proofs.Common.{rules, ◌≡◌, refl, inl, map}
-use Rattle.std.specs.Prelude.{Err}
+use Rattle.std.proofs.Common.{refl, inl, map}
 use Rattle.compose_input.specs.declared.fault.Fault.TheVariants.{NoMemory}
-use Rattle.compose_runs.proofs.Failing.{fails}
+use Rattle.compose_runs.proofs.Failing.{handed}
 use Rattle.compose_runs.specs.Faults.{FailsCheck}
 use Rattle.compose_runs.proofs.checking.run_check.Goals as goal
 
@@ -11,10 +10,8 @@ returns-clause-outcome g c = record { check = c.in_ok-check.check; read = c.in_o
 pub returns-in_err-check-clause-fault : goal.returns-in_err-check-clause-fault
 returns-in_err-check-clause-fault g c =
     let fault = c.in_err-check.field-0.0 in
-    let is : c.from_residual.result ≡ Err fault = search rules in
-    fails (FailsCheck c.args.files.now.holds (map (λ name. name.now) c.args.options.names.now) c.args.paths.now) c.from_residual.result fault is c.in_err-check.ensures.fault
+    handed (FailsCheck c.args.files.now.holds (map (λ name. name.now) c.args.options.names.now) c.args.paths.now) c.from_residual.result fault c.from_residual.ensures.1 c.in_err-check.ensures.fault
 
 pub returns-in_err-check_outcome-clause-fault : goal.returns-in_err-check_outcome-clause-fault
 returns-in_err-check_outcome-clause-fault g c =
-    let is : c.from_residual-in_err-check_outcome.result ≡ Err NoMemory = search rules in
-    fails (FailsCheck c.args.files.now.holds (map (λ name. name.now) c.args.options.names.now) c.args.paths.now) c.from_residual-in_err-check_outcome.result NoMemory is (inl refl)
+    handed (FailsCheck c.args.files.now.holds (map (λ name. name.now) c.args.options.names.now) c.args.paths.now) c.from_residual-in_err-check_outcome.result NoMemory c.from_residual-in_err-check_outcome.ensures.1 (inl refl)

@@ -1,6 +1,5 @@
-use Rattle.std.proofs.Common.{rules, ◌≡◌, refl, inl, map}
-use Rattle.std.specs.Prelude.{Err}
-use Rattle.compose_runs.proofs.Failing.{fails, memory}
+use Rattle.std.proofs.Common.{refl, inl, map}
+use Rattle.compose_runs.proofs.Failing.{handed, memory}
 use Rattle.compose_runs.specs.Faults.{FailsCheckFiles}
 use Rattle.compose_runs.proofs.checking.run_check_files.Goals as goal
 
@@ -10,8 +9,7 @@ returns-clause-outcome g c = record { check = c.in_ok-check.check; read = c.in_o
 pub returns-in_err-check-clause-fault : goal.returns-in_err-check-clause-fault
 returns-in_err-check-clause-fault g c =
     let fault = c.in_err-check.field-0.0 in
-    let is : c.from_residual.result ≡ Err fault = search rules in
-    fails (FailsCheckFiles c.args.files.now.holds c.args.environment.now (map (λ name. name.now) c.args.options.names.now) c.args.pair.now c.args.texts) c.from_residual.result fault is c.in_err-check.ensures.fault
+    handed (FailsCheckFiles c.args.files.now.holds c.args.environment.now (map (λ name. name.now) c.args.options.names.now) c.args.pair.now c.args.texts) c.from_residual.result fault c.from_residual.ensures.1 c.in_err-check.ensures.fault
 
 pub returns-in_err-check_files_outcome-clause-fault : goal.returns-in_err-check_files_outcome-clause-fault
 returns-in_err-check_files_outcome-clause-fault g c =

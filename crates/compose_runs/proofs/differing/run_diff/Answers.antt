@@ -1,7 +1,6 @@
-use Rattle.std.proofs.Common.{rules, ◌≡◌, refl, inl, inr, map}
-use Rattle.std.specs.Prelude.{Err}
+use Rattle.std.proofs.Common.{refl, inl, inr, map}
 use Rattle.compose_input.specs.declared.fault.Fault.TheVariants.{NoMemory}
-use Rattle.compose_runs.proofs.Failing.{fails}
+use Rattle.compose_runs.proofs.Failing.{handed}
 use Rattle.compose_runs.specs.Faults.{FailsDiffRun}
 use Rattle.compose_runs.proofs.differing.run_diff.Goals as goal
 
@@ -17,16 +16,13 @@ returns-clause-outcome g c = record {
 pub returns-in_err-colored-clause-fault : goal.returns-in_err-colored-clause-fault
 returns-in_err-colored-clause-fault g c =
     let fault = c.in_err-colored.field-0.0 in
-    let is : c.from_residual.result ≡ Err fault = search rules in
-    fails (FailsDiffRun c.args.files.now.holds c.args.environment.now (map (λ name. name.now) c.args.names.now) c.args.arguments.now) c.from_residual.result fault is (inl c.in_err-colored.ensures)
+    handed (FailsDiffRun c.args.files.now.holds c.args.environment.now (map (λ name. name.now) c.args.names.now) c.args.arguments.now) c.from_residual.result fault c.from_residual.ensures.1 (inl c.in_err-colored.ensures)
 
 pub returns-in_err-read-clause-fault : goal.returns-in_err-read-clause-fault
 returns-in_err-read-clause-fault g c =
     let fault = c.in_err-read.field-0.0 in
-    let is : c.from_residual-in_err-read.result ≡ Err fault = search rules in
-    fails (FailsDiffRun c.args.files.now.holds c.args.environment.now (map (λ name. name.now) c.args.names.now) c.args.arguments.now) c.from_residual-in_err-read.result fault is (inr c.in_err-read.ensures.fault)
+    handed (FailsDiffRun c.args.files.now.holds c.args.environment.now (map (λ name. name.now) c.args.names.now) c.args.arguments.now) c.from_residual-in_err-read.result fault c.from_residual-in_err-read.ensures.1 (inr c.in_err-read.ensures.fault)
 
 pub returns-in_err-diff_outcome-clause-fault : goal.returns-in_err-diff_outcome-clause-fault
 returns-in_err-diff_outcome-clause-fault g c =
-    let is : c.from_residual-in_err-diff_outcome.result ≡ Err NoMemory = search rules in
-    fails (FailsDiffRun c.args.files.now.holds c.args.environment.now (map (λ name. name.now) c.args.names.now) c.args.arguments.now) c.from_residual-in_err-diff_outcome.result NoMemory is (inr (inl refl))
+    handed (FailsDiffRun c.args.files.now.holds c.args.environment.now (map (λ name. name.now) c.args.names.now) c.args.arguments.now) c.from_residual-in_err-diff_outcome.result NoMemory c.from_residual-in_err-diff_outcome.ensures.1 (inr (inl refl))

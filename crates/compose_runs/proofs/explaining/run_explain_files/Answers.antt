@@ -1,7 +1,6 @@
-use Rattle.std.proofs.Common.{rules, ◌≡◌, refl, inl, map}
-use Rattle.std.specs.Prelude.{Err}
+use Rattle.std.proofs.Common.{refl, inl, map}
 use Rattle.compose_input.specs.declared.fault.Fault.TheVariants.{NoMemory}
-use Rattle.compose_runs.proofs.Failing.{fails}
+use Rattle.compose_runs.proofs.Failing.{handed}
 use Rattle.compose_runs.specs.Faults.{FailsPair}
 use Rattle.compose_runs.proofs.explaining.run_explain_files.Goals as goal
 
@@ -11,10 +10,8 @@ returns-clause-outcome g c = record { files = c.in_ok-both.both; read = c.in_ok-
 pub returns-in_err-both-clause-fault : goal.returns-in_err-both-clause-fault
 returns-in_err-both-clause-fault g c =
     let fault = c.in_err-both.field-0.0 in
-    let is : c.from_residual.result ≡ Err fault = search rules in
-    fails (FailsPair c.args.files.now.holds c.args.environment.now (map (λ name. name.now) c.args.options.names.now) c.args.pair.now) c.from_residual.result fault is c.in_err-both.ensures.fault
+    handed (FailsPair c.args.files.now.holds c.args.environment.now (map (λ name. name.now) c.args.options.names.now) c.args.pair.now) c.from_residual.result fault c.from_residual.ensures.1 c.in_err-both.ensures.fault
 
 pub returns-in_err-explain_files_outcome-clause-fault : goal.returns-in_err-explain_files_outcome-clause-fault
 returns-in_err-explain_files_outcome-clause-fault g c =
-    let is : c.from_residual-in_err-explain_files_outcome.result ≡ Err NoMemory = search rules in
-    fails (FailsPair c.args.files.now.holds c.args.environment.now (map (λ name. name.now) c.args.options.names.now) c.args.pair.now) c.from_residual-in_err-explain_files_outcome.result NoMemory is (inl refl)
+    handed (FailsPair c.args.files.now.holds c.args.environment.now (map (λ name. name.now) c.args.options.names.now) c.args.pair.now) c.from_residual-in_err-explain_files_outcome.result NoMemory c.from_residual-in_err-explain_files_outcome.ensures.1 (inl refl)

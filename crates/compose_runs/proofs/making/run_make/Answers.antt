@@ -1,9 +1,9 @@
-use Rattle.std.proofs.Common.{subst, rules, ◌≡◌, refl, inl, inr, map}
+use Rattle.std.proofs.Common.{subst, refl, inl, inr, map}
 use Rattle.compose_folder.specs.Content.{File, IsHeld}
 use Rattle.compose_runs.specs.Making.{IsMakeOutcome}
 use Rattle.std.specs.Prelude.{Err}
 use Rattle.compose_input.specs.declared.fault.Fault.TheVariants.{NoMemory}
-use Rattle.compose_runs.proofs.Failing.{fails, memory}
+use Rattle.compose_runs.proofs.Failing.{handed, memory}
 use Rattle.compose_input.specs.Texts.{IsRead}
 use Rattle.compose_runs.specs.Faults.{FailsMake}
 use Rattle.compose_runs.proofs.making.run_make.Goals as goal
@@ -22,20 +22,17 @@ returns-clause-outcome g c = record {
 pub returns-in_err-both-clause-fault : goal.returns-in_err-both-clause-fault
 returns-in_err-both-clause-fault g c =
     let fault = c.in_err-both.field-0.0 in
-    let is : c.from_residual.result ≡ Err fault = search rules in
-    fails (FailsMake c.args.files.now.holds (map (λ name. name.now) c.args.options.names.now) c.args.paths.now.old.now c.args.paths.now.new.now c.args.making.repertoire.now) c.from_residual.result fault is (inr (inl c.in_err-both.ensures.fault))
+    handed (FailsMake c.args.files.now.holds (map (λ name. name.now) c.args.options.names.now) c.args.paths.now.old.now c.args.paths.now.new.now c.args.making.repertoire.now) c.from_residual.result fault c.from_residual.ensures.1 (inr (inl c.in_err-both.ensures.fault))
 
 pub returns-in_err-repertoire-clause-fault : goal.returns-in_err-repertoire-clause-fault
 returns-in_err-repertoire-clause-fault g c =
     let fault = c.in_err-repertoire.field-0.0 in
-    let is : c.from_residual-in_err-repertoire.result ≡ Err fault = search rules in
-    fails (FailsMake c.args.files.now.holds (map (λ name. name.now) c.args.options.names.now) c.args.paths.now.old.now c.args.paths.now.new.now c.args.making.repertoire.now) c.from_residual-in_err-repertoire.result fault is
+    handed (FailsMake c.args.files.now.holds (map (λ name. name.now) c.args.options.names.now) c.args.paths.now.old.now c.args.paths.now.new.now c.args.making.repertoire.now) c.from_residual-in_err-repertoire.result fault c.from_residual-in_err-repertoire.ensures.1
     (inr (inr ((c.in_ok-both.both, c.in_ok-both.ensures.read), subst (λ f. IsRead f c.args.making.repertoire.now (Err fault)) c.in_ok-both.ensures.kept c.in_err-repertoire.ensures.reads)))
 
 pub returns-in_err-outcome-clause-fault : goal.returns-in_err-outcome-clause-fault
 returns-in_err-outcome-clause-fault g c =
-    let is : c.from_residual-in_err-outcome.result ≡ Err NoMemory = search rules in
-    fails (FailsMake c.args.files.now.holds (map (λ name. name.now) c.args.options.names.now) c.args.paths.now.old.now c.args.paths.now.new.now c.args.making.repertoire.now) c.from_residual-in_err-outcome.result NoMemory is (inl refl)
+    handed (FailsMake c.args.files.now.holds (map (λ name. name.now) c.args.options.names.now) c.args.paths.now.old.now c.args.paths.now.new.now c.args.making.repertoire.now) c.from_residual-in_err-outcome.result NoMemory c.from_residual-in_err-outcome.ensures.1 (inl refl)
 
 pub returns-in_err-written_to-clause-fault : goal.returns-in_err-written_to-clause-fault
 returns-in_err-written_to-clause-fault g c =
