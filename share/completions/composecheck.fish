@@ -32,6 +32,7 @@ complete -c composecheck -n "__fish_seen_subcommand_from diff how list lint type
 complete -c composecheck -n "__fish_seen_subcommand_from diff how list lint type check explain make manifest" -l root -x -a "(__fish_complete_directories)" -d "Folder of an unpacked package"
 complete -c composecheck -n "__fish_seen_subcommand_from diff how list lint type check explain make manifest" -l locale -x -d "Name of the locale"
 complete -c composecheck -n "__fish_seen_subcommand_from diff how list type check explain make" -l overlap -x -a "refuse longest" -d "What is done with overlapping sequences"
+complete -c composecheck -n "__fish_seen_subcommand_from diff how list lint type" -l skip-faulty -d "Leave faulty lines out, and report each"
 complete -c composecheck -n "__fish_seen_subcommand_from lint" -l reader -x -a "libX11 libxkbcommon gtk3 gtk4" -d "Another reader of Compose files"
 complete -c composecheck -n "__fish_seen_subcommand_from diff update" -l accept -r -F -d "The changes that are meant"
 complete -c composecheck -n "__fish_seen_subcommand_from diff" -l write-accept -d "Print the list that accepts the changes"

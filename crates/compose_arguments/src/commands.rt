@@ -111,6 +111,14 @@ const ROOTS: OptionRow = OptionRow {
     help: "Look for an include's absolute path below DIR first, as in an unpacked package; given twice, the first is OLD's and the last NEW's",
 };
 
+/// Faulty lines are left out.
+const SKIP_FAULTY: OptionRow = OptionRow {
+    name: "skip-faulty",
+    letter: None,
+    takes: Takes::Nothing,
+    help: "Leave faulty lines out, as libxkbcommon does, and report each; the last line says how many",
+};
+
 /// Compose files in the place of manifests.
 const FILES: OptionRow = OptionRow {
     name: "files",
@@ -179,15 +187,15 @@ const SOCKET: ArgumentRow = ArgumentRow {
 static TYPE: CommandRow = CommandRow {
     name: "type",
     about: "Type keys with a table, and print what happens at each",
-    after_help: "With --files, names are those of keysymdef.h, unless --names gives others, and a key may be written as its character.\nExit status: 0 typed, 2 input refused, 3 out of memory\nExample: composecheck type -f ~/.XCompose Multi_key \"'\" e",
+    after_help: "With --files, names are those of keysymdef.h, unless --names gives others, and a key may be written as its character; without a KEY each line of standard input is a list of keys, and an empty line follows what is printed of each.\nExit status: 0 typed, 2 input refused, 3 out of memory\nExample: composecheck type -f ~/.XCompose Multi_key \"'\" e",
     options: &[VERBOSE, NAMES, FILES],
-    options_of_files: &[OVERLAP, SYSTEM, LOCALE, ROOT],
+    options_of_files: &[SKIP_FAULTY, OVERLAP, SYSTEM, LOCALE, ROOT],
     arguments: &[
         TABLE,
         ArgumentRow {
             name: "KEY",
-            given: Given::Some,
-            help: "The names of the keysyms",
+            given: Given::SomeUnless("files"),
+            help: "The names of the keysyms; without one, with --files, each line of standard input has a list of them",
         },
     ],
 };
@@ -265,6 +273,7 @@ static DIFF: CommandRow = CommandRow {
             },
             help: "Colour the lines: on a terminal unless NO_COLOR is set (auto), always, or never",
         },
+        SKIP_FAULTY,
         SYSTEM,
         LOCALE,
         ROOTS,
@@ -334,6 +343,7 @@ static HOW: CommandRow = CommandRow {
             help: "Print the first sequence of each text alone",
         },
         LIST_FORMAT,
+        SKIP_FAULTY,
         OVERLAP,
         SYSTEM,
         LOCALE,
@@ -383,6 +393,7 @@ static LIST: CommandRow = CommandRow {
             help: "The order: by the keysyms of the keys, by text, or by file and line",
         },
         LIST_FORMAT,
+        SKIP_FAULTY,
         OVERLAP,
         SYSTEM,
         LOCALE,
@@ -465,6 +476,7 @@ static LINT: CommandRow = CommandRow {
             },
             help: "Lines for people, or json: an object for each finding",
         },
+        SKIP_FAULTY,
     ],
     options_of_files: &[],
     arguments: &[ArgumentRow {

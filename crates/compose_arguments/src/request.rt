@@ -23,7 +23,7 @@ pub enum Request<'a> {
     /// Type keys with a table.
     Type {
         table: TypeTable<'a>,
-        /// The names of the keysyms, at least one.
+        /// The names of the keysyms; none of a Compose file where standard input has them.
         keys: Vec<&'a str>,
     },
     /// Check a certificate.
@@ -213,12 +213,12 @@ fn type_request<'a>(
     alloc: Global,
     given: &ArgMatches<'a>,
 ) -> Result<Option<Request<'a>>, AllocError> {
-    let (Some(table), Some(keys)) = (type_table(given), given.get_strs("KEY")) else {
+    let Some(table) = type_table(given) else {
         return Ok(None);
     };
     Ok(Some(Request::Type {
         table,
-        keys: Vec::from_slice(alloc, keys)?,
+        keys: Vec::from_slice(alloc, given.get_strs("KEY").unwrap_or(&[]))?,
     }))
 }
 

@@ -48,6 +48,7 @@ fn answered(alloc: Global, row: &LintRow) -> Result<Option<Answer>, Fail> {
     let table = LintTable {
         sources: &sources,
         paths: &["r", "%L"],
+        skip_faulty: false,
     };
     let input = LintInput {
         header: &[],

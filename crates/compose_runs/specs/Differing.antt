@@ -29,7 +29,9 @@ use Rattle.compose_runs.specs.Environment.{wants_color}
 use Rattle.compose_runs.specs.Variables.{Said}
 use Rattle.compose_runs.specs.DiffFiles.{AreDiffFiles}
 use Rattle.compose_runs.specs.Files.{migration_given, notes_of}
+use Rattle.compose_runs.specs.Skipping.{IsFollowed, IsKeptPair}
 use Rattle.compose_runs.specs.declared.differing.DiffFiles.{DiffFiles}
+use Rattle.compose_runs.specs.declared.skipping.KeptPair.{KeptPair}
 use Rattle.compose_runs.specs.declared.environment.Environment.{Environment}
 
 -- ---- what is asked
@@ -128,10 +130,19 @@ pub record IsDiffOutcome (files : DiffFiles) (arguments : DiffArguments) (fresh 
   pub is_printed : IsDiffPrinted files arguments fresh colored answered printed
   pub noted : IsNoted (notes_of files.both) printed outcome
 
+-- the same on what was read, or on what is left of it without faulty lines, if these are skipped; with what is reported of the lines that are left out
+-- after all else
+pub record IsKeptDiff (found : DiffFiles) (arguments : DiffArguments) (fresh : List (List ℕ)) (colored : Bool) (outcome : Outcome) : Type 0 where
+  pub kept : KeptPair
+  pub is_kept : IsKeptPair arguments.skip_faulty found kept
+  pub printed : Outcome
+  pub is : IsDiffOutcome kept.files arguments fresh colored printed
+  pub followed : IsFollowed (string_bytes kept.skipped) printed outcome
+
 -- the same on the files that the folder has, in this environment
 pub record IsDiffRun (folder : Option (List Entry)) (environment : Environment) (names : List (List ℕ)) (arguments : DiffArguments) (fresh : List (List ℕ)) (outcome : Outcome) : Type 0 where
-  pub files : DiffFiles
-  pub read : AreDiffFiles folder environment names arguments files
+  pub found : DiffFiles
+  pub read : AreDiffFiles folder environment names arguments found
   pub colored : Bool
   pub colors : is_colored environment arguments ≡ Ok colored
-  pub is : IsDiffOutcome files arguments fresh colored outcome
+  pub is : IsKeptDiff found arguments fresh colored outcome

@@ -1,6 +1,8 @@
 -- Why the files of a command can't be read: the first that is refused says it, and those before it are read (this project's profile).
 -- Memory may run out at any time: nothing more is known then.
-use Rattle.std.specs.Prelude.{◌≡◌, ◌⊎◌, ℕ, List, ◌∷◌, ◌++◌, Option, Some, None, Err, option_copied, string_bytes, codes}
+use Rattle.std.specs.Prelude.{◌≡◌, ◌⊎◌, ℕ, List, [], ◌∷◌, ◌++◌, Option, Some, None, Ok, Err, IsUtf8, option_copied, string_bytes, codes}
+use Rattle.std.specs.declared.alloc.Global.{Global}
+use Rattle.std.specs.declared.string.String.{String}
 use Rattle.std.proofs.Common.{Bor}
 use Rattle.compose_folder.specs.Content.{Entry, File, IsHeld}
 use Rattle.compose_model.specs.declared.Rule.TheVariants.{Longest}
@@ -14,7 +16,7 @@ use Rattle.compose_arguments.specs.declared.update_arguments.UpdateArguments.{Up
 use Rattle.compose_input.specs.Faults.{FailNames, FailsListed, FailsFound}
 use Rattle.compose_input.specs.Names.{AreNames}
 use Rattle.compose_input.specs.Tables.{IsListed, IsFoundOnSystem}
-use Rattle.compose_input.specs.Texts.{IsRead}
+use Rattle.compose_input.specs.Texts.{IsRead, IsRefused}
 use Rattle.compose_input.specs.declared.fault.Fault.{Fault}
 use Rattle.compose_input.specs.declared.fault.Fault.TheVariants.{Word, NoMemory}
 use Rattle.compose_input.specs.declared.names.NameFiles.{NameFiles}
@@ -145,6 +147,15 @@ FailsTableRead folder environment names arguments fault =
     OrMemory (FailsPlaced environment (table_places arguments)
     (λ places f. FailNames folder (names_or_builtin names) f ⊎ (HasNames folder (names_or_builtin names) × FailsChosenTable folder environment places (option_copied arguments.file) f))) fault
 
+-- the bytes are no text, and this is said of them
+abbrev pub FailsText : List ℕ → Fault → Type 0
+FailsText bytes fault = OrMemory (λ f. (IsUtf8 bytes → ⊥) × ((said : String Global) × (string_bytes said ≡ codes "standard input is not UTF-8") × IsRefused (codes "keys") (Ok said) f)) fault
+
+-- of the lists of keys of standard input, which are read where there is no word: it can't be read, or is no text
+abbrev pub FailsLines : Option (List Entry) → List (List ℕ) → Fault → Type 0
+FailsLines folder [] fault = OrMemory (λ f. IsRead folder (45 ∷ []) (Err f) ⊎ ((bytes : List ℕ) × IsHeld folder (45 ∷ []) (File bytes) × FailsText bytes f)) fault
+FailsLines folder (word ∷ words) fault = ⊥
+
 -- of `manifest`: the environment, the table
 abbrev pub FailsManifestRun : Option (List Entry) → Environment → ManifestArguments → Fault → Type 0
 FailsManifestRun folder environment arguments fault =
@@ -152,6 +163,11 @@ FailsManifestRun folder environment arguments fault =
 
 abbrev pub HasTableRead : Option (List Entry) → Environment → List (List ℕ) → TableArguments → Type 0
 HasTableRead folder environment names arguments = (read : TableRead) × IsTableRead folder environment names arguments read
+
+-- of `type` with a Compose file: these, and the lists of keys, where there is no word
+abbrev pub FailsTypeFile : Option (List Entry) → Environment → List (List ℕ) → TableArguments → List (List ℕ) → Fault → Type 0
+FailsTypeFile folder environment names arguments words fault =
+    OrMemory (λ f. FailsTableRead folder environment names arguments f ⊎ (HasTableRead folder environment names arguments × FailsLines folder words f)) fault
 
 -- of `how`: these, and the repertoire, where one is given
 abbrev pub FailsHow : Option (List Entry) → Environment → List (List ℕ) → HowArguments → Fault → Type 0

@@ -14,8 +14,10 @@ pub mod Faults
 pub mod OneTable
 pub mod Reports
 pub mod WrittenKeys
+pub mod KeyLists
 pub mod Listing
 pub mod HowTo
 pub mod Stored
 pub mod Updating
 pub mod Linting
+pub mod Skipping

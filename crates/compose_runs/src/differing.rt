@@ -6,12 +6,13 @@ ghost use Rattle.compose_input.specs.Names.{AreNames};
 ghost use Rattle.compose_report.specs.Outcomes.{told_text};
 ghost use Rattle.compose_runs.specs.DiffFiles.{IsAccepted, names_or_builtin};
 ghost use Rattle.compose_runs.specs.Differing as words;
-ghost use Rattle.compose_runs.specs.Differing.{IsAcceptRefusal, IsDiffOutcome, IsDiffPrinted, IsDiffRun, IsFaultPrinted, IsRefusalOutcome, ShowsAnswer, diff_asked};
+ghost use Rattle.compose_runs.specs.Differing.{IsAcceptRefusal, IsDiffOutcome, IsDiffPrinted, IsDiffRun, IsFaultPrinted, IsKeptDiff, IsRefusalOutcome, ShowsAnswer, diff_asked};
 ghost use Rattle.compose_runs.specs.Environment.{GivesColor};
 ghost use Rattle.compose_runs.specs.Faults.{FailsAccepted, FailsDiff, FailsDiffRun};
 
 use crate::environment::Environment;
 use crate::files::MigrationFiles;
+use crate::skipping::{KeptPair, followed};
 use compose_answer::{Answer, Ended, Refusal};
 use compose_arguments::{DiffArguments, DiffColor, DiffForm};
 use compose_details::{Given, GivenTable};
@@ -46,14 +47,32 @@ pub fn run_diff<T: ComposeTable, F: Folder>(
 {
     let colored = is_colored(environment, arguments)?;
     let read = DiffFiles::read(files, alloc, environment, names, arguments)?;
-    Ok(diff_outcome::<T>(alloc, &read, arguments, fresh, colored)?)
+    Ok(kept_outcome::<T>(alloc, read, arguments, fresh, colored)?)
+}
+
+/// The outcome of `diff`, once the files are read: without the faulty lines of both tables, if these are skipped.
+fn kept_outcome<T: ComposeTable>(
+    alloc: Global,
+    files: DiffFiles<'_>,
+    arguments: &DiffArguments<'_>,
+    fresh: &[&str],
+    colored: bool,
+) -> Result<Outcome, AllocError>
+    ensures { IfOk result
+        (λ outcome. IsKeptDiff files.entry arguments.now (map (λ name. name.now) fresh.now)
+        colored outcome) }
+{
+    let kept = KeptPair::of(alloc, arguments.skip_faulty, files)?;
+    let KeptPair { files, skipped } = kept;
+    let printed = diff_outcome::<T>(alloc, &files, arguments, fresh, colored)?;
+    followed(printed, &skipped)
 }
 
 /// What a comparison of two tables is read from.
 #[derive(Drop)]
-struct DiffFiles<'n> {
-    both: MigrationFiles<'n>,
-    accepted: Vec<u8>,
+pub(crate) struct DiffFiles<'n> {
+    pub(crate) both: MigrationFiles<'n>,
+    pub(crate) accepted: Vec<u8>,
 }
 
 impl<'n> DiffFiles<'n> {

@@ -7,11 +7,11 @@ use Rattle.compose_runs.proofs.differing.run_diff.Goals as goal
 
 pub returns-clause-outcome : goal.returns-clause-outcome
 returns-clause-outcome g c = record {
-  files = c.in_ok-read.read;
+  found = c.in_ok-read.read;
   read = c.in_ok-read.ensures.read;
   colored = c.in_ok-colored.colored;
   colors = c.in_ok-colored.ensures;
-  is = c.in_ok-diff_outcome.ensures;
+  is = c.in_ok-kept_outcome.ensures;
 }
 
 pub returns-in_err-colored-clause-fault : goal.returns-in_err-colored-clause-fault
@@ -26,7 +26,7 @@ returns-in_err-read-clause-fault g c =
     let is : c.from_residual-in_err-read.result ≡ Err fault = search rules in
     fails (FailsDiffRun c.args.files.now.holds c.args.environment.now (map (λ name. name.now) c.args.names.now) c.args.arguments.now) c.from_residual-in_err-read.result fault is (inr c.in_err-read.ensures.fault)
 
-pub returns-in_err-diff_outcome-clause-fault : goal.returns-in_err-diff_outcome-clause-fault
-returns-in_err-diff_outcome-clause-fault g c =
-    let is : c.from_residual-in_err-diff_outcome.result ≡ Err NoMemory = search rules in
-    fails (FailsDiffRun c.args.files.now.holds c.args.environment.now (map (λ name. name.now) c.args.names.now) c.args.arguments.now) c.from_residual-in_err-diff_outcome.result NoMemory is (inr (inl refl))
+pub returns-in_err-kept_outcome-clause-fault : goal.returns-in_err-kept_outcome-clause-fault
+returns-in_err-kept_outcome-clause-fault g c =
+    let is : c.from_residual-in_err-kept_outcome.result ≡ Err NoMemory = search rules in
+    fails (FailsDiffRun c.args.files.now.holds c.args.environment.now (map (λ name. name.now) c.args.names.now) c.args.arguments.now) c.from_residual-in_err-kept_outcome.result NoMemory is (inr (inl refl))
