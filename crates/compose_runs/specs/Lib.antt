@@ -14,7 +14,6 @@ pub mod Faults
 pub mod OneTable
 pub mod Reports
 pub mod WrittenKeys
-pub mod KeyLists
 pub mod Listing
 pub mod HowTo
 pub mod Stored
