@@ -17,7 +17,7 @@ use Rattle.compose_report.specs.Outcomes.{IsReported}
 use Rattle.compose_report.specs.declared.outcome.Outcome.{Outcome}
 use Rattle.keysym_core.specs.Header.{names_of}
 use Rattle.compose_arguments.specs.declared.table_arguments.TableArguments.{TableArguments}
-use Rattle.compose_runs.specs.KeyLists.{refused_line, words_in}
+use Rattle.compose_key_lists.specs.Lists.{refused_line, words_in}
 use Rattle.compose_runs.specs.OneTable.{IsTableRead, IsTableOutcome}
 use Rattle.compose_runs.specs.Skipping.{IsFollowed, IsKeptRead}
 use Rattle.compose_runs.specs.WrittenKeys.{AreWritten}

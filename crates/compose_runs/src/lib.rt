@@ -15,7 +15,6 @@ mod differing;
 mod environment;
 mod explaining;
 mod files;
-mod key_lists;
 mod linting;
 mod looking_up;
 mod making;

@@ -4,7 +4,6 @@ ghost use Rattle.compose_runs.specs.Faults.{FailsLines, FailsText, FailsType, Fa
 ghost use Rattle.compose_runs.specs.Typing.{AreGivenLines, IsKeptType, IsTypeFileOutcome, IsTypeFileRun, IsTypeLinesOutcome, IsTypeRun, IsTypeOutcome, IsTypedFile};
 
 use crate::environment::Environment;
-use crate::key_lists::{key_lists, refused_line};
 use crate::one_table::TableRead;
 use crate::options::Options;
 use crate::skipping::{KeptRead, followed};
@@ -13,6 +12,7 @@ use compose_arguments::TableArguments;
 use compose_details::{Given, GivenTable};
 use compose_folder::{Folder, ReadOnce};
 use compose_input::{Fault, NameFiles, TableFiles, read_text};
+use compose_key_lists::{key_lists, refused_line};
 use compose_report::{Outcome, outcome_of};
 use compose_tool::{type_keys, type_lists};
 use compose_tree::ComposeTable;

@@ -7,7 +7,7 @@ use Rattle.compose_answer.specs.Refused.{Gives}
 use Rattle.compose_migration.specs.MigrationGives.{table_given}
 use Rattle.compose_report.proofs.Results.{ok_map}
 use Rattle.compose_tool.specs.Answers.{AreListsTyped}
-use Rattle.compose_runs.specs.KeyLists.{refused_line, words_in}
+use Rattle.compose_key_lists.specs.Lists.{refused_line, words_in}
 use Rattle.compose_runs.specs.OneTable.{IsTableOutcome}
 use Rattle.compose_runs.specs.Skipping.{IsFollowed}
 use Rattle.compose_runs.specs.Typing.{IsTypeLinesOutcome}
