@@ -7,3 +7,4 @@ pub mod SourceNames
 pub mod Variables
 pub mod WrittenKeys
 pub mod Zipped
+pub mod Skipped
