@@ -7,4 +7,3 @@ pub mod SourceNames
 pub mod Variables
 pub mod WrittenKeys
 pub mod Zipped
-pub mod Skipped

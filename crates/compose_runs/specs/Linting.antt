@@ -29,7 +29,8 @@ use Rattle.compose_report.specs.declared.outcome.Outcome.{Outcome}
 use Rattle.compose_runs.specs.DiffFiles.{IsAccepted, names_or_builtin}
 use Rattle.compose_runs.specs.Environment.{IsPlaced}
 use Rattle.compose_runs.specs.Own.{IsChosen}
-use Rattle.compose_runs.specs.Skipping.{IsFollowed, report_text}
+use Rattle.compose_runs.specs.Skipping.{IsFollowed}
+use Rattle.compose_skipped.specs.Reported.{report_text}
 use Rattle.compose_runs.specs.declared.environment.Environment.{Environment}
 use Rattle.compose_runs.specs.declared.environment.PlaceArguments.{PlaceArguments}
 use Rattle.compose_runs.specs.declared.linting.LintFiles.{LintFiles}

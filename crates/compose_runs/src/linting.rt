@@ -12,7 +12,7 @@ ghost use Rattle.compose_runs.specs.Linting.{AreReadTables, IsLintAcceptRefusal,
 use crate::differing::{read_accepted, read_names};
 use crate::environment::{Environment, PlaceArguments};
 use crate::one_table::{ChosenFile, file_or_own};
-use crate::skipping::{Report, followed};
+use crate::skipping::followed;
 use compose_answer::{Answer, Ended, Refusal};
 use compose_arguments::LintArguments;
 use compose_details::Given;
@@ -24,6 +24,7 @@ use compose_messages::{FileMessage, Message, Position};
 use compose_model::Rule;
 use compose_read::Sources;
 use compose_report::{Outcome, outcome_with, told_text, worded_refusal};
+use compose_skipped::Report;
 use std::alloc::{AllocError, Global};
 use std::marker::Model;
 

@@ -6,7 +6,7 @@ use Rattle.keysym_core.specs.declared.fault.NameFault.{NameFault}
 use Rattle.compose_read.specs.Lines.{Source}
 use Rattle.compose_skip.specs.declared.others.OtherLines.{OtherLines}
 use Rattle.compose_input.specs.declared.tables.TableFiles.{TableFiles}
-use Rattle.compose_runs.specs.Skipping.{AreOtherLines, IsKept, IsOtherTable, faults_by}
+use Rattle.compose_skipped.specs.Kept.{AreOtherLines, IsKept, IsOtherTable, faults_by}
 
 -- by names that are read, these are the faults
 pub some_faults : (names : Result KeysymNames NameFault) (sources : List Source) (others : OtherLines) → AreOtherLines names sources (Some others) → others.faults.items ≡ faults_by names sources

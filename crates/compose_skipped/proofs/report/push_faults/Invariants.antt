@@ -1,6 +1,6 @@
 use Rattle.std.proofs.Common.{◌≡◌, ◌++◌, flat_map, map, take, string_bytes}
-use Rattle.compose_runs.specs.Skipping.{skipped_line}
-use Rattle.compose_runs.proofs.skipping.push_faults.Given as goal
+use Rattle.compose_skipped.specs.Reported.{skipped_line}
+use Rattle.compose_skipped.proofs.report.push_faults.Given as goal
 
 -- the lines of the faults so far
 abbrev pub invariant-loop-fault : goal.invariant-loop-fault
