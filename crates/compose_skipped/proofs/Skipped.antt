@@ -1,5 +1,5 @@
 -- Tables without their faulty lines, and the faults of these.
-use Rattle.std.proofs.Common.{◌≡◌, ℕ, List, [], refl, absurd, sym}
+use Rattle.std.proofs.Common.{◌≡◌, List, [], refl}
 use Rattle.std.specs.Prelude.{Option, Some, None, Result, Ok, Err}
 use Rattle.keysym_core.specs.Names.{KeysymNames}
 use Rattle.keysym_core.specs.declared.fault.NameFault.{NameFault}

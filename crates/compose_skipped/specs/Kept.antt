@@ -19,12 +19,12 @@ abbrev pub skipped_faults : List ℕ → TableFiles → List ReadFault
 skipped_faults header table = faults_by (names_of header) table.sources
 
 -- the table with other sources
-pub record IsOtherTable (table : TableFiles) (sources : List Source) (other : TableFiles) : Type 0 where
+pub record IsOtherTable (table : TableFiles) (others : List Source) (other : TableFiles) : Type 0 where
   pub path : other.path ≡ table.path
   pub paths : other.paths ≡ table.paths
   pub rule : other.rule ≡ table.rule
   pub note : other.note ≡ table.note
-  pub sources : other.sources ≡ sources
+  pub sources : other.sources ≡ others
 
 -- the table is that of the other lines; the same table where the names are refused
 abbrev pub IsKept : Result KeysymNames NameFault → TableFiles → TableFiles → Type 0

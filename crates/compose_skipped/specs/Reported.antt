@@ -1,5 +1,5 @@
 -- What is reported of lines that are left out (this project's profile).
-use Rattle.std.specs.Prelude.{ℕ, ◌+◌, List, [], ◌∷◌, ◌++◌, flat_map, length, map, get_or, Some, string_bytes, codes}
+use Rattle.std.specs.Prelude.{ℕ, ◌+◌, ◌==◌, if◌then◌else◌, List, [], ◌∷◌, ◌++◌, flat_map, length, map, get_or, Some, string_bytes, codes}
 use Rattle.std.specs.Fmt.{decimal}
 use Rattle.std.specs.Option.{option_map_or}
 use Rattle.compose_read.specs.Lines.{Source}
@@ -44,8 +44,7 @@ with_faults r table faults = record { lines = r.lines ++ fault_lines table fault
 
 -- the last line, which says how many lines are left out
 abbrev pub count_line : ℕ → List ℕ
-count_line 1 = codes "1 faulty line left out\n"
-count_line count = decimal count ++ codes " faulty lines left out\n"
+count_line count = if count == 1 then codes "1 faulty line left out\n" else decimal count ++ codes " faulty lines left out\n"
 
 abbrev pub report_of : Reported → List ℕ
 report_of r = r.lines ++ count_line r.count

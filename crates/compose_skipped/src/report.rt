@@ -74,7 +74,7 @@ impl Report {
 
     /// The lines, and a last one that counts them.
     pub fn into_text(self) -> Result<String, AllocError>
-        ensures { IfOk result (λ text. string_bytes text ≡ words.report_of self.entry) }
+        ensures { IfOk result (λ text. string_bytes text ≡ words.report_of self) }
     {
         let count = self.count;
         let mut text = self.lines;
