@@ -21,7 +21,7 @@ fn child<T: ComposeTable>(table: &T, node: NodeId, keysym: Keysym) -> Option<Nod
 }
 
 /// The node of these keysyms, if they are a node of the table.
-fn node_of<T: ComposeTable>(table: &T, keysyms: &[Keysym]) -> Option<NodeId>
+pub fn node_of<T: ComposeTable>(table: &T, keysyms: &[Keysym]) -> Option<NodeId>
     ensures { result ≡ node_id (T.definitions table.now) keysyms.now }
 {
     let mut node = NodeId::ROOT;

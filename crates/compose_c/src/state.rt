@@ -9,7 +9,7 @@ ghost use Rattle.compose_c.specs.States.{session_of, status_number};
 use crate::copies::put;
 use arrayvec::{ArrayString, ArrayVec};
 use compose_model::Status;
-use compose_state::{ComposeState, Fed};
+use compose_state::{ComposeState, Fed, FedText};
 use keysym_core::Keysym;
 
 /// A compose state. All zeros are one at rest, and any numbers are a state: where the count is above 31, or one of so many pending
@@ -104,6 +104,21 @@ pub fn keep(state: &mut State, session: &ComposeState)
 
 /// Puts the text of the answer into the array, and gives its length. O(its bytes).
 pub fn put_text(fed: &Fed<'_>, target: &mut [u8; 255]) -> u32
+    ensures text { take result target.new ≡ text_bytes fed.now.text }
+    ensures few { result ≤ 255 }
+{
+    match fed.text {
+        FedText::Empty => 0,
+        FedText::Char(_) => put_character(fed, target),
+        FedText::Slice(text) => {
+            put(text.as_bytes(), target);
+            text.len() as u32
+        }
+    }
+}
+
+/// The same, by way of a text of its own.
+fn put_character(fed: &Fed<'_>, target: &mut [u8; 255]) -> u32
     ensures text { take result target.new ≡ text_bytes fed.now.text }
     ensures few { result ≤ 255 }
 {
