@@ -75,11 +75,11 @@ pub fn compile_with_results(
 {
     match read(alloc, header, bundle, longest) {
         Ok(read) => {
-            let fits = put_table(&read.table, nodes, edges, offsets, texts, hints, sizes);
-            if put_results(&read.results, results, result_count) && fits {
-                return 0;
+            let placed = put_results(&read.results, results, result_count);
+            if !put_table(&read.table, nodes, edges, offsets, texts, hints, sizes) {
+                return 2;
             }
-            2
+            if placed { 0 } else { 2 }
         }
         Err(refusal) => {
             *fault = fault_of(&refusal);
