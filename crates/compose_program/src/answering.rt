@@ -11,8 +11,10 @@ use compose_runs::{Environment, Options};
 use compose_tree::ComposeTable;
 use std::alloc::{AllocError, Global};
 
-/// What a command prints that reads files and answers, and how its run ends: from the question, the environment and what the files hold. Why
-/// what it was given can't be read, or is refused, is said in this form. At the cost of the command over its files.
+/// What a command prints that reads files and answers, and how its run ends: from the question, the
+/// environment and what the files hold. Why what it was given can't be read, or is refused, is said
+/// in this form. An error is that memory was refused for saying so. At the cost of the command over
+/// its files.
 pub fn run_question<T: ComposeTable, F: Folder>(
     alloc: Global,
     files: &mut ReadOnce<F>,

@@ -1,9 +1,13 @@
-//! The commands that read files and answer, as one function: from what is asked, what the environment says and what the files hold to what
-//! is printed and how the run ends. Nothing is printed here, and files are read through a [`ReadOnce`](compose_folder::ReadOnce) alone.
+//! The commands that read files and answer, as one function: from what is asked, what the environment
+//! says and what the files hold to what is printed and how the run ends. Nothing is printed here, and
+//! files are read through a [`ReadOnce`](compose_folder::ReadOnce) alone.
 //!
 //! ```text
-//! let asked = Asked { options, question };
-//! print(rt, &run_question::<PackedTable, _>(alloc, &mut files, &environment, options, question)?)
+//! let form = fault_form(options.verbose, &request);
+//! let outcome = run_question::<PackedTable, _>(
+//!     alloc, &mut files, &environment, options, form, &question,
+//! )?;
+//! print(rt, &outcome)
 //! ```
 #![tactic(auto)]
 
