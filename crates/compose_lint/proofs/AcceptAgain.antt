@@ -1,11 +1,11 @@
 -- The lines of a written list are read again, and accept the findings for which it was written.
-use Rattle.std.proofs.Common.{◌≡◌, ◌∙◌, ℕ, ◌+◌, Bool, true, false, not, List, [], ◌∷◌, ◌++◌, map, filter, flat_map, refl, sym, ap, arith, leb-true}
+use Rattle.std.proofs.Common.{◌≡◌, ◌∙◌, ℕ, ◌+◌, Bool, true, false, not, List, [], ◌∷◌, ◌++◌, map, filter, flat_map, refl, ap, arith, leb-true}
 use Rattle.std.specs.Prelude.{◌==◌, ◌&&◌, ◌||◌, None, Ok, Err, bytes_eq, codes}
 use Rattle.std.specs.List.{find, list_any, list_all}
 use Rattle.std.specs.Option.{option_map_or}
 use Rattle.std.specs.Str.{chars}
 use Rattle.std.specs.Str.Lossy.{utf8_lossy}
-use Rattle.std.proofs.lemmas.Bool.{and_parts, and_from, not-true, ne_eqb, eqb-true, or_left, or_right}
+use Rattle.std.proofs.lemmas.Bool.{and_parts, and_from, not-true, ne_eqb, eqb-true}
 use Rattle.std.proofs.lemmas.List.{append_assoc}
 use Rattle.std.proofs.lemmas.List.Folds.{list_all-append}
 use Rattle.compose_text.specs.Lines.{in_line, lines_of, onto_first}
@@ -15,12 +15,11 @@ use Rattle.compose_diff.specs.declared.accepted.AcceptFault.TheVariants.{Stale, 
 use Rattle.compose_diff.proofs.Plain.{is_plain, ArePlain, character_plain}
 use Rattle.compose_lint.specs.Rows.{Row}
 use Rattle.compose_lint.specs.Report.{kind_word}
-use Rattle.compose_lint.specs.Accepted.{listed_character, listed_characters, listed_line, listed_text, file_words, text_words, reader_words, begins_as_one, is_in_form, is_accepted, is_none_of, is_stale, left_of, without_blanks, distinct, as_line, as_lines, accept_lines, AcceptsAll}
+use Rattle.compose_lint.specs.Accepted.{listed_character, listed_line, listed_text, file_words, text_words, reader_words, begins_as_one, is_in_form, is_accepted, is_none_of, without_blanks, distinct, as_lines, accept_lines, AcceptsAll}
 use Rattle.compose_lint.specs.declared.finding.Kind.{Kind}
 use Rattle.compose_lint.specs.declared.finding.Kind.TheVariants.{Fault, Overridden, Repeated, Prefix, Keysym, Mark, Form, Comment, Redundant, Reader}
-use Rattle.compose_lint.specs.declared.reader.Reader.{Reader as ReaderName}
 use Rattle.compose_lint.specs.declared.reader.Reader.TheVariants.{LibX11, Libxkbcommon, Gtk3, Gtk4}
-use Rattle.compose_lint.proofs.Among.{distinct_all, among_distinct, all_among, same}
+use Rattle.compose_lint.proofs.Among.{distinct_all, among_distinct, all_among}
 
 -- ---- a listed text is a line that is not skipped, in the form, and without a newline
 

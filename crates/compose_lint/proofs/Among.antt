@@ -1,6 +1,6 @@
 -- Texts that are looked up among others, and each of them where it stands first.
-use Rattle.std.proofs.Common.{◌≡◌, ◌∙◌, ℕ, ◌+◌, ◌<◌, Bool, true, false, not, cond, List, [], ◌∷◌, ◌++◌, length, take, map, filter, get_or, refl, sym, ap, subst}
-use Rattle.std.specs.Prelude.{◌||◌, Option, Some, None, is_some, bytes_eq}
+use Rattle.std.proofs.Common.{◌≡◌, ◌∙◌, ℕ, ◌+◌, ◌<◌, Bool, true, false, not, cond, List, [], ◌∷◌, ◌++◌, length, take, map, filter, get_or, refl, sym, ap}
+use Rattle.std.specs.Prelude.{◌||◌, Option, Some, is_some, bytes_eq}
 use Rattle.std.specs.List.{find, list_any, list_all}
 use Rattle.std.proofs.lemmas.Bool.{and_parts, and_from, or_left, or_right}
 use Rattle.std.proofs.lemmas.List.{take_more, map-append}

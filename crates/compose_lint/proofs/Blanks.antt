@@ -1,10 +1,10 @@
 -- A blank at the end of a line says nothing in a list.
-use Rattle.std.proofs.Common.{◌≡◌, ◌∙◌, ℕ, suc, ◌+◌, ◌-◌, ◌≤◌, Bool, true, false, cond, List, [], ◌∷◌, ◌++◌, length, take, drop, reverse, refl, sym, ap, ap₂, arith}
+use Rattle.std.proofs.Common.{◌≡◌, ◌∙◌, ℕ, suc, ◌+◌, ◌-◌, Bool, true, false, cond, List, [], ◌∷◌, ◌++◌, length, take, drop, reverse, refl, sym, ap, ap₂, arith}
 use Rattle.std.specs.List.{prefix_len, suffix_len}
 use Rattle.std.specs.Str.Lossy.{utf8_lossy}
 use Rattle.std.proofs.lemmas.List.{take-append-le, length-append, reverse-append}
 use Rattle.compose_text.specs.Bytes.{is_blank}
-use Rattle.compose_lint.specs.Accepted.{without_first_blanks, without_last_blanks, without_blanks, listed_characters, listed_line}
+use Rattle.compose_lint.specs.Accepted.{without_last_blanks, without_blanks, listed_characters, listed_line}
 
 one_more : (p : ℕ → Bool) (x : ℕ) (xs : List ℕ) → p x ≡ true → prefix_len p (x ∷ xs) ≡ 1 + prefix_len p xs
 one_more p x xs e = rw e refl

@@ -1,5 +1,5 @@
 -- What is answered by the names of the header.
-use Rattle.std.proofs.Common.{◌≡◌, Bool, List, ℕ}
+use Rattle.std.proofs.Common.{◌≡◌}
 use Rattle.std.specs.Prelude.{Result, Ok, Err, IfOk}
 use Rattle.keysym_core.specs.Names.{KeysymNames}
 use Rattle.keysym_core.specs.Header.{names_of}

@@ -1,19 +1,17 @@
 -- What a list leaves, or why it is refused.
-use Rattle.std.proofs.Common.{◌≡◌, ◌∙◌, ℕ, List, filter, not, sym}
-use Rattle.std.specs.Prelude.{Result, Ok, Err, Option, Some, None, IfOk}
+use Rattle.std.proofs.Common.{◌≡◌, ℕ, List, filter, not}
+use Rattle.std.specs.Prelude.{Result, Ok, Err, Option, Some, None}
 use Rattle.std.specs.List.{find}
 use Rattle.std.specs.Option.{option_map_or}
 use Rattle.std.specs.declared.vec.Vec.{Vec}
 use Rattle.std.specs.declared.alloc.Global.{Global}
-use Rattle.compose_answer.specs.declared.answer.Answer.{Answer}
-use Rattle.compose_answer.specs.declared.answer.Answer.TheVariants.{Yes, No, Invalid, FreshNotAllowed}
 use Rattle.compose_text.specs.Lines.{lines_of}
 use Rattle.compose_diff.specs.Accepted.{Line, Gives, said_from}
 use Rattle.compose_diff.specs.declared.accepted.AcceptFault.{AcceptFault}
 use Rattle.compose_diff.specs.declared.accepted.AcceptFault.TheVariants.{Stale, BadLine, NoMemory}
 use Rattle.compose_lint.specs.Rows.{Row}
 use Rattle.compose_lint.specs.Accepted.{accepted_of, is_in_form, is_accepted, is_stale, left_of, Leaves, IsLeftBy}
-use Rattle.compose_lint.specs.Answers.{Asked, AnswersOn, Tells}
+use Rattle.compose_lint.specs.Answers.{Asked, AnswersOn}
 use Rattle.compose_lint.specs.Raised.{accept_raised}
 
 -- a list that is read leaves no line that is not in the form

@@ -15,3 +15,5 @@ pub mod ByNames
 pub mod Leaving
 pub mod Blanks
 pub mod Chained
+pub mod Normal
+pub mod Spaced

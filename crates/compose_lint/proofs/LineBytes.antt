@@ -3,10 +3,10 @@ use Rattle.std.proofs.Common.{◌≡◌, ◌∙◌, ℕ, zero, suc, ◌+◌, ◌
 use Rattle.std.specs.Prelude.{Option, Some, None, slice_get}
 use Rattle.std.specs.Option.{option_map, option_map_or}
 use Rattle.keysym_core.specs.Names.{KeysymNames}
-use Rattle.compose_read.specs.Lines.{Source, Visit, numbered, source_lines, own_lines}
+use Rattle.compose_read.specs.Lines.{Source, numbered, source_lines}
 use Rattle.compose_read.specs.declared.ReadFault.{ReadFault}
 use Rattle.compose_messages.specs.Places.{line_at}
-use Rattle.compose_lint.specs.Lines.{LintLine, SourceLines, lint_line, lines_in, lint_source, sources_from, all_sources}
+use Rattle.compose_lint.specs.Lines.{LintLine, SourceLines, lint_line, lint_source, sources_from, all_sources}
 use Rattle.compose_lint.specs.Rows.{Table, bytes_in, row_in, row_of}
 use Rattle.compose_lint.specs.declared.finding.Finding.{Finding}
 

@@ -58,6 +58,10 @@ tail line raw = take_while (λ b. not (b == 35)) (drop (length raw) (drop 2 (dro
 abbrev pub has_return : List ℕ → Written → Bool
 has_return line p = list_any (λ b. b == 13) (take (head_len line) line) || option_map_or (λ raw. list_any (λ b. b == 13) (tail line raw)) p.raw false
 
+-- a carriage return before the string of an include: libX11 skips the line
+abbrev pub has_return_in_include : List ℕ → Bool
+has_return_in_include line = is_some (raw_include line) && list_any (λ b. b == 13) (take (head_len line) line)
+
 -- a blank after `<` (code 60) or before `>` (code 62)
 abbrev pub is_spaced : ℕ × ℕ → Bool
 is_spaced p = (p.0 == 60 && is_blank p.1) || (is_blank p.0 && p.1 == 62)
@@ -65,3 +69,8 @@ is_spaced p = (p.0 == 60 && is_blank p.1) || (is_blank p.0 && p.1 == 62)
 -- a blank beside the name of a key: libxkbcommon skips the line
 abbrev pub has_spaced_name : List ℕ → Bool
 has_spaced_name line = list_any is_spaced (zip (take (head_len line) line) (drop 1 (take (head_len line) line)))
+
+-- the same in words for private functions: of these bytes, which follow this one
+abbrev pub has_spaced_name_after : ℕ → List ℕ → Bool
+has_spaced_name_after before [] = false
+has_spaced_name_after before (b ∷ line) = not (begins_string_or_comment b) && (is_spaced (before, b) || has_spaced_name_after b line)

@@ -7,7 +7,7 @@ use Rattle.compose_lint.specs.Productions.{Written}
 use Rattle.compose_read.specs.Lines.{Source}
 use Rattle.compose_read.specs.declared.ReadFault.{ReadFault}
 use Rattle.compose_lint.specs.Faults.{fault_kinds}
-use Rattle.compose_lint.specs.FileLines.{is_after_mark, is_without_newline, is_joined, has_return, has_spaced_name}
+use Rattle.compose_lint.specs.FileLines.{is_after_mark, is_without_newline, is_joined, has_return, has_return_in_include, has_spaced_name}
 use Rattle.compose_lint.specs.Lines.{LintLine, SourceLines, all_lines, all_sources}
 use Rattle.compose_lint.specs.Counting.{last_defining}
 use Rattle.compose_lint.specs.Longer.{longer_place, place_of}
@@ -72,6 +72,7 @@ file_kinds readers bytes lines l =
     ++ when (readers.libxkbcommon && is_after_mark bytes l) (Reader Libxkbcommon ByteOrderMark)
     ++ when (readers.libxkbcommon && is_without_newline bytes (length lines) l) (Reader Libxkbcommon NoNewline)
     ++ when (readers.libx11 && is_joined lines l) (Reader LibX11 Joined)
+    ++ when (readers.libx11 && has_return_in_include l.bytes) (Reader LibX11 CarriageReturn)
 
 -- blanks in a production
 abbrev pub blank_kinds : Readers → List ℕ → Written → List Kind

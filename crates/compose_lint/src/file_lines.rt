@@ -11,6 +11,7 @@ use crate::lines::LintLine;
 use crate::production::{Written, production_of};
 use arrayvec::ArrayVec;
 use compose_lex::{Said, lex_line_into};
+use memchr::memchr;
 
 /// Whether the line reads as a definition or an include. O(bytes).
 fn says_something(line: &[u8]) -> bool
@@ -160,11 +161,31 @@ fn has_return_after(line: &[u8], raw: &str) -> bool
 pub(crate) fn has_return(line: &[u8], written: &Written<'_>) -> bool
     ensures { result ≡ words.has_return line.now written.now }
 {
+    match memchr(b'\r', line) {
+        Some(_) => has_return_outside(line, written),
+        None => false,
+    }
+}
+
+/// The same of a line that may have a carriage return.
+fn has_return_outside(line: &[u8], written: &Written<'_>) -> bool
+    ensures { result ≡ words.has_return line.now written.now }
+{
     if has_return_before(line) {
         return true;
     }
     match written.raw_text() {
         Some(raw) => has_return_after(line, raw),
+        None => false,
+    }
+}
+
+/// Whether the line is an include with a carriage return before its string. O(bytes).
+pub(crate) fn has_return_in_include(line: &[u8]) -> bool
+    ensures { result ≡ words.has_return_in_include line.now }
+{
+    match memchr(b'\r', line) {
+        Some(_) => raw_include(line).is_some() && has_return_before(line),
         None => false,
     }
 }
@@ -187,9 +208,22 @@ pub(crate) fn is_blank(byte: u8) -> bool
 pub(crate) fn has_spaced_name(line: &[u8]) -> bool
     ensures { result ≡ words.has_spaced_name line.now }
 {
-    let head = head_len(line);
-    line.iter()
-        .take(head)
-        .zip(line.iter().take(head).skip(1))
-        .any(|pair| is_spaced(*pair.0, *pair.1))
+    has_spaced_name_after(b':', line)
+}
+
+/// Whether a blank stands beside the name of a key in these bytes, which follow this one.
+fn has_spaced_name_after(first: u8, line: &[u8]) -> bool
+    ensures { result ≡ words.has_spaced_name_after first line.now }
+{
+    let mut before = first;
+    for byte in line {
+        if begins_string_or_comment(*byte) {
+            return false;
+        }
+        if is_spaced(before, *byte) {
+            return true;
+        }
+        before = *byte;
+    }
+    false
 }

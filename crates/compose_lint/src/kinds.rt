@@ -20,7 +20,8 @@ use crate::counting::{LastLines, last_lines};
 use crate::definition::LineDefinition;
 use crate::faults::push_fault_kinds;
 use crate::file_lines::{
-    has_return, has_spaced_name, is_after_mark, is_joined, is_without_newline,
+    has_return, has_return_in_include, has_spaced_name, is_after_mark, is_joined,
+    is_without_newline,
 };
 use crate::finding::{Finding, Kind};
 use crate::lines::LintLine;
@@ -228,7 +229,13 @@ fn push_file_kinds(
         Kind::Reader(Reader::Libxkbcommon, Class::NoNewline),
     )?;
     let joined = readers.libx11 && is_joined(lines, line);
-    push_when(kinds, joined, Kind::Reader(Reader::LibX11, Class::Joined))
+    push_when(kinds, joined, Kind::Reader(Reader::LibX11, Class::Joined))?;
+    let returned = readers.libx11 && has_return_in_include(line.bytes());
+    push_when(
+        kinds,
+        returned,
+        Kind::Reader(Reader::LibX11, Class::CarriageReturn),
+    )
 }
 
 /// Adds what other readers make of blanks in a production.

@@ -9,7 +9,7 @@ use crate::production::Written;
 use keysym_core::Names;
 use std::alloc::{AllocError, Global};
 use unicode_normalization::char::canonical_combining_class;
-use unicode_normalization::to_nfc;
+use unicode_normalization::is_nfc;
 
 /// Whether the text has one combining mark twice in a row. O(characters).
 pub(crate) fn repeats_mark(text: &str) -> bool
@@ -31,8 +31,7 @@ fn is_mark(character: char) -> bool
 pub(crate) fn is_normal(alloc: Global, text: &str) -> Result<bool, AllocError>
     ensures { IfOk result (λ is. is ≡ words.is_normal text.now) }
 {
-    let normal = to_nfc(alloc, text)?;
-    Ok(normal.as_str() == text)
+    is_nfc(alloc, text)
 }
 
 /// Whether a string has the name of a keysym beside it that has another character.

@@ -1,4 +1,4 @@
-use Rattle.std.proofs.Common.{◌≡◌, ◌∙◌, ap, map, not, string_bytes}
+use Rattle.std.proofs.Common.{◌∙◌, ap, map, not, string_bytes}
 use Rattle.std.specs.Prelude.{is_some, bytes_eq}
 use Rattle.std.specs.Option.{option_map}
 use Rattle.indexmap.specs.IndexMap.{get_by}

@@ -1,4 +1,4 @@
-use Rattle.std.proofs.Common.{◌∙◌, ap, sym, string_bytes, ◌++◌}
+use Rattle.std.proofs.Common.{◌∙◌, ap, string_bytes, ◌++◌}
 use Rattle.std.specs.Prelude.{is_some}
 use Rattle.compose_lint.specs.Accepted.{as_line}
 use Rattle.compose_lint.proofs.Among.{one_more, line_more, line_same}

@@ -1,4 +1,4 @@
-use Rattle.std.proofs.Common.{◌≡◌, ◌∙◌, ◌++◌, ap₂, sym}
+use Rattle.std.proofs.Common.{◌∙◌, ◌++◌, ap₂, sym}
 use Rattle.compose_lint.specs.Accepted.{listed_text, unless}
 use Rattle.compose_lint.proofs.Among.{filter_next}
 use Rattle.compose_lint.proofs.accepted.not_accepted.Goals as goal

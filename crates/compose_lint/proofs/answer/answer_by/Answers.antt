@@ -1,4 +1,4 @@
-use Rattle.std.proofs.Common.{◌≡◌, ◌∙◌, flat_map, ap, sym, subst}
+use Rattle.std.proofs.Common.{◌∙◌, flat_map, ap, sym, subst}
 use Rattle.std.proofs.lemmas.List.Folds.{flat_map-map}
 use Rattle.compose_lint.specs.Answers.{AnswersOn, asked, table_given}
 use Rattle.compose_lint.specs.Rows.{faulty_rows, table_rows, with_faults}

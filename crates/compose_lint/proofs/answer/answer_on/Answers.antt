@@ -1,4 +1,4 @@
-use Rattle.std.proofs.Common.{◌≡◌, sym, subst}
+use Rattle.std.proofs.Common.{sym, subst}
 use Rattle.std.specs.Prelude.{Err}
 use Rattle.compose_lint.specs.Answers.{AnswersOn, asked}
 use Rattle.compose_lint.specs.declared.asking.LintFault.{LintFault}

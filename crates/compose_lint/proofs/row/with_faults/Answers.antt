@@ -1,4 +1,4 @@
-use Rattle.std.proofs.Common.{◌≡◌, ◌∙◌, [], ◌∷◌, ◌++◌, ap₂, sym}
+use Rattle.std.proofs.Common.{◌∙◌, [], ◌∷◌, ◌++◌, ap₂, sym}
 use Rattle.compose_lint.specs.Answers.{table_given}
 use Rattle.compose_lint.specs.Rows.{with_faults}
 use Rattle.compose_lint.proofs.Among.{last_more}

@@ -1,4 +1,4 @@
-use Rattle.std.proofs.Common.{◌≡◌, ◌∙◌, length, sym, ap, eqb-true}
+use Rattle.std.proofs.Common.{◌∙◌, length, sym, ap, eqb-true}
 use Rattle.std.specs.Prelude.{Ok}
 use Rattle.compose_lint.proofs.NothingAccepted.{nothing_accepted}
 use Rattle.compose_lint.proofs.accepted.Accepted.leave_out.Goals as goal
