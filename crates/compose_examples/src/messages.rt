@@ -725,7 +725,7 @@ fn texts_of_hints(rt: HostRuntime) -> Result<(), Fail> {
         ),
         (
             Hint::Table,
-            "composecheck: hint: this is a Compose table; `composecheck manifest TABLE` prints its manifest",
+            "composecheck: hint: this is a Compose file: use --files, or the manifest that `composecheck manifest FILE` prints",
         ),
         (
             Hint::NoCertificate,

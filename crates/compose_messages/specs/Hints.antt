@@ -22,6 +22,7 @@ use Rattle.compose_tree.specs.declared.reading.TableFault.TheVariants.{Read, Set
 use Rattle.compose_shown.specs.Shown.{shown_text}
 use Rattle.compose_manifest.specs.declared.manifest.ManifestFault.{ManifestFault}
 use Rattle.compose_manifest.specs.declared.manifest.ManifestFault.TheVariants.{BadLine}
+use Rattle.compose_messages.specs.Beginning.{begins_as_table}
 use Rattle.compose_messages.specs.Places.{line_at, text_or_nothing}
 use Rattle.compose_messages.specs.Tokens.{named}
 use Rattle.compose_messages.specs.declared.hints.Hint.{Hint}
@@ -39,7 +40,7 @@ hint_text Repertoire = codes "composecheck: hint: this is a repertoire, and no C
 hint_text Manifest = codes "composecheck: hint: this is a manifest, which lists Compose files, and none itself"
 hint_text OverlapLongest = codes "composecheck: hint: with the line `overlap longest` before the entries of the manifest, or `diff --overlap longest`, the longer sequence counts"
 hint_text Fresh = codes "composecheck: hint: `--fresh` takes the keysyms for which nothing has to be promised"
-hint_text Table = codes "composecheck: hint: this is a Compose table; `composecheck manifest TABLE` prints its manifest"
+hint_text Table = codes "composecheck: hint: this is a Compose file: use --files, or the manifest that `composecheck manifest FILE` prints"
 hint_text NoCertificate = codes "composecheck: hint: this is a Compose file, and no certificate"
 hint_text NoRepertoire = codes "composecheck: hint: this is a Compose file, and no repertoire"
 hint_text NamesEncoding = codes "composecheck: hint: a header of names is in UTF-8; `iconv -f ENCODING -t UTF-8` converts another one"
@@ -133,5 +134,5 @@ repertoire_hint bytes fault = None
 
 -- the file is a Compose table: its faulty line is one of a table, or its path ends in `Compose`
 abbrev pub manifest_hint : List ℕ → List ℕ → ManifestFault → Option Hint
-manifest_hint path bytes (BadLine n) = if ends_with nat_eq path (codes "Compose") || is_table_line (get_or (lines_of bytes) (n - 1) []) then Some Table else None
+manifest_hint path bytes (BadLine n) = if ends_with nat_eq path (codes "Compose") || is_table_line (get_or (lines_of bytes) (n - 1) []) || begins_as_table bytes then Some Table else None
 manifest_hint path bytes fault = None

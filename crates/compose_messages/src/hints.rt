@@ -4,6 +4,7 @@ ghost use Rattle.compose_text.specs.Bytes.{begins, is_blank};
 ghost use Rattle.compose_text.specs.Numbers.{is_hexadecimal};
 ghost use Rattle.compose_messages.specs.Hints as hints;
 
+use crate::beginning::begins_as_table;
 use crate::lines::{nth_line, source_line, text_or_nothing};
 use crate::tokens::{contains, is_blank, named};
 use arrayvec::ArrayVec;
@@ -94,7 +95,7 @@ impl fmt::Display for Hint {
                 "composecheck: hint: `--fresh` takes the keysyms for which nothing has to be promised",
             ),
             Hint::Table => f.write_str(
-                "composecheck: hint: this is a Compose table; `composecheck manifest TABLE` prints its manifest",
+                "composecheck: hint: this is a Compose file: use --files, or the manifest that `composecheck manifest FILE` prints",
             ),
             Hint::NoCertificate => {
                 f.write_str("composecheck: hint: this is a Compose file, and no certificate")
@@ -325,7 +326,8 @@ fn has_table_line(bytes: &[u8]) -> bool
     false
 }
 
-/// The hint where a table was given in place of a manifest: the faulty line is one of a table, or the path ends in `Compose`. O(bytes).
+/// The hint where a table was given in place of a manifest: the faulty line is one of a table, the file begins as a table, or the path ends in
+/// `Compose`. O(bytes).
 pub fn manifest_hint(path: &str, bytes: &[u8], fault: &ManifestFault) -> Option<Hint>
     ensures { result ≡ hints.manifest_hint path.now bytes.now fault.now }
 {
@@ -333,7 +335,8 @@ pub fn manifest_hint(path: &str, bytes: &[u8], fault: &ManifestFault) -> Option<
         return None;
     };
     let is_table = path.as_bytes().ends_with(b"Compose")
-        || is_table_line(nth_line(bytes, line.saturating_sub(1)));
+        || is_table_line(nth_line(bytes, line.saturating_sub(1)))
+        || begins_as_table(bytes);
     is_table.then_some(Hint::Table)
 }
 

@@ -12,6 +12,7 @@
 //! ([`overlap_words`]), and a [`Hint`] stands below where one helps.
 #![tactic(auto)]
 
+mod beginning;
 mod characters;
 mod faults;
 mod hints;

@@ -52,8 +52,8 @@ fn name_of(sources: &Sources, source: usize) -> &str
     sources.name(source).unwrap_or("")
 }
 
-/// What is said where more than eight includes lead to the file of this name, and the last of them stands in the file `own`, in a
-/// table of so many files. Of at most nine files one is among the ten of that way twice.
+/// What is said where more than eight includes lead to the file `name`, and the last of them stands in the file `own`. `count` is the
+/// number of files of the table: such a chain leads through ten files, so with nine or fewer one of them comes twice.
 fn depth_message<'a>(count: usize, own: &str, name: &'a str) -> Message<'a>
     ensures { message_text result ≡ messages.depth_said count own.now name.now }
 {

@@ -2,3 +2,4 @@ pub mod OneKey
 pub mod FreshKeysyms
 pub mod Steps
 mod Untypable
+pub mod Lists

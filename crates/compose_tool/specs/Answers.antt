@@ -21,7 +21,7 @@ use Rattle.compose_make.specs.Least.{AreUntypable, IsUnreachable}
 use Rattle.compose_make.specs.IsMade.{IsMadeFor}
 use Rattle.compose_migration.specs.Migration.{Parts, or_because}
 use Rattle.compose_answer.specs.Parts.{NoAnswer, TypedParts, AllowedParts, Explainable, Needs, unread, makeable}
-use Rattle.compose_tool.specs.Typed.{typed_lines}
+use Rattle.compose_tool.specs.Typed.{typed_lines, typed_lists}
 use Rattle.compose_answer.specs.declared.answer.Answer.{Answer}
 use Rattle.compose_answer.specs.declared.answer.Answer.TheVariants.{Yes, No, Invalid, FreshNotAllowed}
 
@@ -37,6 +37,13 @@ IsTyped p (Yes text) = string_bytes text ≡ typed_lines p.names p.table p.keys
 IsTyped p (No text) = ⊥
 IsTyped p (Invalid fault) = ⊥
 IsTyped p (FreshNotAllowed keysym) = ⊥
+
+-- a line for each key of each list, and an empty line after each list
+abbrev pub AreListsTyped : List ℕ → TypedParts → Answer → Type 0
+AreListsTyped counts p (Yes text) = string_bytes text ≡ typed_lists p.names p.table p.keys counts
+AreListsTyped counts p (No text) = ⊥
+AreListsTyped counts p (Invalid fault) = ⊥
+AreListsTyped counts p (FreshNotAllowed keysym) = ⊥
 
 -- ---- check
 

@@ -19,4 +19,4 @@ pub use checking::{check_allowed, check_migration};
 pub use explaining::{explain_all_migration, explain_migration};
 pub use making::make_migration;
 pub use making_all::make_all_migration;
-pub use typing::{TypeFault, type_keys, type_lines};
+pub use typing::{TypeFault, type_keys, type_lines, type_lists};

@@ -1,14 +1,14 @@
 //! Typing keys with a table, line by line.
-ghost use Rattle.std.specs.Prelude.{◌≡◌, ◌++◌, List, map, Ok, OnOk, IfOk, string_bytes};
+ghost use Rattle.std.specs.Prelude.{◌≡◌, ◌++◌, List, drop, map, take, Ok, OnOk, IfOk, string_bytes};
 ghost use Rattle.compose_model.specs.Table.{Definition};
 ghost use Rattle.compose_read.specs.Read.{definitions_of};
 ghost use Rattle.compose_tree.specs.TableGives.{table_of};
 ghost use Rattle.compose_tool.specs.TypeGives.{TypeGives};
 ghost use Rattle.compose_migration.specs.MigrationGives.{table_given};
-ghost use Rattle.compose_tool.specs.Typed.{typed_lines, fed_line};
+ghost use Rattle.compose_tool.specs.Typed.{typed_lines, typed_list, typed_lists, fed_line};
 ghost use Rattle.compose_answer.specs.Parts.{type_parts};
 ghost use Rattle.compose_answer.specs.Refused.{Gives};
-ghost use Rattle.compose_tool.specs.Answers.{IsTyped};
+ghost use Rattle.compose_tool.specs.Answers.{AreListsTyped, IsTyped};
 
 use crate::parts::{read_named, read_only_table};
 use arrayvec::ArrayString;
@@ -88,6 +88,74 @@ pub fn type_keys<T: ComposeTable>(
     let table: T = read_only_table(alloc, &named.names, table)?;
     let lines = lines_of_keys(alloc, &named.names, &table, &named.keys)?;
     Ok(Answer::Yes(lines))
+}
+
+/// Types lists of keys with a table, each from rest: a line for each key, as `type_lines` gives it, and an empty line after each list. `counts` has
+/// how many of the keys each list has, in order; keys after them are typed by none. The parts are read as by `type_keys`.
+pub fn type_lists<T: ComposeTable>(
+    alloc: Global,
+    header: &[u8],
+    key_names: &[&str],
+    counts: &[usize],
+    table: &TableInput<'_>,
+) -> Result<Answer, Refusal>
+    ensures { Gives (AreListsTyped counts.now) result
+        (type_parts header.now (map (λ word. word.now) key_names.now)
+        (table_given table.entry.now)) }
+{
+    let named = read_named(alloc, header, key_names)?;
+    let table: T = read_only_table(alloc, &named.names, table)?;
+    let lines = lines_of_lists(alloc, &named.names, &table, &named.keys, counts)?;
+    Ok(Answer::Yes(lines))
+}
+
+/// The lines of each list, and an empty line after them.
+fn lines_of_lists<T: ComposeTable>(
+    alloc: Global,
+    names: &Names,
+    table: &T,
+    keys: &[Keysym],
+    counts: &[usize],
+) -> Result<String, AllocError>
+    ensures { IfOk result
+        (λ text. string_bytes text
+        ≡ typed_lists names.now (T.definitions table.now) keys.now counts.now) }
+{
+    let mut lines = String::new(alloc);
+    let mut rest = keys;
+    for count in counts {
+        let (own, others) = first_keys(rest, *count);
+        push_list(alloc, &mut lines, names, table, own)?;
+        rest = others;
+    }
+    Ok(lines)
+}
+
+/// The first of these keys, as many as asked for if there are so many, and those after them.
+fn first_keys(keys: &[Keysym], count: usize) -> (&[Keysym], &[Keysym])
+    ensures first { result.0.now ≡ take count keys.now }
+    ensures others { result.1.now ≡ drop count keys.now }
+{
+    let own = count.min(keys.len());
+    (&keys[..own], &keys[own..])
+}
+
+/// Puts the lines of a list, and an empty line, behind the others.
+fn push_list<T: ComposeTable>(
+    alloc: Global,
+    lines: &mut String,
+    names: &Names,
+    table: &T,
+    keys: &[Keysym],
+) -> Result<(), AllocError>
+    ensures { OnOk result
+        (string_bytes lines.new
+        ≡ string_bytes lines.old ++ typed_list names.now (T.definitions table.now) keys.now) }
+{
+    let own = lines_of_keys(alloc, names, table, keys)?;
+    lines.push_str(&own)?;
+    lines.push('\n')?;
+    Ok(())
 }
 
 /// A line for each key: the word for what happens, a blank and the committed text in quotes. O(keys × log edges).

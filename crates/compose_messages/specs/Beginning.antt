@@ -1,0 +1,25 @@
+-- Whether a file begins as a Compose file does (this project's profile).
+use Rattle.std.specs.Prelude.{ℕ, Bool, true, false, List, [], ◌∷◌, Option, Some, None, Result, Ok, Err}
+use Rattle.std.specs.Option.{option_map_or}
+use Rattle.compose_text.specs.Lines.{lines_of}
+use Rattle.compose_lex.specs.Line.{Reading, blank}
+use Rattle.compose_lex.specs.Fault.{reading_of}
+use Rattle.compose_lex.specs.declared.LexFault.{LexFault}
+use Rattle.compose_messages.specs.Places.{text_or_nothing}
+
+-- a production or an include is read; none where nothing is said
+abbrev pub says_table : Result Reading LexFault → Option Bool
+says_table (Ok blank) = None
+says_table (Ok reading) = Some true
+says_table (Err fault) = Some false
+
+abbrev pub line_of_table : List ℕ → Option Bool
+line_of_table line = says_table (reading_of (text_or_nothing line))
+
+-- the first of the lines that says something is one of a Compose file
+abbrev pub begin_as_table : List (List ℕ) → Bool
+begin_as_table [] = false
+begin_as_table (line ∷ lines) = option_map_or (λ is_table. is_table) (line_of_table line) (begin_as_table lines)
+
+abbrev pub begins_as_table : List ℕ → Bool
+begins_as_table bytes = begin_as_table (lines_of bytes)

@@ -1,0 +1,77 @@
+-- Lines that are written, each with its newline, are just these lines.
+use Rattle.std.proofs.Common.{◌≡◌, ◌+◌, ℕ, Bool, true, false, not, List, [], ◌∷◌, ◌++◌, cond, map, refl, sym, ◌∙◌, ap, inl, inr, append_assoc}
+use Rattle.std.specs.Prelude.{◌==◌, Option, Some, None, option_to_list}
+use Rattle.std.specs.List.{cons_option, filter_map, list_all}
+use Rattle.std.proofs.lemmas.Bool.{and_parts, cases_Bool, ne_eqb}
+use Rattle.compose_text.specs.Lines.{in_line, lines_of, onto_first}
+use Rattle.compose_text.proofs.LineParts.{stays_in_line}
+use Rattle.keysym_core.specs.Names.{KeysymNames}
+use Rattle.compose_read.specs.Lines.{Visit, numbered, source_lines, without_mark}
+use Rattle.compose_skip.specs.Faulty.{is_faulty, kept_line, lines_in}
+use Rattle.compose_skip.specs.Written.{mark, written}
+
+-- ---- no line has a newline
+
+abbrev are_in_line : List (List ℕ) → Bool
+are_in_line lines = list_all (list_all in_line) lines
+
+onto : (b : ℕ) (lines : List (List ℕ)) → in_line b ≡ true → are_in_line lines ≡ true → are_in_line (onto_first b lines) ≡ true
+onto b [] h k = rw h refl
+onto b (line ∷ lines) h k = rw h k
+
+all_in_line : (bytes : List ℕ) → are_in_line (lines_of bytes) ≡ true
+all_in_line [] = refl
+all_in_line (b ∷ bytes) = elim (cases_Bool (b == 10)) [
+  | inl h ↦ rw h (all_in_line bytes)
+  | inr h ↦ rw h (onto b (lines_of bytes) (ap not h) (all_in_line bytes))
+]
+
+-- ---- lines, and their newlines
+
+line_first : (line rest : List ℕ) → list_all in_line line ≡ true → lines_of (line ++ 10 ∷ rest) ≡ line ∷ lines_of rest
+line_first [] rest plain = refl
+line_first (b ∷ line) rest plain =
+    let parts = and_parts (in_line b) (list_all in_line line) plain in
+    rw (ne_eqb b 10 (stays_in_line b parts.0)) (ap (onto_first b) (line_first line rest parts.1))
+
+plain_if : (faulty : Bool) (line : List ℕ) → list_all in_line line ≡ true → list_all in_line (cond faulty [] line) ≡ true
+plain_if true line plain = refl
+plain_if false line plain = plain
+
+lines_written : (names : KeysymNames) (source number : ℕ) (lines : List (List ℕ)) → are_in_line lines ≡ true
+    → lines_of (written names (numbered source 0 number lines)) ≡ map (kept_line names) (numbered source 0 number lines)
+lines_written names source number [] plain = refl
+lines_written names source number (line ∷ lines) plain =
+    let parts = and_parts (list_all in_line line) (are_in_line lines) plain in
+    let v : Visit = record { source = source; line = number; bytes = line; depth = 0 } in
+    let others = written names (numbered source 0 (1 + number) lines) in
+    ap lines_of (append_assoc (kept_line names v) (10 ∷ []) others)
+    ∙ line_first (kept_line names v) others (plain_if (is_faulty names v) line parts.0)
+    ∙ ap (λ ls. kept_line names v ∷ ls) (lines_written names source (1 + number) lines parts.1)
+
+-- a source that is a mark and these lines has these lines
+pub source_written : (names : KeysymNames) (source : ℕ) (bytes kept : List ℕ) → kept ≡ mark ++ written names (lines_in source bytes)
+    → source_lines kept ≡ map (kept_line names) (lines_in source bytes)
+source_written names source bytes kept h = ap source_lines h ∙ lines_written names source 1 (source_lines bytes) (all_in_line (without_mark bytes))
+
+-- ---- one line more
+
+-- the next line, numbered, before the others
+pub numbered_more : (source n m : ℕ) (line : List ℕ) (lines whole : List (List ℕ)) → m ≡ n → whole ≡ line ∷ lines
+    → (record { source = source; line = m; bytes = line; depth = 0 } ∷ numbered source 0 (1 + m) lines) ≡ numbered source 0 n whole
+numbered_more source n m line lines whole e h = ap (λ k. numbered source 0 k (line ∷ lines)) e ∙ ap (numbered source 0 n) (sym h)
+
+put_before : {Y : Type 0} (o : Option Y) (ys : List Y) → option_to_list o ++ ys ≡ cons_option o ys
+put_before None ys = refl
+put_before (Some y) ys = refl
+
+-- its fault after those that were found
+pub found_more : {X Y : Type 0} (f : X → Option Y) (v : X) (vs : List X) (found more whole : List Y) → found ++ filter_map f (v ∷ vs) ≡ whole
+    → more ≡ found ++ option_to_list (f v) → more ++ filter_map f vs ≡ whole
+found_more f v vs found more whole h e =
+    ap (λ ys. ys ++ filter_map f vs) e ∙ append_assoc found (option_to_list (f v)) (filter_map f vs) ∙ ap (λ ys. found ++ ys) (put_before (f v) (filter_map f vs)) ∙ h
+
+pub written_more : (names : KeysymNames) (v : Visit) (vs : List Visit) (kept more whole : List ℕ) → kept ++ written names (v ∷ vs) ≡ whole
+    → more ≡ kept ++ (kept_line names v ++ 10 ∷ []) → more ++ written names vs ≡ whole
+written_more names v vs kept more whole h e =
+    ap (λ bytes. bytes ++ written names vs) e ∙ append_assoc kept (kept_line names v ++ 10 ∷ []) (written names vs) ∙ h

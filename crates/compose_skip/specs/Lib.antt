@@ -1,0 +1,4 @@
+pub mod Faulty
+pub mod Left
+pub mod Places
+pub mod Written

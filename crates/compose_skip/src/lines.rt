@@ -1,0 +1,73 @@
+//! A source without its faulty lines.
+ghost use Rattle.std.specs.Prelude.{◌≡◌, ◌++◌, ◌∷◌, [], map, if◌then◌else◌, is_some, option_to_list, IfOk, OnOk};
+ghost use Rattle.std.specs.List.{filter_map};
+ghost use Rattle.compose_read.specs.Lines.{source_lines, without_mark};
+ghost use Rattle.compose_skip.specs.Faulty.{kept_line, lines_in, own_fault};
+
+use crate::line::{Events, Place, line_fault};
+use arrayvec::ArrayVec;
+use compose_read::ReadFault;
+use compose_text::first_line;
+use keysym_core::Names;
+use std::alloc::{AllocError, Global};
+
+/// The source with this index, of these bytes, with its faulty lines left empty; their faults are added to the others. What it gives begins
+/// with a byte order mark and ends in a newline, so that it has just these lines. O(bytes).
+pub(crate) fn other_bytes(
+    alloc: Global,
+    names: &Names,
+    source: usize,
+    bytes: &[u8],
+    faults: &mut Vec<ReadFault>,
+) -> Result<Vec<u8>, AllocError>
+    ensures lines { IfOk result
+        (λ kept. source_lines kept.items
+        ≡ map (kept_line names.now) (lines_in source bytes.now)) }
+    ensures faults { OnOk result
+        (faults.new.items
+        ≡ faults.old.items ++ filter_map (own_fault names.now) (lines_in source bytes.now)) }
+{
+    let mut kept = Vec::new(alloc);
+    kept.extend_from_slice(&[0xef, 0xbb, 0xbf])?;
+    let mut events = ArrayVec::new();
+    let mut rest = without_mark(bytes);
+    let mut line = 0;
+    while let Some((own, behind)) = first_line(rest) {
+        rest = behind;
+        line += 1;
+        let place = Place { source, line };
+        let fault = line_fault(alloc, names, place, own, &mut events)?;
+        push_line(&mut kept, faults, own, fault)?;
+    }
+    Ok(kept)
+}
+
+/// Adds a line, which is left empty where it has a fault, and the fault.
+fn push_line(
+    kept: &mut Vec<u8>,
+    faults: &mut Vec<ReadFault>,
+    own: &[u8],
+    fault: Option<ReadFault>,
+) -> Result<(), AllocError>
+    ensures line { OnOk result
+        (kept.new.items ≡ kept.old.items ++ ((if is_some fault then [] else own.now) ++ 10 ∷ [])) }
+    ensures fault { OnOk result (faults.new.items ≡ faults.old.items ++ option_to_list fault) }
+{
+    match fault {
+        Some(fault) => faults.push(fault)?,
+        None => kept.extend_from_slice(own)?,
+    }
+    kept.push(b'\n')?;
+    Ok(())
+}
+
+/// The bytes without a byte order mark at their beginning.
+fn without_mark(bytes: &[u8]) -> &[u8]
+    ensures { result.now ≡ without_mark bytes.now }
+{
+    if bytes.starts_with(&[0xef, 0xbb, 0xbf]) {
+        &bytes[3..]
+    } else {
+        bytes
+    }
+}

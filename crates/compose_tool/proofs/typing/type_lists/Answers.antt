@@ -1,0 +1,33 @@
+use Rattle.std.proofs.Common.{rules, map, ◌∙◌, ap}
+use Rattle.compose_migration.specs.MigrationGives.{named_parts, table_given}
+use Rattle.compose_answer.specs.Parts.{type_parts}
+use Rattle.compose_tool.specs.Typed.{typed_lists}
+use Rattle.compose_tool.specs.Answers.{AreListsTyped}
+use Rattle.compose_tool.proofs.Steps.{refusal_gives, named_refused, table_refused, typed_read}
+use Rattle.compose_tool.proofs.typing.type_lists.Goals as goal
+
+pub returns-in_err-named : goal.returns-in_err-named
+returns-in_err-named g c =
+    let header = c.args.header.now in
+    let key_names = map (λ word. word.now) c.args.key_names.now in
+    let given = table_given c.args.table.now in
+    refusal_gives (AreListsTyped c.args.counts.now) c.from_residual.result c.in_err-named.field-0.0 (type_parts header key_names given) (search rules)
+    (named_refused header key_names given c.in_err-named.field-0.0 c.in_err-named.ensures)
+
+pub returns-in_err-table : goal.returns-in_err-table
+returns-in_err-table g c =
+    let header = c.args.header.now in
+    let key_names = map (λ word. word.now) c.args.key_names.now in
+    let given = table_given c.args.table.now in
+    let n = named_parts c.in_ok-named.named in
+    refusal_gives (AreListsTyped c.args.counts.now) c.from_residual-in_err-table.result c.in_err-table.field-0.0 (type_parts header key_names given) (search rules)
+    (table_refused header key_names given n c.in_ok-named.ensures c.in_err-table.field-0.0 c.in_err-table.ensures)
+
+pub returns : goal.returns
+returns g c =
+    let header = c.args.header.now in
+    let key_names = map (λ word. word.now) c.args.key_names.now in
+    let given = table_given c.args.table.now in
+    let n = named_parts c.in_ok-named.named in
+    let table = g.T.ComposeTable.definitions c.in_ok-table.table in
+    (_, typed_read header key_names given n c.in_ok-named.ensures table c.in_ok-table.ensures, c.in_ok-lines.ensures ∙ ap (λ ks. typed_lists n.names table ks c.args.counts.now) c.deref.ensures.value)
