@@ -8,15 +8,14 @@ import os
 import re
 import subprocess
 import sys
-import tarfile
 import tempfile
+
+from source_packages import SourcePackages
 
 TOP = os.path.dirname(os.path.dirname(os.path.abspath(__file__)))
 sys.path[:0] = [f"{TOP}/lib"]
 import build_library
 
-RELEASE = "bookworm"
-KEYRING = "/usr/share/keyrings/debian-archive-keyring.gpg"
 # The assertions that needn't hold, by their function and their number in it, and why.
 RESULT = "asks for the result keysym of a text that is not one character: a table keeps texts alone"
 MODIFIERS = "asks for modifier lists, which are refused"
@@ -46,24 +45,6 @@ CONFIG = """#define _GNU_SOURCE 1
 
 def run(*command, **options):
     return subprocess.run(command, check=True, **options)
-
-
-def fetch(folder):
-    """Fetches the source package and returns the folder that it unpacks to."""
-    for name in ("lists/partial", "cache/archives/partial"):
-        os.makedirs(f"{folder}/{name}")
-    with open(f"{folder}/sources.list", "w", encoding="utf-8") as file:
-        file.write(f"deb-src [signed-by={KEYRING}] http://deb.debian.org/debian {RELEASE} main\n")
-    places = {"Dir::Etc::sourcelist": "sources.list", "Dir::State::lists": "lists", "Dir::Cache": "cache"}
-    words = ["-o", "Dir::Etc::sourceparts=-"] + [it for key, name in places.items() for it in ("-o", f"{key}={folder}/{name}")]
-    quiet = {"stdout": subprocess.DEVNULL, "stderr": subprocess.DEVNULL, "cwd": folder}
-    run("apt-get", *words, "update", **quiet)
-    run("apt-get", *words, "source", "--download-only", "libxkbcommon", **quiet)
-    archive = next(it for it in os.listdir(folder) if ".orig.tar." in it)
-    with tarfile.open(f"{folder}/{archive}") as file:
-        top = file.getnames()[0].split("/")[0]
-        file.extractall(folder)
-    return f"{folder}/{top}"
 
 
 def guarded(text):
@@ -130,7 +111,7 @@ def wrong_ones(fell, listed, status):
 def main():
     passed, wrong = 0, []
     with tempfile.TemporaryDirectory(prefix="peers-") as folder:
-        source = fetch(folder)
+        source = SourcePackages(folder).fetch("libxkbcommon")
         names = built(folder, source)
         for more, listed in (({}, LISTED), ({"NO_KEYSYMS": "1"}, {it: why for it, why in LISTED.items() if why is not RESULT})):
             held, fell, status = outcome(folder, source, names, more)

@@ -1,0 +1,129 @@
+#!/usr/bin/env python3
+"""other_tables.py PROGRAM [PACKAGE..]: compares the tables that GTK, libxkbcommon and libX11 ship with one another, beside a second reading of them (not part of
+the gate). Debian's source packages come by apt-get, and nothing of them is kept.
+
+The tables are those that are built into GTK 3 and GTK 4 (`gtk_table.py`), the one in libxkbcommon's tests, and en_US.UTF-8 of the system. From each to
+each other one, `diff` says how a lost text is typed now by the shortest sequence, and of several the first, as the second reading has it, and `--lost`
+prints alone those that no sequence gives. Each table of libX11's source is that of the system, and `ci.sh`, which makes it itself, finds no change.
+
+With PACKAGEs those alone are fetched. One that can't be fetched is skipped. The last line is `N passed, M failed`, and what was skipped."""
+import itertools
+import json
+import os
+import re
+import subprocess
+import sys
+import tempfile
+
+import gtk_table
+import real
+import reference
+from harness import Results, TOP, write
+from source_packages import SourcePackages, Unfetched
+
+SCRIPT = os.path.join(TOP, "share", "composecheck", "ci.sh")
+LOSSES = ("changed", "waiting", "removed")
+ENGLISH = "en_US.UTF-8"
+
+
+def made_of_source(path):
+    """A table of libX11's source as its Makefile makes it."""
+    with open(path, "rb") as source:
+        ran = subprocess.run(["cpp", "-undef", "-traditional", "-DWCHAR32=1"], stdin=source, capture_output=True, check=True)
+    lines = re.sub(r"^# \d+ .*\n", "", ran.stdout.decode(), flags=re.M)
+    lines = re.sub(r"^(\s*)XCOMM(?![a-zA-Z0-9_])", r"\1#", lines, flags=re.M)
+    return lines.replace("X11_LOCALEDATADIR", real.LOCALES)
+
+
+def of_gtk(folder):
+    return {"Compose": gtk_table.compose_file(folder)}
+
+
+def of_libxkbcommon(folder):
+    with open(os.path.join(folder, "test", "data", "locale", ENGLISH, "Compose"), encoding="utf-8") as file:
+        return {"Compose": file.read()}
+
+
+def of_libx11(folder):
+    return {it: made_of_source(os.path.join(folder, "nls", it, "Compose.pre")) for it in real.locales()}
+
+
+# The source packages, and what they have: tables by their names.
+SOURCES = {"gtk+3.0": of_gtk, "gtk4": of_gtk, "libxkbcommon": of_libxkbcommon, "libx11": of_libx11}
+
+
+class Tables:
+    """The tables that there are, and what a second reading makes of them."""
+
+    def __init__(self, folder):
+        self.packages, self.folder, self.skipped = SourcePackages(folder), folder, []
+        self.values = reference.header_values() | reference.header_values(real.SHORT_NAMES)
+        self.given = real.header_characters()
+
+    def fetch(self, package):
+        """The folder of a source package and the paths of its tables by their names, or nothing where it can't be fetched."""
+        try:
+            source = self.packages.fetch(package)
+        except Unfetched as error:
+            print(f"{package} is skipped: {error}", flush=True)
+            self.skipped.append(package)
+            return None, {}
+        print(os.path.basename(source), flush=True)
+        folder = os.path.join(self.folder, "tables", package)
+        texts = SOURCES[package](source)
+        write(folder, texts)
+        return source, {it: os.path.join(folder, it) for it in texts}
+
+    def texts(self, path):
+        """The text of each sequence of a table."""
+        return dict(real.definitions(path, self.values, self.given))
+
+
+def diff(program, old, new, *options):
+    """What `diff` prints in JSON of two tables, without the line that counts, and its exit status."""
+    command = [program, "diff", "--format", "json", "--locale", ENGLISH, *options, old, new]
+    ran = subprocess.run(command, capture_output=True, text=True, check=False, env={**os.environ, "LC_ALL": "C.UTF-8"})
+    return [json.loads(line) for line in ran.stdout.splitlines()[:-1]], ran.returncode, ran.stderr
+
+
+def check_pair(program, tables, paths, old, new, results):
+    """What is lost from one table to another one, and how it is typed now."""
+    what, typings = f"{old} to {new}", real.shortest_typings(paths[new], tables.values, tables.given)
+    rows, status, said = diff(program, paths[old], paths[new])
+    losses = [row for row in rows if row["change"] in LOSSES]
+    none = [row for row in losses if row["now"] is None]
+    results.expect(f"{what} ends by what it prints", (status, bool(rows), said), (1 if any(row["change"] not in ("kept", "added") for row in rows) else 0, True, ""))
+    typed = [row["now"] and real.keysyms_of(row["now"], tables.values) for row in losses]
+    results.expect(f"how lost texts are typed, {what}", typed, [typings.get(row["old"]) for row in losses])
+    results.expect(f"what --lost prints, {what}", diff(program, paths[old], paths[new], "--lost")[0], none)
+    print(f"{what}: {len(rows) - sum(row['change'] == 'kept' for row in rows)} lines, {len({row['old'] for row in none})} texts lost", flush=True)
+
+
+def check_sources(program, tables, source, made, results):
+    """Each table of libX11's source is the system's, for a second reading and for `ci.sh`."""
+    for locale, path in made.items():
+        results.expect(f"the source of {locale}", tables.texts(path) == tables.texts(os.path.join(real.LOCALES, locale, "Compose")), True)
+    words = ["sh", SCRIPT, real.LOCALES, source]
+    ran = subprocess.run(words, capture_output=True, text=True, check=False, env={**os.environ, "COMPOSECHECK": program})
+    counted = f"{len(made)} locales were compared.\n"
+    changed = re.findall(r"^    (?:changed|waiting|removed|new start|added): .*", ran.stdout, re.M)
+    results.expect("ci.sh of the system's tables and libX11's source", (changed, ran.stderr, ran.stdout.endswith(counted)), ([], "", True))
+
+
+def main():
+    program, results = os.path.abspath(sys.argv[1]), Results()
+    with tempfile.TemporaryDirectory(prefix="tables-") as folder:
+        tables, paths = Tables(folder), {"libX11": os.path.join(real.LOCALES, ENGLISH, "Compose")}
+        for package in sys.argv[2:] or SOURCES:
+            source, made = tables.fetch(package)
+            if "Compose" in made:
+                paths[package] = made["Compose"]
+            elif made:
+                check_sources(program, tables, source, made, results)
+        for old, new in itertools.permutations(paths, 2):
+            check_pair(program, tables, paths, old, new, results)
+    return results.end(f"skipped: {', '.join(tables.skipped)}" if tables.skipped else "")
+
+
+if __name__ == "__main__":
+    sys.exit(main())

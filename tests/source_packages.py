@@ -1,0 +1,51 @@
+"""Debian's source packages, which apt-get fetches into a folder of their own: the system's own lists and packages stay as they are."""
+import os
+import subprocess
+import tarfile
+
+RELEASE = "bookworm"
+KEYRING = "/usr/share/keyrings/debian-archive-keyring.gpg"
+
+
+class Unfetched(Exception):
+    """A source package that can't be fetched, and why."""
+
+
+class SourcePackages:
+    """The source packages of the release, in a folder that is there. The lists are fetched once, before the first package."""
+
+    def __init__(self, folder):
+        self.folder, self.has_lists = folder, False
+        places = {"Dir::Etc::sourcelist": "sources.list", "Dir::State::lists": "lists", "Dir::Cache": "cache"}
+        settings = {"Dir::Etc::sourceparts": "-", "APT::Update::Error-Mode": "any", "Acquire::http::Timeout": "20"}
+        settings |= {key: os.path.join(folder, name) for key, name in places.items()}
+        self.words = [it for key, value in settings.items() for it in ("-o", f"{key}={value}")]
+
+    def run(self, *words, where):
+        ran = subprocess.run(["apt-get", *self.words, *words], cwd=where, check=False, capture_output=True, text=True, timeout=300)
+        if ran.returncode:
+            raise Unfetched(f"apt-get {' '.join(words)}: {(ran.stderr.splitlines() or ['failed'])[-1]}")
+
+    def update(self):
+        for name in ("lists/partial", "cache/archives/partial"):
+            os.makedirs(os.path.join(self.folder, name), exist_ok=True)
+        with open(os.path.join(self.folder, "sources.list"), "w", encoding="utf-8") as file:
+            file.write(f"deb-src [signed-by={KEYRING}] http://deb.debian.org/debian {RELEASE} main\n")
+        self.run("update", where=self.folder)
+        self.has_lists = True
+
+    def fetch(self, package):
+        """Fetches a package and returns the folder that it unpacks to: what its authors released, without Debian's changes."""
+        folder = os.path.join(self.folder, package)
+        try:
+            if not self.has_lists:
+                self.update()
+            os.makedirs(folder, exist_ok=True)
+            self.run("source", "--download-only", package, where=folder)
+        except (OSError, subprocess.SubprocessError) as error:
+            raise Unfetched(f"{package}: {error}") from error
+        archive, = (it for it in os.listdir(folder) if ".orig.tar." in it and not it.endswith(".asc"))
+        with tarfile.open(os.path.join(folder, archive)) as file:
+            top = file.getnames()[0].split("/")[0]
+            file.extractall(folder)
+        return os.path.join(folder, top)
