@@ -141,6 +141,7 @@ names:
 
 real: composecheck compose_trials $(LIBRARY)
 	python3 tests/real.py ./composecheck ./compose_trials
+	python3 tests/other_tables.py ./composecheck
 	python3 tests/real_service.py ./composecheck
 	python3 tests/readers.py ./composecheck
 	python3 tests/streams.py ./composecheck 100000

@@ -1,6 +1,7 @@
 #!/usr/bin/env python3
 """ci.py PROGRAM: runs share/composecheck/ci.sh with PROGRAM over small trees of tables, by their relative and by their absolute paths, and
 compares the report, what is printed on standard error, the exit status and what is left. The last line is `N passed, M failed`."""
+import html
 import os
 import re
 import shutil
@@ -232,6 +233,10 @@ def check_lists(program, results):
             with Trees(OLD, NEW, {name: f"# many\n    {line}\r\n"}) as trees:
                 wanted = "", f"ci.sh: intended changes/{name}:2: a line of several sequences; with --no-fold after the two folders each has its own\n", 2
                 results.expect(f"a line of several sequences in {name}", trees.compare(program), wanted)
+    for name in ("all", "en_US.UTF-8"):
+        with Trees(NEW, OLD, {name: '# new\n    added: <Multi_key> <b> "y" new/en_US.UTF-8/Compose:2\n'}) as trees:
+            wanted = "", f"ci.sh: intended changes/{name}:2: a sequence that is added needs no line; take it out\n", 2
+            results.expect(f"a line of an added sequence in {name}", trees.compare(program), wanted)
     with Trees(OLD, NEW, {"all": f"{DROPPED}removed: <Multi_key> <c> \"y\"\n"}) as trees:
         stale = '\n**intended changes/all is refused:**\n\n    line 2 matches no change: removed: <Multi_key> <c> "y"\n'
         results.expect("a line of `all` that matches nothing", trees.answer(program), (HEADING + stale + BOTH_ACCEPTED + THREE, "", 2))
@@ -241,13 +246,32 @@ def check_lists(program, results):
         results.expect("a line of a locale that matches nothing", (printed.startswith(begin), said, status), (True, "", 2))
 
 
+# Two sequences that share a line, and one that is added: it needs no line.
+FOLDED = {**OLD, "en_US.UTF-8": '<Multi_key> <a> : "x"\n<Multi_key> <a> <b> : "y"\n<Multi_key> <a> <c> : "z"\n', "cs_CZ.UTF-8": "# none\n"}
+LEFT = {**FOLDED, "en_US.UTF-8": '<Multi_key> <a> <d> : "d"\n', "fi_FI.UTF-8": INCLUDING}
+
+
 def check_copied(program, results):
-    """Lines that are copied from the report are taken as they are: each makes the next report the shorter by itself."""
+    """Lines that are copied from the report are taken as they are: each makes the next report the shorter by itself. Blanks, tabs and carriage returns
+    around them, and the mark at the beginning of a file of Windows, are no part of them, with the places and without."""
     with Trees(OLD, NEW, {}) as trees:
         printed, _, _ = trees.compare(program)
-        lines = "".join(f"{it}\r\n" for it in printed.splitlines() if it.startswith("    "))
-        trees.write("intended changes/all", lines)
-        results.expect("copied lines", trees.answer(program), (HEADING + BOTH_ACCEPTED + THREE, "", 0))
+        lines = [it for it in printed.splitlines() if it.startswith("    ")]
+        for begin, end in (("", "\r\n"), ("\ufeff\t", " \t\r\n")):
+            trees.write("intended changes/all", begin + "".join(it + end for it in lines))
+            results.expect(f"copied lines, between {begin!r} and {end!r}", trees.answer(program), (HEADING + BOTH_ACCEPTED + THREE, "", 0))
+        os.remove(os.path.join(trees.room, "intended changes", "all"))
+        for locale in ("en_US.UTF-8", "fi_FI.UTF-8"):
+            trees.write(f"intended changes/{locale}", f"\ufeff\t {DROPPED[:-1]} \t\r\n \t\r\n")
+        results.expect("copied lines without places", trees.answer(program), (HEADING + BOTH_ACCEPTED + THREE, "", 0))
+    with Trees(FOLDED, LEFT, {}) as trees:
+        for form in ("markdown", "html"):
+            printed, _, _ = trees.compare(program, "--format", form)
+            listed = html.unescape(printed[printed.index("Lines for lists") :].replace("<pre>", "").replace("</pre>", ""))
+            trees.write("intended changes/all", "".join(f"{it}\n" for it in listed.splitlines() if it.strip().startswith(("removed: ", "added: "))))
+            _, said, status = trees.compare(program)
+            results.expect(f"lines of a page that are copied, {form}", (said, status), ("", 0))
+            os.remove(os.path.join(trees.room, "intended changes", "all"))
 
 
 def check_counts(program, results):
@@ -389,15 +413,11 @@ Nobody who types with the old table meets these.
 </details>
 
 <details>
-<summary>Lines of lists of intended changes</summary>
+<summary>Lines for lists of intended changes</summary>
 
 ### en_US.UTF-8, fi_FI.UTF-8
 
     removed: <Multi_key> <b> "y" old/en_US.UTF-8/Compose:2 now: none
-
-### fi_FI.UTF-8
-
-    added: <Multi_key> .. 2 sequences "c" "d" .. new/fi_FI.UTF-8/Compose:2
 
 </details>
 """

@@ -5,12 +5,15 @@ the gate). Debian's source packages come by apt-get, and nothing of them is kept
 The tables are those that are built into GTK 3 and GTK 4 (`gtk_table.py`), the one in libxkbcommon's tests, and en_US.UTF-8 of the system. From each to
 each other one, `diff` says how a lost text is typed now by the shortest sequence, and of several the first, as the second reading has it, and `--lost`
 prints alone those that no sequence gives. Each table of libX11's source is that of the system, and `ci.sh`, which makes it itself, finds no change.
+On random tables `lint` finds repeated and overlapping sequences exactly where libX11's compose-check.pl does.
 
 With PACKAGEs those alone are fetched. One that can't be fetched is skipped. The last line is `N passed, M failed`, and what was skipped."""
 import itertools
 import json
 import os
+import random
 import re
+import shutil
 import subprocess
 import sys
 import tempfile
@@ -23,6 +26,8 @@ from source_packages import SourcePackages, Unfetched
 
 SCRIPT = os.path.join(TOP, "share", "composecheck", "ci.sh")
 LOSSES = ("changed", "waiting", "removed")
+# So many random tables are checked for clashes.
+SEED, CHECKED = 50, 100
 ENGLISH = "en_US.UTF-8"
 
 
@@ -96,7 +101,7 @@ def check_pair(program, tables, paths, old, new, results):
     typed = [row["now"] and real.keysyms_of(row["now"], tables.values) for row in losses]
     results.expect(f"how lost texts are typed, {what}", typed, [typings.get(row["old"]) for row in losses])
     results.expect(f"what --lost prints, {what}", diff(program, paths[old], paths[new], "--lost")[0], none)
-    print(f"{what}: {len(rows) - sum(row['change'] == 'kept' for row in rows)} lines, {len({row['old'] for row in none})} texts lost", flush=True)
+    print(f"{what}: {len(losses)} sequences changed, waiting or removed, {len({row['old'] for row in none})} texts lost", flush=True)
 
 
 def check_sources(program, tables, source, made, results):
@@ -110,6 +115,32 @@ def check_sources(program, tables, source, made, results):
     results.expect("ci.sh of the system's tables and libX11's source", (changed, ran.stderr, ran.stdout.endswith(counted)), ([], "", True))
 
 
+def random_tables(chance):
+    """Small Compose files in which many sequences stand twice, or begin others."""
+    for number in range(CHECKED):
+        lines = ("<Multi_key> " + " ".join(f"<{chance.choice('abcd')}>" for _ in range(chance.randint(1, 3))) for _ in range(chance.randint(2, 6)))
+        yield f"{number}.compose", "".join(f'{it} : "{chance.choice("xy")}"\n' for it in lines)
+
+
+def check_clashes(program, tables, source, results):
+    """What `lint` finds beside the script by which libX11 checks its tables: a table has clashes for both or for neither, and each clash a finding."""
+    if shutil.which("perl") is None:
+        tables.skipped.append("compose-check.pl, without perl")
+        return
+    files = dict(random_tables(random.Random(SEED)))
+    folder = os.path.join(tables.folder, "random")
+    write(folder, files)
+    ran = subprocess.run([program, "lint", *files], cwd=folder, capture_output=True, text=True, check=False)
+    found = {name: set() for name in files}
+    for name, line in re.findall(r"^(\S+):(\d+):1: (?:overridden|repeated|prefix): ", ran.stdout, re.M):
+        found[name].add(line)
+    for name in files:
+        script = os.path.join(source, "nls", "compose-check.pl")
+        theirs = subprocess.run(["perl", script, name], cwd=folder, capture_output=True, text=True, check=False)
+        clashes = [set(re.findall(r"line #(\d+)", it)) for it in theirs.stdout.split("Clash ")[1:]]
+        results.expect(f"clashes in {files[name]!r}", (bool(found[name]), all(it & found[name] for it in clashes)), (bool(clashes), True))
+
+
 def main():
     program, results = os.path.abspath(sys.argv[1]), Results()
     with tempfile.TemporaryDirectory(prefix="tables-") as folder:
@@ -120,6 +151,7 @@ def main():
                 paths[package] = made["Compose"]
             elif made:
                 check_sources(program, tables, source, made, results)
+                check_clashes(program, tables, source, results)
         for old, new in itertools.permutations(paths, 2):
             check_pair(program, tables, paths, old, new, results)
     return results.end(f"skipped: {', '.join(tables.skipped)}" if tables.skipped else "")

@@ -18,7 +18,7 @@ from harness import TOP, follow
 HEAD = re.compile(r"(\w+)\.py((?: (?:PROGRAM|TRIALS|\[[^\]]*\]))*): (.*?)(?:[.:;](?:\s|$)|$)", re.S)
 # What an unproved program won't do for: it has an allocator of its own, so that a library which refuses memory can't be preloaded, and is slow on
 # inputs at their limits; the C library is built of a proved one; the runner of edits needs the prover. The others are no part of the gate.
-NOT_QUICK = {"calls", "edits_test", "library", "limits", "peers", "readers", "real", "real_service", "refusals"}
+NOT_QUICK = {"calls", "edits_test", "library", "limits", "other_tables", "peers", "readers", "real", "real_service", "refusals"}
 # How many random ones a script tries with --quick, where that takes the longest.
 FEWER = {"diff": ["100"], "network": ["30"]}
 # The programs by what the heads of scripts call them.

@@ -60,6 +60,9 @@ def build(program, file):
 
 
 def main():
+    if len(sys.argv) < 2 or sys.argv[1].startswith("-"):
+        print(__doc__)
+        return 2
     file, *programs = sys.argv[1:]
     return 0 if build(programs[0] if programs else "composecheck", file) else 1
 

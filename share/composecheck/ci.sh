@@ -25,7 +25,8 @@
 #     16 locales were compared.
 #
 # With `--format markdown` the counts come first, and then the tables of `composecheck diff --format markdown`: the texts that can't be typed any
-# more, those that are typed otherwise, and folded the rest and the lines above. With `--format html` the same is one file of HTML.
+# more, those that are typed otherwise, and folded the rest and the lines that a list of intended changes may have. With `--format html` the same is
+# one file of HTML.
 #
 # COMPOSECHECK is the program, and RAWCPP the C preprocessor; by default they are looked for on the path, as composecheck and cpp. ACCEPTED is a
 # folder of intended changes: lines of the report, in a file LOCALE.UTF-8 those of that locale, and in the file `all` those of any locales and
@@ -33,10 +34,11 @@
 #
 # The exit status is 0 if nothing changes for people, 1 if something does, and 2 if a table is refused or reads a file outside of its tree, if a
 # locale's table is missing in NEWDIR, or if a line of `all` matches nothing. It is 2 too, and there is no report, if a folder has no table, if ACCEPTED
-# has a file of a locale that isn't compared or a line of several sequences, or if a program isn't there or doesn't know an option.
+# has a file of a locale that isn't compared, a line of several sequences or one of a sequence that is added, or if a program isn't there or doesn't
+# know an option.
 set -eu
 system=usr/share/X11/locale
-tab=$(printf '\t') return=$(printf '\r')
+tab=$(printf '\t') return=$(printf '\r') mark=$(printf '\357\273\277')
 
 # Ends with a word of why.
 refuse() {
@@ -166,17 +168,19 @@ lay() {
     ln -s "$whole_path" "$room/$1/$system"
 }
 
-# Copies the lists of intended changes into the room, without the blanks and carriage returns that a copied line may have. A list that would not
-# be used is refused, and so is a line of several sequences.
+# Copies the lists of intended changes into the room, without the blanks and carriage returns that a copied line may have, and the mark that a file
+# of Windows may begin with. A list that would not be used is refused, and so is a line of several sequences or of one that is added.
 take_accepted() {
     [ -d "$accepted" ] || refuse "no folder $accepted"
     for list in "$accepted"/*; do
         name=${list##*/}
         if ! is_there "$list"; then continue; fi
         if [ "$name" != all ] && ! is_compared "$name"; then refuse "$list is of no locale that is compared"; fi
-        sed -e "s/^[$tab ]*//" -e "s/$return\$//" "$list" > "$room/accepted/$name" || exit
+        sed -e "1s/^$mark//" -e "s/^[$tab ]*//" -e "s/[$tab $return]*\$//" "$list" > "$room/accepted/$name" || exit
         folded=$(awk '/^[a-z ]*: <.*> \.\. [0-9]+ sequences / || /^[a-z ]*: all [0-9]+ sequences of / { print NR; exit }' "$room/accepted/$name")
         if [ -n "$folded" ]; then refuse "$list:$folded: a line of several sequences; with --no-fold after the two folders each has its own"; fi
+        needless=$(awk '/^added: / { print NR; exit }' "$room/accepted/$name")
+        if [ -n "$needless" ]; then refuse "$list:$needless: a sequence that is added needs no line; take it out"; fi
     done
 }
 
@@ -268,9 +272,9 @@ compare() {
     list=$room/accepted/$locale
     if [ -s "$room/lists/$locale" ]; then
         mv "$room/lists/$locale" "$list"
-        diff_locale "$locale" "$@" --accept "$list" > "$room/changes/$locale" 2> "$room/errors" || code=$?
+        diff_locale "$locale" $unfold "$@" --accept "$list" > "$room/changes/$locale" 2> "$room/errors" || code=$?
     else
-        diff_locale "$locale" "$@" > "$room/changes/$locale" 2> "$room/errors" || code=$?
+        diff_locale "$locale" $unfold "$@" > "$room/changes/$locale" 2> "$room/errors" || code=$?
     fi
     case $code in
     0) ;;
@@ -496,6 +500,14 @@ is_something_intended() {
     cat "$room/intended_tables" "$room/intended"/* 2> /dev/null | grep -q .
 }
 
+# Prints folded the lines that a list of intended changes may have.
+print_listed() (
+    mkdir "$room/listed"
+    for lines in "$room/changes"/*; do sed '/^added: /d' "$lines" > "$room/listed/${lines##*/}"; done
+    cd "$room/listed"
+    if print_lines $1 ./* > "$room/lines"; then print_folded 'Lines for lists of intended changes' < "$room/lines"; fi
+)
+
 # Prints the changes of all locales that were compared.
 print_changes() (
     cd "$room/changes"
@@ -507,7 +519,7 @@ print_changes() (
         else
             cd "$room/pages"
             print_rows ./*
-            print_folded 'Lines of lists of intended changes' < "$room/lines"
+            print_listed $1
         fi
     elif [ -s "$room/other_tables" ]; then
         return
@@ -622,7 +634,8 @@ old=$room/old/$system new=$room/new/$system
 lay old "$1"
 lay new "$2"
 shift 2
-form=text count=$#
+# (a page lists each sequence in a line of its own, as it has a row of its own)
+form=text unfold=--no-fold count=$#
 while [ $count != 0 ]; do
     option=$1 count=$((count - 1))
     shift
@@ -633,11 +646,16 @@ while [ $count != 0 ]; do
         form=$1 count=$((count - 1))
         shift
         ;;
+    --no-fold)
+        unfold=
+        set -- "$@" "$option"
+        ;;
     *) set -- "$@" "$option" ;;
     esac
 done
 case $form in
-text | markdown | html) ;;
+text) unfold= ;;
+markdown | html) ;;
 *) refuse "--format $form: no such form of a report" ;;
 esac
 mkdir "$room/changes" "$room/pages" "$room/accepted" "$room/lists" "$room/intended"
