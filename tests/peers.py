@@ -10,7 +10,7 @@ import subprocess
 import sys
 import tempfile
 
-from source_packages import SourcePackages
+from source_packages import SourcePackages, Unfetched
 
 TOP = os.path.dirname(os.path.dirname(os.path.abspath(__file__)))
 sys.path[:0] = [f"{TOP}/lib"]
@@ -111,7 +111,10 @@ def wrong_ones(fell, listed, status):
 def main():
     passed, wrong = 0, []
     with tempfile.TemporaryDirectory(prefix="peers-") as folder:
-        source = SourcePackages(folder).fetch("libxkbcommon")
+        try:
+            source = SourcePackages(folder).fetch("libxkbcommon")
+        except Unfetched as error:
+            sys.exit(f"peers.py: {error}")
         names = built(folder, source)
         for more, listed in (({}, LISTED), ({"NO_KEYSYMS": "1"}, {it: why for it, why in LISTED.items() if why is not RESULT})):
             held, fell, status = outcome(folder, source, names, more)

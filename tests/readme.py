@@ -12,7 +12,7 @@ import tempfile
 TOP = os.path.dirname(os.path.dirname(os.path.abspath(__file__)))
 DOCUMENTS = ["README.md", "docs/GUIDE.md", "CONTRIBUTING.md"]
 # What a block may make, and so is no link to what lies in the repository.
-MADE = {"composecheck", "try", "intended", "report.md", ".git"}
+MADE = {"composecheck", "try", "intended", "old", "new", "report.md", ".git"}
 BLOCK = re.compile(r"^```(\w*)\n(.*?)^```$", re.M | re.S)
 MARK = "-- the next block --"
 
