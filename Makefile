@@ -148,13 +148,14 @@ real: composecheck compose_trials $(LIBRARY)
 	python3 tests/network.py ./compose_trials 100000
 	python3 tests/library.py 100000
 
-bench: composecheck compose_trials
+bench: composecheck compose_trials $(LIBRARY)
 	python3 bench/run.py ./composecheck ./compose_trials
 	python3 bench/growth.py ./composecheck docs/growth.svg
 	python3 bench/service.py ./composecheck
 	python3 bench/at_once.py ./composecheck
 	python3 bench/beside.py ./composecheck
 	python3 bench/hostile.py ./composecheck
+	python3 bench/library.py
 
 clean:
 	rm -rf composecheck compose_trials packages build crates/*/out

@@ -80,6 +80,16 @@ uint32_t composecheck_compile(const uint8_t *header, size_t header_length, const
                               uint32_t *offsets, size_t offset_room, uint8_t *texts, size_t text_room, uint8_t *hints, size_t hint_room,
                               struct composecheck_sizes *sizes, struct composecheck_fault *fault);
 
+/* As composecheck_compile, and fills results besides with the result keysym of each sequence, one for each text and in their order;
+ * *result_count says how many they are, one less than offsets. It is the keysym that the line names which counts for the sequence; where it
+ * names none, the least keysym of the text's character; and 0 (XKB_KEY_NoSymbol) where the text isn't one character, or no keysym has it.
+ * TOO_SMALL also where results has less room than *result_count says. MALLOC */
+uint32_t composecheck_compile_with_results(const uint8_t *header, size_t header_length, const uint8_t *bundle, size_t bundle_length, bool longest,
+                                           struct composecheck_node *nodes, size_t node_room, struct composecheck_edge *edges, size_t edge_room,
+                                           uint32_t *offsets, size_t offset_room, uint8_t *texts, size_t text_room, uint8_t *hints,
+                                           size_t hint_room, uint32_t *results, size_t result_room, struct composecheck_sizes *sizes,
+                                           size_t *result_count, struct composecheck_fault *fault);
+
 /* The sentence that says why composecheck_compile refuses these sources, or no bytes where it doesn't: UTF-8, of *length bytes, without an
  * end mark. 0 done, 1 no room (*length says what is needed), 2 no memory. MALLOC */
 uint32_t composecheck_explain(const uint8_t *header, size_t header_length, const uint8_t *bundle, size_t bundle_length, bool longest,
@@ -115,6 +125,14 @@ bool composecheck_following(const struct composecheck_node *nodes, size_t node_c
                             const uint8_t *hints, size_t hint_count, const struct composecheck_state *state, uint32_t index,
                             uint32_t *keysym, uint32_t *status, uint8_t text[COMPOSECHECK_MOST_TEXT], uint32_t *text_length);
 
+/* The result keysym of the sequence that feeding the keysym would complete: of results, which composecheck_compile_with_results filled with
+ * the table. 0 where it completes none, where the sequence has none, and where results ends before it. The state stays as it is.
+ * Premise: the arrays are a table. */
+uint32_t composecheck_result(const struct composecheck_node *nodes, size_t node_count, const struct composecheck_edge *edges, size_t edge_count,
+                             const uint32_t *offsets, size_t offset_count, const uint8_t *texts, size_t text_count,
+                             const uint8_t *hints, size_t hint_count, const uint32_t *results, size_t result_count,
+                             const struct composecheck_state *state, uint32_t keysym);
+
 /* Whether the certificate is valid for a move from the old table to the new one, with these names and this repertoire, as the command
  * `composecheck check` says. False: fault says why; else it stays as it was. Premise: both arrays are tables. MALLOC */
 bool composecheck_check(const uint8_t *header, size_t header_length,
@@ -142,20 +160,28 @@ uint32_t composecheck_load(const uint8_t *header, size_t header_length,
 uint32_t composecheck_is_table(const struct composecheck_node *nodes, size_t node_count, const struct composecheck_edge *edges, size_t edge_count,
                                const uint32_t *offsets, size_t offset_count, const uint8_t *texts, size_t text_count);
 
+/* The characters of keysyms by the names of a header, each at its keysym's index; 0 where a keysym has none, or the number is above
+ * 0x1fffffff. A key that is part of no sequence commits its character. It takes as long as reading the names: ask for all keys at once.
+ * 0 done; 1 the header is refused, and fault says why, else fault stays as it was; 2 characters has less room than there are keysyms. MALLOC */
+uint32_t composecheck_characters(const uint8_t *header, size_t header_length, const uint32_t *keysyms, size_t keysym_count,
+                                 uint32_t *characters, size_t character_room, struct composecheck_fault *fault);
+
 /* Whether a line of a source, without its newline, is an include: 0 it isn't, 1 it is, and name gets what stands between its quotes, *name_length
  * bytes; 2 the name has no room, and *name_length says what is needed. */
 uint32_t composecheck_include(const uint8_t *line, size_t line_length, uint8_t *name, size_t name_room, size_t *name_length);
 
 /* ---- C over these: a table as one struct */
 
-/* A table: where its arrays are. Whoever has the arrays elsewhere, as in shared memory, fills it in, with zeros in what is reserved. */
+/* A table: where its arrays are. Whoever has the arrays elsewhere, as in shared memory, fills it in; where there are no result keysyms,
+ * results is null and result_count 0. */
 struct composecheck_table {
     struct composecheck_sizes sizes;
     const struct composecheck_node *nodes;
     const struct composecheck_edge *edges;
     const uint32_t *offsets;
     const uint8_t *texts, *hints;
-    void *reserved[2];
+    const uint32_t *results;
+    size_t result_count;
 };
 
 /* A source: its name as the including line writes it between its quotes (the root's can be any), and its bytes. */
@@ -175,7 +201,7 @@ struct composecheck_input {
     void *reserved[4];
 };
 
-/* The table, in one block of malloc; null where it is refused, and fault says why (COMPOSECHECK_MEMORY: no memory). MALLOC */
+/* The table with its result keysyms, in one block of malloc; null where it is refused, and fault says why (COMPOSECHECK_MEMORY: no memory). MALLOC */
 struct composecheck_table *composecheck_table_new(const struct composecheck_input *input, struct composecheck_fault *fault);
 
 /* The same, and refused too where the certificate is not valid for a move from the table in use. MALLOC */
@@ -201,9 +227,16 @@ void composecheck_table_refeed(const struct composecheck_table *table, struct co
 bool composecheck_table_following(const struct composecheck_table *table, const struct composecheck_state *state, uint32_t index,
                                   uint32_t *keysym, uint32_t *status, uint8_t text[COMPOSECHECK_MOST_TEXT], uint32_t *text_length);
 
+/* composecheck_result; 0 where the table has no result keysyms. */
+uint32_t composecheck_table_result(const struct composecheck_table *table, const struct composecheck_state *state, uint32_t keysym);
+
 /* The next include of a source from *offset on, which goes on behind its line: its name with an end mark in name, false where there is none
  * with a name that has room. *offset is 0 at first. */
 bool composecheck_next_include(const void *bytes, size_t length, size_t *offset, char *name, size_t room);
+
+/* The text of a key that is part of no sequence, by the names that are built in, in UTF-8 with an end mark; gives its length, 0 where the
+ * key has none or memory is wanting. For several keys composecheck_characters is faster. MALLOC */
+size_t composecheck_key_text(uint32_t keysym, char text[5]);
 
 /* The names that are built in, lines of a header. */
 const uint8_t *composecheck_builtin_names(size_t *length);

@@ -10,6 +10,7 @@ struct room {
     struct composecheck_edge *edges;
     uint32_t *offsets;
     uint8_t *texts, *hints;
+    uint32_t *results;
 };
 
 /* ---- bundles */
@@ -80,7 +81,8 @@ static bool bundle_of(const struct composecheck_input *input, struct bundle *bun
 
 /* ---- blocks */
 
-/* Where the arrays lie behind a struct in one block, the wider entries first; the bytes of all of it. */
+/* Where the arrays lie behind a struct in one block, the wider entries first; the bytes of all of it. There are fewer result keysyms than
+ * offsets. */
 static size_t lay_out(uint8_t *block, const struct composecheck_sizes *sizes, struct room *room)
 {
     uint8_t *at = block + sizeof(struct composecheck_table);
@@ -91,6 +93,8 @@ static size_t lay_out(uint8_t *block, const struct composecheck_sizes *sizes, st
     at += sizes->edges * sizeof *room->edges;
     room->offsets = (uint32_t *) (void *) at;
     at += sizes->offsets * sizeof *room->offsets;
+    room->results = (uint32_t *) (void *) at;
+    at += sizes->offsets * sizeof *room->results;
     room->texts = at;
     at += sizes->texts;
     room->hints = at;
@@ -101,7 +105,7 @@ static size_t lay_out(uint8_t *block, const struct composecheck_sizes *sizes, st
 static size_t block_size(const struct composecheck_sizes *sizes)
 {
     return sizeof(struct composecheck_table) + sizes->nodes * sizeof(struct composecheck_node) + sizes->edges * sizeof(struct composecheck_edge)
-           + sizes->offsets * sizeof(uint32_t) + sizes->texts + sizes->hints;
+           + 2 * sizes->offsets * sizeof(uint32_t) + sizes->texts + sizes->hints;
 }
 
 /* A block with room for so many entries. */
@@ -114,7 +118,7 @@ static uint8_t *new_block(const struct composecheck_sizes *sizes, struct room *r
 }
 
 /* A block of the right size with the entries that count. */
-static struct composecheck_table *table_of(const struct room *wide, const struct composecheck_sizes *sizes)
+static struct composecheck_table *table_of(const struct room *wide, const struct composecheck_sizes *sizes, size_t result_count)
 {
     struct room room;
     uint8_t *block = new_block(sizes, &room);
@@ -125,6 +129,7 @@ static struct composecheck_table *table_of(const struct room *wide, const struct
     memcpy(room.offsets, wide->offsets, sizes->offsets * sizeof *room.offsets);
     memcpy(room.texts, wide->texts, sizes->texts);
     memcpy(room.hints, wide->hints, sizes->hints);
+    memcpy(room.results, wide->results, result_count * sizeof *room.results);
     struct composecheck_table *table = (struct composecheck_table *) (void *) block;
     table->sizes = *sizes;
     table->nodes = room.nodes;
@@ -132,6 +137,8 @@ static struct composecheck_table *table_of(const struct room *wide, const struct
     table->offsets = room.offsets;
     table->texts = room.texts;
     table->hints = room.hints;
+    table->results = room.results;
+    table->result_count = result_count;
     return table;
 }
 
@@ -158,15 +165,22 @@ static const uint8_t *header_of(const struct composecheck_input *input, size_t *
     return input->header ? input->header : composecheck_builtin_names(length);
 }
 
-static uint32_t fill(const struct composecheck_table *in_use, const struct composecheck_input *input, const struct bundle *bundle,
+static uint32_t fill(const struct composecheck_input *input, const struct bundle *bundle, struct room *room, struct composecheck_sizes *sizes,
+                     size_t *result_count, struct composecheck_fault *fault)
+{
+    size_t length;
+    const uint8_t *header = header_of(input, &length);
+    return composecheck_compile_with_results(header, length, bundle->bytes, bundle->length, input->longest, room->nodes, room->sizes.nodes,
+                                             room->edges, room->sizes.edges, room->offsets, room->sizes.offsets, room->texts, room->sizes.texts,
+                                             room->hints, room->sizes.hints, room->results, room->sizes.offsets, sizes, result_count, fault);
+}
+
+/* Whether the certificate lets the table be loaded; its arrays are filled then. */
+static uint32_t load(const struct composecheck_table *in_use, const struct composecheck_input *input, const struct bundle *bundle,
                      struct room *room, struct composecheck_sizes *sizes, struct composecheck_fault *fault)
 {
     size_t length;
     const uint8_t *header = header_of(input, &length);
-    if (!in_use)
-        return composecheck_compile(header, length, bundle->bytes, bundle->length, input->longest, room->nodes, room->sizes.nodes, room->edges,
-                                    room->sizes.edges, room->offsets, room->sizes.offsets, room->texts, room->sizes.texts, room->hints,
-                                    room->sizes.hints, sizes, fault);
     return composecheck_load(header, length, in_use->nodes, in_use->sizes.nodes, in_use->edges, in_use->sizes.edges, in_use->offsets,
                              in_use->sizes.offsets, in_use->texts, in_use->sizes.texts, in_use->hints, in_use->sizes.hints,
                              or_nothing(input->repertoire), input->repertoire_length, bundle->bytes, bundle->length, input->longest, room->nodes,
@@ -179,14 +193,17 @@ static uint32_t read_into(const struct composecheck_table *in_use, const struct 
                           struct composecheck_sizes *sizes, struct composecheck_table **table, struct composecheck_fault *fault)
 {
     struct room room;
+    size_t result_count;
     uint8_t *block = new_block(sizes, &room);
     *table = NULL;
     *fault = fault_of(COMPOSECHECK_MEMORY, 0);
     if (!block)
         return COMPOSECHECK_REFUSED;
-    uint32_t done = fill(in_use, input, bundle, &room, sizes, fault);
+    uint32_t done = in_use ? load(in_use, input, bundle, &room, sizes, fault) : COMPOSECHECK_DONE;
     if (done == COMPOSECHECK_DONE)
-        *table = table_of(&room, sizes);
+        done = fill(input, bundle, &room, sizes, &result_count, fault);
+    if (done == COMPOSECHECK_DONE)
+        *table = table_of(&room, sizes, result_count);
     free(block);
     return done;
 }
@@ -314,6 +331,39 @@ bool composecheck_table_following(const struct composecheck_table *t, const stru
 {
     return composecheck_following(t->nodes, t->sizes.nodes, t->edges, t->sizes.edges, t->offsets, t->sizes.offsets, t->texts, t->sizes.texts,
                                   t->hints, t->sizes.hints, state, index, keysym, status, text, text_length);
+}
+
+uint32_t composecheck_table_result(const struct composecheck_table *t, const struct composecheck_state *state, uint32_t keysym)
+{
+    static const uint32_t none[1];
+    return composecheck_result(t->nodes, t->sizes.nodes, t->edges, t->sizes.edges, t->offsets, t->sizes.offsets, t->texts, t->sizes.texts,
+                               t->hints, t->sizes.hints, t->results ? t->results : none, t->results ? t->result_count : 0, state, keysym);
+}
+
+/* ---- keys */
+
+/* Puts a character's UTF-8 with an end mark, and gives its length; none for 0. */
+static size_t put_character(uint32_t character, char text[5])
+{
+    size_t length = character == 0 ? 0 : character < 0x80 ? 1 : character < 0x800 ? 2 : character < 0x10000 ? 3 : 4;
+    static const uint8_t heads[] = { 0, 0, 0xc0, 0xe0, 0xf0 };
+    text[length] = 0;
+    for (size_t i = length; i > 1; i--, character >>= 6)
+        text[i - 1] = (char) (0x80 | (character & 0x3f));
+    if (length)
+        text[0] = (char) (heads[length] | character);
+    return length;
+}
+
+size_t composecheck_key_text(uint32_t keysym, char text[5])
+{
+    struct composecheck_fault fault;
+    uint32_t character = 0;
+    size_t length;
+    const uint8_t *header = composecheck_builtin_names(&length);
+    if (composecheck_characters(header, length, &keysym, 1, &character, 1, &fault) != 0)
+        character = 0;
+    return put_character(character, text);
 }
 
 /* ---- includes */

@@ -2,8 +2,8 @@
  * files (paths, locales, %-expansion) and the reference counts.
  *
  * What differs from libxkbcommon: a table with a faulty line is refused, and why is told to stderr; with COMPOSECHECK_SHIM_SKIP=1 up to ten
- * faulty lines are left out, each with a message. A table keeps the texts of sequences and no result keysyms: xkb_compose_state_get_one_sym
- * gives that of a text of one character. Modifier lists are refused. */
+ * faulty lines are left out, each with a message. Where a line names no result keysym, xkb_compose_state_get_one_sym gives that of a text of
+ * one character. Modifier lists are refused. */
 #define _GNU_SOURCE
 #include "composecheck.h"
 #include <stdio.h>
@@ -19,7 +19,6 @@ enum { MOST_SOURCES = 64, MOST_SKIPPED = 10, MOST_NAME = 4096, TEXT_FORMAT = 1 }
 struct xkb_context;
 extern struct xkb_context *xkb_context_ref(struct xkb_context *context) __attribute__((weak));
 extern void xkb_context_unref(struct xkb_context *context) __attribute__((weak));
-extern uint32_t xkb_utf32_to_keysym(uint32_t character) __attribute__((weak));
 
 struct xkb_compose_table {
     int references;
@@ -30,7 +29,7 @@ struct xkb_compose_state {
     struct composecheck_state state;
     int references;
     struct xkb_compose_table *table;
-    uint32_t length;
+    uint32_t keysym;
     uint8_t text[COMPOSECHECK_MOST_TEXT + 1];
 };
 
@@ -403,16 +402,26 @@ struct xkb_compose_table *xkb_compose_state_get_compose_table(struct xkb_compose
     return state->table;
 }
 
+/* What is pending, for the result keysym of the sequence that the next key completes. */
+static struct composecheck_state pending_of(const struct composecheck_state *state)
+{
+    struct composecheck_state pending = { 0 };
+    pending.count = composecheck_pending(state, pending.pending);
+    return pending;
+}
+
 /* A number above the greatest keysym is fed as one that no sequence has: 0, NoSymbol. */
 int xkb_compose_state_feed(struct xkb_compose_state *state, uint32_t keysym)
 {
     uint32_t length, given = keysym > COMPOSECHECK_GREATEST_KEYSYM ? 0 : keysym;
     uint8_t text[COMPOSECHECK_MOST_TEXT];
+    struct composecheck_state before = pending_of(&state->state);
     if (composecheck_table_feed(state->table->table, &state->state, given, text, &length) == COMPOSECHECK_IGNORED)
         return 0;
+    bool is_composed = composecheck_status(&state->state) == COMPOSECHECK_COMPOSED;
+    state->keysym = is_composed ? composecheck_table_result(state->table->table, &before, given) : 0;
     memcpy(state->text, text, length);
     state->text[length] = 0;
-    state->length = length;
     return 1;
 }
 
@@ -420,7 +429,7 @@ void xkb_compose_state_reset(struct xkb_compose_state *state)
 {
     composecheck_reset(&state->state);
     state->text[0] = 0;
-    state->length = 0;
+    state->keysym = 0;
 }
 
 int xkb_compose_state_get_status(struct xkb_compose_state *state)
@@ -433,24 +442,7 @@ int xkb_compose_state_get_utf8(struct xkb_compose_state *state, char *buffer, si
     return snprintf(buffer, size, "%s", (const char *) state->text);
 }
 
-/* The character of a text of one character; else 0. */
-static uint32_t one_character(const uint8_t *text, uint32_t length)
-{
-    static const uint8_t masks[] = { 0, 0x7f, 0x1f, 0x0f, 0x07 }, heads[] = { 0, 0x00, 0xc0, 0xe0, 0xf0 };
-    if (length == 0 || length > 4 || (text[0] & ~masks[length]) != heads[length])
-        return 0;
-    uint32_t character = text[0] & masks[length];
-    for (uint32_t i = 1; i < length; i++)
-        character = character << 6 | (text[i] & 0x3fu);
-    return character;
-}
-
 uint32_t xkb_compose_state_get_one_sym(struct xkb_compose_state *state)
 {
-    uint32_t character = one_character(state->text, state->length);
-    if (character == 0)
-        return 0;
-    if (xkb_utf32_to_keysym)
-        return xkb_utf32_to_keysym(character);
-    return character < 0x100 ? character : 0x01000000 | character;
+    return state->keysym;
 }

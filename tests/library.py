@@ -164,6 +164,47 @@ def loads(results, library):
     results.expect(fault and fault.part == 9, "a certificate for another table")
 
 
+RESULTS = """<a> : "x" F1
+<b> : "é"
+<c> : "xyz"
+<d> : Left
+<e> : eacute
+<f> <a> : "x" F2
+<f> <a> : "z" F3
+<f> <b> : "α"
+<h> : "xyz" eacute
+<i> : "\\001"
+<j> : "0"
+"""
+
+
+def result_keysyms(results, library):
+    """The keysym that the line names which counts, else the least one of the text's character (keysymdef.h has the numbers)."""
+    table, state = library.Table({"r": RESULTS}), library.State()
+    wanted = {"a": 0xFFBE, "b": 0xE9, "c": 0, "d": 0xFF51, "e": 0xE9, "f": 0, "g": 0, "h": 0xE9, "i": 0, "j": 0x30}
+    got = {key: state.result(table, ord(key)) for key in wanted}
+    results.expect(got == wanted, f"the result keysyms {got}")
+    state.feed(table, ord("f"))
+    got = [state.result(table, keysym) for keysym in (0x61, 0x62, 0x63, 0xFFE1, 0x20000000)]
+    results.expect(got == [0xFFC0, 0x7E1, 0, 0, 0], f"the result keysyms behind f are {got}")
+    results.expect(state.pending == [0x66] and state.status == "composing", "the state stays as it is")
+    certificate = "compose-certificate 1\nbound 0\npairs 1\n0 0\ntypings 0\n"
+    loaded = library.Table({"r": '<a> : "x" F1\n'}).load({"r": '<a> : "x" F2\n'}, certificate, "")
+    results.expect(library.State().result(loaded, 0x61) == 0xFFBF, "the result keysym of a table that was loaded")
+
+
+def key_texts(results, library):
+    """The texts of keys: keysymdef.h has the numbers, and the character of Greek_alpha in its comment."""
+    keysyms = [0x61, 0xE9, 0x7E1, 0x10020AC, 0xFFB3, 0xFF20, 0x1FFFFFFF, 0x20000000, 0xFFFFFFFF, 0x1F600 + 0x1000000]
+    got = library.texts(keysyms)
+    results.expect(got == ["a", "é", "α", "€", "3", "", "", "", "", "😀"], f"the texts of keys are {got}")
+    results.expect(library.texts([0x7E1], "") == [""], "a keysym whose character the header doesn't give")
+    results.expect(library.texts([0x1234, 0x41], "#define XK_made_up 0x1234 /* U+00DF LATIN SMALL LETTER SHARP S */\n") == ["ß", "A"], "a character of the header")
+    fault, _ = refusal(lambda: library.texts([0x61], "#define XK_x 0xffffffff\n"))
+    results.expect(fault and (fault.part, fault.code, fault.line) == (1, 3, 1), "a header that is refused")
+    results.expect(library.texts([]) == [], "no keys")
+
+
 # ---- beside libxkbcommon
 
 
@@ -320,7 +361,7 @@ def main():
         os.environ["COMPOSECHECK_LIBRARY"] = f"{folder}/lib/libcomposecheck.so.1"
         import composecheck as library
 
-        for test in (refusals, loads, random_keys):
+        for test in (refusals, loads, result_keysyms, key_texts, random_keys):
             test(results, library)
         beside(results, folder, count, locales)
         symbols(results, f"{folder}/lib")

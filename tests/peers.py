@@ -2,7 +2,6 @@
 """peers.py: runs libxkbcommon's own test of Compose, test/compose.c, on `libcomposecheck-xkb.so`. The test comes from Debian's source package by
 apt-get, and nothing of it is kept. It runs to its end, with a line for each assertion that doesn't hold, and has to hold but for those below.
 
-It runs twice: as it is, and with no result keysym asked for where the shim has none, so that those assertions that ask for one are looked at too.
 The last line is `N passed, M failed`: the assertions that hold or are listed, and the others. Those that are listed and hold count as failed too."""
 import os
 import re
@@ -17,13 +16,8 @@ sys.path[:0] = [f"{TOP}/lib"]
 import build_library
 
 # The assertions that needn't hold, by their function and their number in it, and why.
-RESULT = "asks for the result keysym of a text that is not one character: a table keeps texts alone"
 MODIFIERS = "asks for modifier lists, which are refused"
-LISTED = {
-    **{f"test_conflicting {number}": RESULT for number in range(1, 7)},
-    **{it: RESULT for it in ("test_include 3", "test_override 1", "test_seqs 11", "test_seqs 13")},
-    **{it: MODIFIERS for it in ("test_compose_seq_buffer 1", "test_modifier_syntax 1")},
-}
+LISTED = {"test_compose_seq_buffer 1": MODIFIERS, "test_modifier_syntax 1": MODIFIERS}
 
 # An assert of the test that is told and goes on; one of the code that it calls ends the program.
 ASSERT = """#include <stdio.h>
@@ -52,7 +46,6 @@ def guarded(text):
     for pattern, more in (
         (r"(test_compose_seq_va\([^)]*\)\n\{)", "if (!table) return false;"),
         (r"(assert\(table\);)(?=\s+va_start)", "if (!table) return false;"),
-        (r"(keysym = xkb_compose_state_get_one_sym\(state\);)(?=\s+if \(keysym != expected_keysym\))", 'if (!keysym && getenv("NO_KEYSYMS")) continue;'),
     ):
         text, count = re.subn(pattern, lambda it: f"{it[1]} {more}", text)
         if count != 1:
@@ -91,9 +84,9 @@ def built(folder, source):
     return names_of(text)
 
 
-def outcome(folder, source, names, more):
-    """Runs the test with these variables of the environment besides: the assertions that hold each time, those that don't, and the status."""
-    env = {**os.environ, "top_srcdir": source, "top_builddir": folder, **more}
+def outcome(folder, source, names):
+    """Runs the test: the assertions that hold each time, those that don't, and the status."""
+    env = {**os.environ, "top_srcdir": source, "top_builddir": folder}
     ran = subprocess.run([f"{folder}/test"], env=env, stdout=subprocess.PIPE, stderr=subprocess.DEVNULL, text=True, timeout=100)
     held, fell = (
         {names.get(int(line), f"line {line}") for line in re.findall(rf"^{word} .*test\.c:(\d+)$", ran.stdout, re.M)} for word in ("HOLDS", "FAILS")
@@ -101,30 +94,27 @@ def outcome(folder, source, names, more):
     return held - fell, fell, ran.returncode
 
 
-def wrong_ones(fell, listed, status):
+def wrong_ones(fell, status):
     return [
-        *(f"{it} doesn't hold" for it in sorted(fell - listed.keys())), *(f"{it} is listed, and holds" for it in sorted(listed.keys() - fell)),
+        *(f"{it} doesn't hold" for it in sorted(fell - LISTED.keys())), *(f"{it} is listed, and holds" for it in sorted(LISTED.keys() - fell)),
         *([f"the test ends with {status}"] if status else []),
     ]  # fmt: skip
 
 
 def main():
-    passed, wrong = 0, []
     with tempfile.TemporaryDirectory(prefix="peers-") as folder:
         try:
             source = SourcePackages(folder).fetch("libxkbcommon")
         except Unfetched as error:
             sys.exit(f"peers.py: {error}")
         names = built(folder, source)
-        for more, listed in (({}, LISTED), ({"NO_KEYSYMS": "1"}, {it: why for it, why in LISTED.items() if why is not RESULT})):
-            held, fell, status = outcome(folder, source, names, more)
-            passed += len(held) + len(fell & listed.keys())
-            wrong += wrong_ones(fell, listed, status)
+        held, fell, status = outcome(folder, source, names)
+    wrong = wrong_ones(fell, status)
     for it in wrong:
         print(f"FAILED: {it}")
     for it, why in sorted(LISTED.items()):
         print(f"listed: {it}: {why}")
-    print(f"{passed} passed, {len(wrong)} failed")
+    print(f"{len(held) + len(fell & LISTED.keys())} passed, {len(wrong)} failed")
     return 1 if wrong else 0
 
 

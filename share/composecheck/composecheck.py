@@ -27,7 +27,9 @@ class _State(ctypes.Structure):
 
 
 class _Table(ctypes.Structure):
-    _fields_ = [("sizes", _Sizes)] + [(it, ctypes.c_void_p) for it in ("nodes", "edges", "offsets", "texts", "hints")] + [("reserved", ctypes.c_void_p * 2)]
+    _fields_ = [("sizes", _Sizes)] + [(it, ctypes.c_void_p) for it in ("nodes", "edges", "offsets", "texts", "hints", "results")] + [
+        ("result_count", ctypes.c_size_t)
+    ]  # fmt: skip
 
 
 class _Source(ctypes.Structure):
@@ -72,6 +74,9 @@ def _load(path):
         ("table_feed", ctypes.c_uint32, (table, state, ctypes.c_uint32, text, words)),
         ("table_refeed", None, (table, state)),
         ("table_following", ctypes.c_bool, (table, state, ctypes.c_uint32, words, words, text, words)),
+        ("characters", ctypes.c_uint32, (ctypes.c_char_p, ctypes.c_size_t, words, ctypes.c_size_t, words, ctypes.c_size_t, fault)),
+        ("builtin_names", ctypes.c_void_p, (ctypes.POINTER(ctypes.c_size_t),)),
+        ("table_result", ctypes.c_uint32, (table, state, ctypes.c_uint32)),
         ("reset", None, (state,)),
         ("status", ctypes.c_uint32, (state,)),
         ("pending", ctypes.c_uint32, (state, ctypes.c_uint32 * MOST_PENDING)),
@@ -101,6 +106,18 @@ def _explain(given):
     text = ctypes.create_string_buffer(1024)
     _library.composecheck_table_explain(given, text, len(text))
     return text.value.decode(errors="replace")
+
+
+def texts(keysyms, header=None):
+    """Returns the text of each of these keysyms, that which a key commits that is part of no sequence: a character, or nothing."""
+    header, fault = _bytes(header), Fault()
+    length = ctypes.c_size_t(len(header or b""))
+    lines = header if header is not None else ctypes.string_at(_library.composecheck_builtin_names(length), length.value)
+    given, found = ((ctypes.c_uint32 * max(len(keysyms), 1))(*it) for it in (keysyms, ()))
+    done = _library.composecheck_characters(lines, length, given, len(keysyms), found, len(keysyms), fault)
+    if done == 1:
+        raise Refused(fault, "")
+    return [chr(it) if it else "" for it in found[: len(keysyms)]]
 
 
 class Table:
@@ -147,6 +164,10 @@ class State:
         if fed == 2:
             raise ValueError("no keysym")
         return text.raw[: length.value].decode() if fed == 1 else None
+
+    def result(self, table, keysym):
+        """Returns the result keysym of the sequence that feeding the keysym would complete: 0 where it completes none, or has none."""
+        return _library.composecheck_table_result(table._table, self._state, keysym)
 
     def refeed(self, table):
         """Goes over to another table, also in the middle of a sequence."""

@@ -53,6 +53,8 @@ static void states(const struct composecheck_table *table, int rounds)
         expect(fed != 2 || memcmp(&state, &before, sizeof state) == 0, "no keysym changes nothing");
         expect(memcmp(state.reserved, before.reserved, sizeof state.reserved) == 0, "what is reserved stays");
         expect(composecheck_status(&state) <= 3 && composecheck_pending(&state, pending) <= 31, "status and pending");
+        uint32_t result = composecheck_table_result(table, &state, chance() % 3 ? number() : 0x78);
+        expect(result == 0 || result == 0xe9 || result == 0x79, "a result keysym of the table");
         composecheck_table_following(table, &state, index, &keysym, &status, text, &length);
         composecheck_table_refeed(table, &state);
         expect((composecheck_pending(&state, pending) > 0) == (composecheck_status(&state) == COMPOSECHECK_COMPOSING), "composing where something is pending");
@@ -122,12 +124,21 @@ static void rooms(const struct composecheck_input *input)
         struct composecheck_edge *edges = malloc(room[1] * sizeof *edges);
         uint32_t *offsets = malloc(room[2] * sizeof *offsets);
         uint8_t *texts = malloc(room[3]), *hints = malloc(room[4]);
+        size_t count = 999, result_room = table->result_count + chance() % 3 - 1;
+        uint32_t *results = malloc(result_room * sizeof *results);
         struct composecheck_sizes sizes;
         struct composecheck_fault fault = { .part = 77 };
         uint32_t done = composecheck_compile(names, header, bundle, length, true, nodes, room[0], edges, room[1], offsets, room[2], texts, room[3], hints,
                                              room[4], &sizes, &fault);
         expect(done == (fits ? COMPOSECHECK_DONE : COMPOSECHECK_TOO_SMALL) && fault.part == 77, "rooms");
         expect(memcmp(&sizes, &table->sizes, sizeof sizes) == 0, "what is needed");
+        done = composecheck_compile_with_results(names, header, bundle, length, true, nodes, room[0], edges, room[1], offsets, room[2], texts, room[3],
+                                                 hints, room[4], results, result_room, &sizes, &count, &fault);
+        fits = fits && result_room >= table->result_count;
+        expect(done == (fits ? COMPOSECHECK_DONE : COMPOSECHECK_TOO_SMALL) && fault.part == 77, "rooms with results");
+        expect(count == table->result_count && count + 1 == sizes.offsets && memcmp(&sizes, &table->sizes, sizeof sizes) == 0, "what is needed with results");
+        expect(!fits || memcmp(results, table->results, count * sizeof *results) == 0, "the same results");
+        free(results);
         free(nodes);
         free(edges);
         free(offsets);

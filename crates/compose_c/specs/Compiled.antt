@@ -6,6 +6,7 @@ use Rattle.compose_model.specs.Table.{Definition}
 use Rattle.compose_model.specs.declared.Rule.{Rule}
 use Rattle.compose_model.specs.declared.Rule.TheVariants.{Refuse, Longest}
 use Rattle.compose_bundle.specs.Bundle.{Bundle, IsBundle}
+use Rattle.compose_results.specs.Results.{AreFirstResults}
 use Rattle.compose_tree.specs.TableGives.{first_table}
 use Rattle.compose_c.specs.declared.compile.Sizes.{Sizes}
 
@@ -20,6 +21,15 @@ pub record IsRead (header bundle : List ℕ) (rule : Rule) (table : List Definit
   pub named : names_of header ≡ Ok names
   pub bundled : IsBundle bundle sources
   pub is : first_table names sources.sources rule ≡ Ok table
+
+-- the same table, and the result keysym of each of its leaves
+pub record IsReadWithResults (header bundle : List ℕ) (rule : Rule) (table : List Definition) (results : List ℕ) : Type 0 where
+  pub names : KeysymNames
+  pub sources : Bundle
+  pub named : names_of header ≡ Ok names
+  pub bundled : IsBundle bundle sources
+  pub is : first_table names sources.sources rule ≡ Ok table
+  pub are : AreFirstResults names sources.sources table results
 
 -- arrays of these lengths have room for a table of these sizes
 pub record Fits (s : Sizes) (nodes edges offsets texts hints : ℕ) : Type 0 where

@@ -5,3 +5,5 @@ pub mod Faults
 pub mod Sentences
 pub mod Loads
 pub mod Arrays
+pub mod Results
+pub mod Characters

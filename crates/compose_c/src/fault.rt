@@ -128,7 +128,8 @@ fn of_condition(code: u32, at: usize, value: u32) -> Fault
     fault
 }
 
-fn of_names(fault: &NameFault) -> Fault
+/// The numbers of a fault of a header.
+pub fn of_names(fault: &NameFault) -> Fault
     ensures { result ≡ words.of_names fault.now }
 {
     match fault {

@@ -7,8 +7,8 @@ ghost use Rattle.compose_state.specs.NodeIds.{node_id};
 use compose_tree::{ComposeTable, NodeId, Target};
 use keysym_core::Keysym;
 
-/// The node behind the keysym, if a sequence goes on there.
-fn child<T: ComposeTable>(table: &T, node: NodeId, keysym: Keysym) -> Option<NodeId>
+/// The node behind the keysym, if a sequence goes on there. O(log edges of the node).
+pub fn child<T: ComposeTable>(table: &T, node: NodeId, keysym: Keysym) -> Option<NodeId>
     requires { node.0 < length (nodes (T.definitions table.now)) }
     ensures { result
         ≡ node_id (T.definitions table.now)
@@ -21,7 +21,7 @@ fn child<T: ComposeTable>(table: &T, node: NodeId, keysym: Keysym) -> Option<Nod
 }
 
 /// The node of these keysyms, if they are a node of the table.
-fn node_of<T: ComposeTable>(table: &T, keysyms: &[Keysym]) -> Option<NodeId>
+pub fn node_of<T: ComposeTable>(table: &T, keysyms: &[Keysym]) -> Option<NodeId>
     ensures { result ≡ node_id (T.definitions table.now) keysyms.now }
 {
     let mut node = NodeId::ROOT;

@@ -12,24 +12,31 @@ ghost use Rattle.compose_model.specs.Step.{effect};
 ghost use Rattle.compose_model.specs.Session.{rest, fed, loaded};
 ghost use Rattle.compose_state.specs.Answers.{sequence_text};
 ghost use Rattle.compose_tree.specs.Packed.{IsPacked, unpacked};
+ghost use Rattle.compose_tree.specs.Targets.{target_of};
 ghost use Rattle.compose_c.specs.States.{session_of, status_number, feed_number};
 ghost use Rattle.compose_c.specs.Arrays.{edge_of};
-ghost use Rattle.compose_c.specs.Compiled.{IsRead, Fits, rule_of};
+ghost use Rattle.compose_c.specs.Characters.{AreCharacters, TellsNames};
+ghost use Rattle.compose_c.specs.Compiled.{IsRead, IsReadWithResults, Fits, rule_of};
 ghost use Rattle.compose_c.specs.Faults.{Tells};
 ghost use Rattle.compose_c.specs.Includes.{IsInclude, IncludesNone};
 ghost use Rattle.compose_c.specs.Loads.{IsCertified, TellsUncertified, IsLoaded, TellsNotLoaded};
+ghost use Rattle.compose_c.specs.Results.{result_at};
 ghost use Rattle.compose_c.specs.Sentences.{IsSentence};
 
+mod characters;
 mod compile;
 mod copies;
 mod explain;
 mod fault;
+mod feeding;
 mod following;
 mod include;
 mod load;
 mod packed;
+mod results;
 mod state;
 
+use characters::characters;
 pub use compile::Sizes;
 use compile::compile;
 use compose_state::ComposeState;
@@ -37,14 +44,16 @@ use compose_tree::{LentTable, PackedEdge, PackedNode};
 use copies::put;
 use explain::sentence;
 pub use fault::Fault;
+use feeding::feed;
 use following::following;
 use include::include;
 use keysym_core::Keysym;
 use load::{check, load};
 pub use packed::LooseEdge;
 use packed::is_table;
+use results::{compile_with_results, result_of};
 pub use state::State;
-use state::{keep, number_of, put_keysyms, put_text, session};
+use state::{keep, number_of, pending_numbers, put_text, session, status_of};
 use std::alloc::Global;
 
 /// Feeds one keysym to the state and puts the text of a sequence that it completes into `text`, its bytes counted by `text_length`.
@@ -82,9 +91,7 @@ pub extern "C" fn composecheck_feed(
         return 2;
     };
     let table = LentTable::of(nodes, edges, offsets, texts, hints);
-    let mut now = session(state);
-    let fed = now.feed_alone(&table, keysym);
-    keep(state, &now);
+    let fed = feed(state, &table, keysym);
     *text_length = put_text(&fed, text);
     u32::from(fed.accepted)
 }
@@ -125,7 +132,7 @@ pub extern "C" fn composecheck_status(state: &State) -> u32
     ensures value { result ≡ status_number (session_of state.now).status }
     ensures few { result ≤ 3 }
 {
-    number_of(session(state).status())
+    number_of(status_of(state.status))
 }
 
 /// Puts the pending keysyms at the front of `keysyms`, and gives their count, at most 31. O(pending keysyms).
@@ -134,7 +141,9 @@ pub extern "C" fn composecheck_pending(state: &State, keysyms: &mut [u32; 31]) -
     ensures value { take result keysyms.new ≡ (session_of state.now).pending }
     ensures few { result ≤ 31 }
 {
-    put_keysyms(session(state).pending(), keysyms)
+    let pending = pending_numbers(state);
+    put(pending, keysyms);
+    pending.len() as u32
 }
 
 /// The keysym at this index among those that may follow the pending ones, in rising order; and what feeding it to the state would do:
@@ -227,6 +236,92 @@ pub extern "C" fn composecheck_compile(
     compile(
         alloc, header, bundle, longest, nodes, edges, offsets, texts, hints, sizes, fault,
     )
+}
+
+/// Reads a table as `composecheck_compile` does, and puts besides the result keysym of each of its
+/// leaves, in the order of their texts, into `results`; `result_count` says how many they are, one
+/// less than offsets. It is the keysym that the line names which counts for the sequence; where it
+/// names none, the least keysym of the text's character; and 0 (`XKB_KEY_NoSymbol`) where the text
+/// isn't one character or no keysym has it.
+///
+/// 0 where it is done, 1 where the sources or the header are refused, as `fault` says, 2 where an
+/// array is too small.
+#[unsafe(no_mangle)]
+pub extern "C" fn composecheck_compile_with_results(
+    alloc: Global,
+    header: &[u8],
+    bundle: &[u8],
+    longest: bool,
+    nodes: &mut [PackedNode],
+    edges: &mut [PackedEdge],
+    offsets: &mut [u32],
+    texts: &mut [u8],
+    hints: &mut [u8],
+    results: &mut [u32],
+    sizes: &mut Sizes,
+    result_count: &mut usize,
+    fault: &mut Fault,
+) -> u32
+    ensures read { result ≡ 0 → IsReadWithResults header.now bundle.now (rule_of longest)
+        (unpacked (take sizes.new.nodes nodes.new) (take sizes.new.edges edges.new)
+        (take sizes.new.offsets offsets.new) (take sizes.new.texts texts.new))
+        (take result_count.new results.new) }
+    ensures packed { result ≡ 0 → IsPacked (take sizes.new.nodes nodes.new)
+        (take sizes.new.edges edges.new) (take sizes.new.offsets offsets.new)
+        (take sizes.new.texts texts.new)
+        (unpacked (take sizes.new.nodes nodes.new) (take sizes.new.edges edges.new)
+        (take sizes.new.offsets offsets.new) (take sizes.new.texts texts.new)) }
+    ensures refused { result ≡ 1 → Tells header.now bundle.now (rule_of longest) fault.new }
+    ensures wide { result ≡ 2 → Fits sizes.new (length nodes.old) (length edges.old)
+        (length offsets.old) (length texts.old) (length hints.old)
+        → result_count.new ≤ length results.old → ⊥ }
+    ensures few { result ≤ 2 }
+    ensures same_fault { result ≢ 1 → fault.new ≡ fault.old }
+{
+    compile_with_results(
+        alloc,
+        header,
+        bundle,
+        longest,
+        nodes,
+        edges,
+        offsets,
+        texts,
+        hints,
+        results,
+        sizes,
+        result_count,
+        fault,
+    )
+}
+
+/// The result keysym, of these of the table's leaves, of the sequence that feeding the keysym to the
+/// state would complete; 0 where it completes none, or has none. The state stays as it is. Takes no
+/// memory; O(pending keysyms × log edges of a node).
+#[unsafe(no_mangle)]
+pub extern "C" fn composecheck_result(
+    nodes: &[PackedNode],
+    edges: &[PackedEdge],
+    offsets: &[u32],
+    texts: &[u8],
+    hints: &[u8],
+    results: &[u32],
+    state: &State,
+    key: u32,
+) -> u32
+    requires { IsPacked nodes.now edges.now offsets.now texts.now
+        (unpacked nodes.now edges.now offsets.now texts.now) }
+    ensures some { key ≤ 0x1fffffff → result
+        ≡ result_at results.now
+        (target_of (unpacked nodes.now edges.now offsets.now texts.now)
+        (session_of state.now).pending key) }
+    ensures none { 0x1fffffff < key → result ≡ 0 }
+{
+    let Some(keysym) = Keysym::new(key) else {
+        return 0;
+    };
+    let table = LentTable::of(nodes, edges, offsets, texts, hints);
+    result_of(&table, session(state).pending(), keysym, results)
 }
 
 /// The sentence that says why `composecheck_compile` refuses the sources, put into `text`; no bytes where it does not. The bytes are UTF-8.
@@ -367,6 +462,30 @@ pub extern "C" fn composecheck_is_table(
         Ok(false) => 0,
         Err(_) => 2,
     }
+}
+
+/// The characters of keysyms by the names of a header, each at the index of its keysym in `target`; 0
+/// where a keysym has none, or the number is above `0x1fffffff`. In UTF-8 a character is the text of
+/// a key that is part of no sequence.
+///
+/// 0 where it is done, 1 where the header is refused, as `fault` says, 2 where there is less room than
+/// keysyms. O(header + keysyms).
+#[unsafe(no_mangle)]
+pub extern "C" fn composecheck_characters(
+    alloc: Global,
+    header: &[u8],
+    keysyms: &[u32],
+    target: &mut [u32],
+    fault: &mut Fault,
+) -> u32
+    ensures done { result ≡ 0 → AreCharacters header.now keysyms.now
+        (take (length keysyms.now) target.new) }
+    ensures refused { result ≡ 1 → TellsNames header.now fault.new }
+    ensures wide { result ≡ 2 → length target.old < length keysyms.now }
+    ensures few { result ≤ 2 }
+    ensures same_fault { result ≢ 1 → fault.new ≡ fault.old }
+{
+    characters(alloc, header, keysyms, target, fault)
 }
 
 /// Whether the line is an include, and its name, as it stands between the quotes, put into `name`. Takes no memory; O(bytes).

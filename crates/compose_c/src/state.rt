@@ -6,10 +6,10 @@ ghost use Rattle.compose_state.specs.Texts.{text_bytes};
 ghost use Rattle.compose_c.specs.States as words;
 ghost use Rattle.compose_c.specs.States.{session_of, status_number};
 
-use crate::copies::put;
+use crate::copies::{put, put_numbers};
 use arrayvec::{ArrayString, ArrayVec};
 use compose_model::Status;
-use compose_state::{ComposeState, Fed};
+use compose_state::{ComposeState, Fed, FedText};
 use keysym_core::Keysym;
 
 /// A compose state. All zeros are one at rest, and any numbers are a state: where the count is above 31, or one of so many pending
@@ -34,6 +34,38 @@ fn pending_of(state: &State) -> ArrayVec<Keysym, 31>
     keysyms_of(numbers)
 }
 
+/// The pending keysyms, as numbers, at most 31. O(pending keysyms).
+#[inline(always)]
+pub fn pending_numbers(state: &State) -> &[u32]
+    ensures value { result.now ≡ (session_of state.now).pending }
+    ensures front { take (length result.now) state.now.pending ≡ result.now }
+    ensures few { length result.now ≤ 31 }
+    ensures keysyms { IsTrue (list_all is_keysym result.now) }
+{
+    let (none, _) = state.pending.split_at(0);
+    if state.count > 31 {
+        return none;
+    }
+    let (numbers, _) = state.pending.split_at(state.count as usize);
+    if are_keysyms(numbers) {
+        return numbers;
+    }
+    none
+}
+
+/// Whether all of the numbers are those of keysyms. O(numbers).
+#[inline(always)]
+fn are_keysyms(numbers: &[u32]) -> bool
+    ensures { result ≡ list_all is_keysym numbers.now }
+{
+    for number in numbers {
+        if *number > Keysym::GREATEST {
+            return false;
+        }
+    }
+    true
+}
+
 /// The keysyms of these numbers; none where one of them is no keysym.
 fn keysyms_of(numbers: &[u32]) -> ArrayVec<Keysym, 31>
     requires { length numbers.now ≤ 31 }
@@ -50,7 +82,8 @@ fn keysyms_of(numbers: &[u32]) -> ArrayVec<Keysym, 31>
 }
 
 /// The status of this number.
-fn status_of(number: u32) -> Status
+#[inline(always)]
+pub fn status_of(number: u32) -> Status
     ensures { result ≡ words.status_of number }
 {
     match number {
@@ -87,9 +120,7 @@ pub fn put_keysyms(keysyms: &[Keysym], target: &mut [u32; 31]) -> u32
     ensures front { take (length keysyms.now) target.new ≡ keysyms.now }
     ensures keysyms { IsTrue (list_all is_keysym keysyms.now) }
 {
-    for index in 0..keysyms.len() {
-        target[index] = keysyms[index].value();
-    }
+    put_numbers(keysyms, target);
     keysyms.len() as u32
 }
 
@@ -104,6 +135,21 @@ pub fn keep(state: &mut State, session: &ComposeState)
 
 /// Puts the text of the answer into the array, and gives its length. O(its bytes).
 pub fn put_text(fed: &Fed<'_>, target: &mut [u8; 255]) -> u32
+    ensures text { take result target.new ≡ text_bytes fed.now.text }
+    ensures few { result ≤ 255 }
+{
+    match fed.text {
+        FedText::Empty => 0,
+        FedText::Char(_) => put_character(fed, target),
+        FedText::Slice(text) => {
+            put(text.as_bytes(), target);
+            text.len() as u32
+        }
+    }
+}
+
+/// The same, by way of a text of its own.
+fn put_character(fed: &Fed<'_>, target: &mut [u8; 255]) -> u32
     ensures text { take result target.new ≡ text_bytes fed.now.text }
     ensures few { result ≤ 255 }
 {

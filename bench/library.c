@@ -1,0 +1,141 @@
+/* library TABLE KEYS ROUNDS: types a stream of keys, four bytes each, on one table by libcomposecheck and by libxkbcommon, in turns in one process.
+ * Prints a figure a line, a name, a tab and a number: the nanoseconds of the quickest round of each, of keys with their status and text, and of
+ * feeding alone; and at how many keys the two answer otherwise. Ends with 2 where a table can't be read.
+ *
+ *   library ours|theirs TABLE KEYS   types the keys once by the one or the other, with status and text: for counts of instructions */
+#define _GNU_SOURCE
+#include <composecheck.h>
+#include <stdint.h>
+#include <stdio.h>
+#include <stdlib.h>
+#include <string.h>
+#include <time.h>
+#include <xkbcommon/xkbcommon-compose.h>
+
+static struct composecheck_table *table;
+static struct composecheck_state state;
+static struct xkb_compose_state *their_state;
+static uint32_t *keys;
+static size_t key_count, text_bytes;
+
+static void *read_file(const char *path, size_t *length)
+{
+    FILE *file = fopen(path, "rb");
+    if (!file)
+        exit(2);
+    fseek(file, 0, SEEK_END);
+    *length = (size_t) ftell(file);
+    rewind(file);
+    void *bytes = malloc(*length + 1);
+    if (!bytes || fread(bytes, 1, *length, file) != *length)
+        exit(2);
+    fclose(file);
+    return bytes;
+}
+
+static uint64_t now(void)
+{
+    struct timespec time;
+    clock_gettime(CLOCK_MONOTONIC, &time);
+    return (uint64_t) time.tv_sec * 1000000000u + (uint64_t) time.tv_nsec;
+}
+
+static void ours(void)
+{
+    for (size_t i = 0; i < key_count; i++) {
+        uint8_t text[COMPOSECHECK_MOST_TEXT];
+        uint32_t length;
+        composecheck_table_feed(table, &state, keys[i], text, &length);
+        text_bytes += length + composecheck_status(&state);
+    }
+}
+
+static void theirs(void)
+{
+    for (size_t i = 0; i < key_count; i++) {
+        char text[256];
+        xkb_compose_state_feed(their_state, keys[i]);
+        text_bytes += (size_t) xkb_compose_state_get_status(their_state);
+        text_bytes += (size_t) xkb_compose_state_get_utf8(their_state, text, sizeof text);
+    }
+}
+
+static void our_feed(void)
+{
+    for (size_t i = 0; i < key_count; i++) {
+        uint8_t text[COMPOSECHECK_MOST_TEXT];
+        uint32_t length;
+        text_bytes += composecheck_table_feed(table, &state, keys[i], text, &length);
+    }
+}
+
+static void their_feed(void)
+{
+    for (size_t i = 0; i < key_count; i++)
+        text_bytes += (size_t) xkb_compose_state_feed(their_state, keys[i]);
+}
+
+/* At how many keys fed, status and text are not the same. */
+static size_t differences(void)
+{
+    size_t wrong = 0;
+    composecheck_reset(&state);
+    xkb_compose_state_reset(their_state);
+    for (size_t i = 0; i < key_count; i++) {
+        uint8_t text[COMPOSECHECK_MOST_TEXT];
+        char their_text[256];
+        uint32_t length, fed = composecheck_table_feed(table, &state, keys[i], text, &length);
+        bool same = fed == (uint32_t) xkb_compose_state_feed(their_state, keys[i])
+                    && composecheck_status(&state) == (uint32_t) xkb_compose_state_get_status(their_state);
+        /* (an ignored key leaves their text as it was) */
+        if (fed == COMPOSECHECK_ACCEPTED)
+            same = same && (size_t) xkb_compose_state_get_utf8(their_state, their_text, sizeof their_text) == length && !memcmp(text, their_text, length);
+        wrong += !same;
+    }
+    return wrong;
+}
+
+static void begin(const char *table_path, const char *key_path)
+{
+    size_t length;
+    char *bytes = read_file(table_path, &length);
+    struct composecheck_source source = { "root", bytes, length };
+    struct composecheck_input input = { .sources = &source, .source_count = 1, .longest = true };
+    struct composecheck_fault fault;
+    struct xkb_context *context = xkb_context_new(XKB_CONTEXT_NO_DEFAULT_INCLUDES);
+    xkb_context_set_log_level(context, XKB_LOG_LEVEL_CRITICAL);
+    table = composecheck_table_new(&input, &fault);
+    struct xkb_compose_table *their_table =
+        xkb_compose_table_new_from_buffer(context, bytes, length, "en_US.UTF-8", XKB_COMPOSE_FORMAT_TEXT_V1, XKB_COMPOSE_COMPILE_NO_FLAGS);
+    if (!table || !their_table)
+        exit(2);
+    their_state = xkb_compose_state_new(their_table, XKB_COMPOSE_STATE_NO_FLAGS);
+    keys = read_file(key_path, &length);
+    key_count = length / sizeof *keys;
+}
+
+int main(int count, char **words)
+{
+    if (count != 4)
+        return 2;
+    if (!strcmp(words[1], "ours") || !strcmp(words[1], "theirs")) {
+        begin(words[2], words[3]);
+        (words[1][0] == 'o' ? ours : theirs)();
+        return 0;
+    }
+    static void (*const parts[])(void) = { ours, theirs, our_feed, their_feed };
+    static const char *const names[] = { "ours", "theirs", "our feed", "their feed" };
+    uint64_t least[4] = { UINT64_MAX, UINT64_MAX, UINT64_MAX, UINT64_MAX };
+    begin(words[1], words[2]);
+    printf("differences\t%zu\n", differences());
+    for (int round = atoi(words[3]); round > 0; round--)
+        for (int part = 0; part < 4; part++) {
+            uint64_t start = now();
+            parts[part]();
+            uint64_t taken = now() - start;
+            least[part] = taken < least[part] ? taken : least[part];
+        }
+    for (int part = 0; part < 4; part++)
+        printf("%s\t%llu\n", names[part], (unsigned long long) least[part]);
+    return text_bytes == 0;
+}

@@ -1,0 +1,44 @@
+use Rattle.std.proofs.Common.{◌≡◌, ◌∙◌, refl, rules, Some, Option}
+use Rattle.compose_model.specs.Session.{Session}
+use Rattle.compose_tree.specs.declared.table.Target.{Target}
+use Rattle.compose_tree.specs.declared.table.Target.TheVariants.{Node, Leaf}
+use Rattle.compose_tree.specs.Targets.{target_of}
+use Rattle.compose_state.proofs.Feeding.{session_after, answered, leaf_commits}
+use Rattle.compose_state.proofs.Alone.{alone_to}
+use Rattle.compose_c.specs.States.{session_of}
+use Rattle.compose_c.proofs.feeding.follow.Goals as goal
+
+pub returns-in-Node-clause-state : goal.returns-in-Node-clause-state
+returns-in-Node-clause-state g c =
+    let table = g.T.ComposeTable.definitions c.args.table.now in
+    let s : Session = session_of c.args.state.now in
+    let t : Option Target = Some (Node c.in-Node.field-0) in
+    let leads : target_of table s.pending c.args.keysym ≡ t = search rules in
+    c.extend.ensures ∙ session_after table s c.args.keysym t c.requires.accepted leads _ _ refl refl
+
+pub returns-in-Node-clause-told : goal.returns-in-Node-clause-told
+returns-in-Node-clause-told g c =
+    let table = g.T.ComposeTable.definitions c.args.table.now in
+    let s : Session = session_of c.args.state.now in
+    let t : Option Target = Some (Node c.in-Node.field-0) in
+    let leads : target_of table s.pending c.args.keysym ≡ t = search rules in
+    alone_to table s c.args.keysym c.requires.accepted (Node c.in-Node.field-0) leads _
+    (λ names. answered table s c.args.keysym t c.requires.accepted leads s refl names _ refl refl refl (λ e. cc))
+
+pub returns-in-Leaf-clause-state : goal.returns-in-Leaf-clause-state
+returns-in-Leaf-clause-state g c =
+    let table = g.T.ComposeTable.definitions c.args.table.now in
+    let s : Session = session_of c.args.state.now in
+    let t : Option Target = Some (Leaf c.in-Leaf.leaf) in
+    let leads : target_of table s.pending c.args.keysym ≡ t = search rules in
+    c.finish.ensures ∙ session_after table s c.args.keysym t c.requires.accepted leads _ _ refl refl
+
+pub returns-in-Leaf-clause-told : goal.returns-in-Leaf-clause-told
+returns-in-Leaf-clause-told g c =
+    let table = g.T.ComposeTable.definitions c.args.table.now in
+    let s : Session = session_of c.args.state.now in
+    let t : Option Target = Some (Leaf c.in-Leaf.leaf) in
+    let leads : target_of table s.pending c.args.keysym ≡ t = search rules in
+    alone_to table s c.args.keysym c.requires.accepted (Leaf c.in-Leaf.leaf) leads _
+    (λ names. answered table s c.args.keysym t c.requires.accepted leads s refl names _ refl refl
+    (leaf_commits table s.pending c.args.keysym c.in-Leaf.leaf c.text.result.now leads c.text.ensures.value) refl)

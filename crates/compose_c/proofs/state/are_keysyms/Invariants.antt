@@ -1,0 +1,8 @@
+use Rattle.std.proofs.Common.{◌≡◌, true, take}
+use Rattle.std.specs.List.{list_all}
+use Rattle.keysym_core.specs.Keysym.{is_keysym}
+use Rattle.compose_c.proofs.state.are_keysyms.Given as goal
+
+-- the numbers so far are keysyms
+abbrev pub invariant-loop-number : goal.invariant-loop-number
+invariant-loop-number l = list_all is_keysym (take l.number-index l.numbers) ≡ true

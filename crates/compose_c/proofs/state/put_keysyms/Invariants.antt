@@ -1,8 +1,0 @@
-use Rattle.std.proofs.Common.{◌≡◌, true, take}
-use Rattle.std.specs.List.{list_all}
-use Rattle.keysym_core.specs.Keysym.{is_keysym}
-use Rattle.compose_c.proofs.state.put_keysyms.Given as goal
-
--- the numbers so far are those of the keysyms
-abbrev pub invariant-loop-index : goal.invariant-loop-index
-invariant-loop-index l = (take l.index l.target ≡ take l.index l.keysyms) × (list_all is_keysym (take l.index l.keysyms) ≡ true)

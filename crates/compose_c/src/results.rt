@@ -1,0 +1,144 @@
+//! Result keysyms: read with a table, and found by the keys that complete a sequence.
+ghost use Rattle.std.specs.Prelude.{◌≡◌, ◌≢◌, ◌≤◌, ◌<◌, true, false, length, take, slice_get, unwrap_or, MatchResult};
+ghost use Rattle.compose_model.specs.Nodes as words;
+ghost use Rattle.compose_model.specs.Nodes.{nodes};
+ghost use Rattle.compose_tree.specs.Packed.{IsPacked, unpacked};
+ghost use Rattle.compose_tree.specs.Targets.{target_of};
+ghost use Rattle.compose_c.specs.Compiled.{IsReadWithResults, Fits, rule_of};
+ghost use Rattle.compose_c.specs.Faults.{IsRefused, Tells};
+ghost use Rattle.compose_c.specs.Results.{result_at};
+
+use crate::compile::{Sizes, put_table, rule};
+use crate::copies::put_numbers;
+use crate::fault::{Fault, Refusal, column_of, fault_of};
+use crate::following::node_of;
+use compose_bundle::read_bundle;
+use compose_results::{ResultTable, read_first_results};
+use compose_tree::{ComposeTable, NodeId, PackedEdge, PackedNode, PackedTable, Target};
+use keysym_core::{Keysym, Names};
+use std::alloc::Global;
+
+/// The table of the bundle's first source, and its result keysyms.
+fn read(
+    alloc: Global,
+    header: &[u8],
+    bundle: &[u8],
+    longest: bool,
+) -> Result<ResultTable<PackedTable>, Refusal>
+    ensures { MatchResult result
+        (λ read. IsReadWithResults header.now bundle.now (rule_of longest) read.table
+        read.results.items)
+        (λ refusal. IsRefused header.now bundle.now (rule_of longest) refusal) }
+{
+    let names = Names::read(alloc, header)?;
+    let bundle = read_bundle(alloc, bundle)?;
+    match read_first_results(alloc, &names, &bundle.sources, rule(longest)) {
+        Ok(table) => Ok(table),
+        Err(fault) => {
+            let column = column_of(&bundle.sources, &fault);
+            Err(Refusal::Table(fault, column))
+        }
+    }
+}
+
+/// As `composecheck_compile_with_results`.
+pub fn compile_with_results(
+    alloc: Global,
+    header: &[u8],
+    bundle: &[u8],
+    longest: bool,
+    nodes: &mut [PackedNode],
+    edges: &mut [PackedEdge],
+    offsets: &mut [u32],
+    texts: &mut [u8],
+    hints: &mut [u8],
+    results: &mut [u32],
+    sizes: &mut Sizes,
+    result_count: &mut usize,
+    fault: &mut Fault,
+) -> u32
+    ensures read { result ≡ 0 → IsReadWithResults header.now bundle.now (rule_of longest)
+        (unpacked (take sizes.new.nodes nodes.new) (take sizes.new.edges edges.new)
+        (take sizes.new.offsets offsets.new) (take sizes.new.texts texts.new))
+        (take result_count.new results.new) }
+    ensures packed { result ≡ 0 → IsPacked (take sizes.new.nodes nodes.new)
+        (take sizes.new.edges edges.new) (take sizes.new.offsets offsets.new)
+        (take sizes.new.texts texts.new)
+        (unpacked (take sizes.new.nodes nodes.new) (take sizes.new.edges edges.new)
+        (take sizes.new.offsets offsets.new) (take sizes.new.texts texts.new)) }
+    ensures refused { result ≡ 1 → Tells header.now bundle.now (rule_of longest) fault.new }
+    ensures wide { result ≡ 2 → Fits sizes.new (length nodes.old) (length edges.old)
+        (length offsets.old) (length texts.old) (length hints.old)
+        → result_count.new ≤ length results.old → ⊥ }
+    ensures few { result ≤ 2 }
+    ensures same_fault { result ≢ 1 → fault.new ≡ fault.old }
+{
+    match read(alloc, header, bundle, longest) {
+        Ok(read) => {
+            let placed = put_results(&read.results, results, result_count);
+            if !put_table(&read.table, nodes, edges, offsets, texts, hints, sizes) {
+                return 2;
+            }
+            if placed { 0 } else { 2 }
+        }
+        Err(refusal) => {
+            *fault = fault_of(&refusal);
+            1
+        }
+    }
+}
+
+/// Puts the result keysyms into the caller's array, and says how many they are; or says that they
+/// don't fit.
+fn put_results(found: &[Keysym], results: &mut [u32], count: &mut usize) -> bool
+    ensures same { result ≡ true → take count.new results.new ≡ found.now }
+    ensures wide { result ≡ false → count.new ≤ length results.old → ⊥ }
+{
+    *count = found.len();
+    if found.len() > results.len() {
+        return false;
+    }
+    put_numbers(found, results);
+    true
+}
+
+/// Of these result keysyms, one for each leaf, that of the leaf to which the keysym leads behind the
+/// pending ones; 0 where it leads to none. O(pending keysyms × log edges of a node).
+pub fn result_of<T: ComposeTable>(
+    table: &T,
+    pending: &[Keysym],
+    keysym: Keysym,
+    results: &[u32],
+) -> u32
+    ensures { result
+        ≡ result_at results.now (target_of (T.definitions table.now) pending.now keysym) }
+{
+    match node_of(table, pending) {
+        Some(node) => return result_behind(table, node, keysym, results),
+        None => return 0,
+    }
+}
+
+/// The same behind a node.
+fn result_behind<T: ComposeTable>(table: &T, node: NodeId, keysym: Keysym, results: &[u32]) -> u32
+    requires { node.0 < length (nodes (T.definitions table.now)) }
+    ensures { result
+        ≡ result_at results.now
+        (target_of (T.definitions table.now)
+        (words.node (T.definitions table.now) node.0) keysym) }
+{
+    match table.step(node, keysym) {
+        Some(Target::Leaf(leaf)) => entry(results, leaf.0 as usize),
+        Some(Target::Node(_)) | None => 0,
+    }
+}
+
+/// The number at this index, or 0 behind the last one.
+fn entry(numbers: &[u32], index: usize) -> u32
+    ensures { result ≡ unwrap_or (slice_get numbers.now index) 0 }
+{
+    match numbers.get(index) {
+        Some(number) => *number,
+        None => 0,
+    }
+}
