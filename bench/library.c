@@ -1,6 +1,6 @@
 /* library TABLE KEYS ROUNDS: types a stream of keys, four bytes each, on one table by libcomposecheck and by libxkbcommon, in turns in one process.
- * Prints a figure a line, a name, a tab and a number: the nanoseconds of the quickest round of each, of keys with their status and text, and of
- * feeding alone; and at how many keys the two answer otherwise. Ends with 2 where a table can't be read.
+ * Prints a figure a line, a name, a tab and a number: the nanoseconds of the quickest round of each, of keys with their status and text, of feeding
+ * alone, and of reading the table; and at how many keys the two answer otherwise. Ends with 2 where a table can't be read.
  *
  *   library ours|theirs TABLE KEYS   types the keys once by the one or the other, with status and text: for counts of instructions */
 #define _GNU_SOURCE
@@ -14,23 +14,26 @@
 
 static struct composecheck_table *table;
 static struct composecheck_state state;
+static struct xkb_context *context;
 static struct xkb_compose_state *their_state;
+static char *bytes;
+static size_t length;
 static uint32_t *keys;
 static size_t key_count, text_bytes;
 
-static void *read_file(const char *path, size_t *length)
+static void *read_file(const char *path, size_t *size)
 {
     FILE *file = fopen(path, "rb");
     if (!file)
         exit(2);
     fseek(file, 0, SEEK_END);
-    *length = (size_t) ftell(file);
+    *size = (size_t) ftell(file);
     rewind(file);
-    void *bytes = malloc(*length + 1);
-    if (!bytes || fread(bytes, 1, *length, file) != *length)
+    void *held = malloc(*size + 1);
+    if (!held || fread(held, 1, *size, file) != *size)
         exit(2);
     fclose(file);
-    return bytes;
+    return held;
 }
 
 static uint64_t now(void)
@@ -44,9 +47,9 @@ static void ours(void)
 {
     for (size_t i = 0; i < key_count; i++) {
         uint8_t text[COMPOSECHECK_MOST_TEXT];
-        uint32_t length;
-        composecheck_table_feed(table, &state, keys[i], text, &length);
-        text_bytes += length + composecheck_status(&state);
+        uint32_t count;
+        composecheck_table_feed(table, &state, keys[i], text, &count);
+        text_bytes += count + composecheck_status(&state);
     }
 }
 
@@ -64,8 +67,8 @@ static void our_feed(void)
 {
     for (size_t i = 0; i < key_count; i++) {
         uint8_t text[COMPOSECHECK_MOST_TEXT];
-        uint32_t length;
-        text_bytes += composecheck_table_feed(table, &state, keys[i], text, &length);
+        uint32_t count;
+        text_bytes += composecheck_table_feed(table, &state, keys[i], text, &count);
     }
 }
 
@@ -84,34 +87,56 @@ static size_t differences(void)
     for (size_t i = 0; i < key_count; i++) {
         uint8_t text[COMPOSECHECK_MOST_TEXT];
         char their_text[256];
-        uint32_t length, fed = composecheck_table_feed(table, &state, keys[i], text, &length);
+        uint32_t count, fed = composecheck_table_feed(table, &state, keys[i], text, &count);
         bool same = fed == (uint32_t) xkb_compose_state_feed(their_state, keys[i])
                     && composecheck_status(&state) == (uint32_t) xkb_compose_state_get_status(their_state);
         /* (an ignored key leaves their text as it was) */
         if (fed == COMPOSECHECK_ACCEPTED)
-            same = same && (size_t) xkb_compose_state_get_utf8(their_state, their_text, sizeof their_text) == length && !memcmp(text, their_text, length);
+            same = same && (size_t) xkb_compose_state_get_utf8(their_state, their_text, sizeof their_text) == count && !memcmp(text, their_text, count);
         wrong += !same;
     }
     return wrong;
 }
 
-static void begin(const char *table_path, const char *key_path)
+static struct composecheck_table *our_table(void)
 {
-    size_t length;
-    char *bytes = read_file(table_path, &length);
     struct composecheck_source source = { "root", bytes, length };
     struct composecheck_input input = { .sources = &source, .source_count = 1, .longest = true };
     struct composecheck_fault fault;
-    struct xkb_context *context = xkb_context_new(XKB_CONTEXT_NO_DEFAULT_INCLUDES);
-    xkb_context_set_log_level(context, XKB_LOG_LEVEL_CRITICAL);
-    table = composecheck_table_new(&input, &fault);
-    struct xkb_compose_table *their_table =
-        xkb_compose_table_new_from_buffer(context, bytes, length, "en_US.UTF-8", XKB_COMPOSE_FORMAT_TEXT_V1, XKB_COMPOSE_COMPILE_NO_FLAGS);
-    if (!table || !their_table)
+    struct composecheck_table *read = composecheck_table_new(&input, &fault);
+    if (!read)
         exit(2);
-    their_state = xkb_compose_state_new(their_table, XKB_COMPOSE_STATE_NO_FLAGS);
-    keys = read_file(key_path, &length);
-    key_count = length / sizeof *keys;
+    return read;
+}
+
+static struct xkb_compose_table *their_table(void)
+{
+    struct xkb_compose_table *read =
+        xkb_compose_table_new_from_buffer(context, bytes, length, "en_US.UTF-8", XKB_COMPOSE_FORMAT_TEXT_V1, XKB_COMPOSE_COMPILE_NO_FLAGS);
+    if (!read)
+        exit(2);
+    return read;
+}
+
+static void our_reading(void)
+{
+    composecheck_table_free(our_table());
+}
+
+static void their_reading(void)
+{
+    xkb_compose_table_unref(their_table());
+}
+
+static void begin(const char *table_path, const char *key_path)
+{
+    bytes = read_file(table_path, &length);
+    context = xkb_context_new(XKB_CONTEXT_NO_DEFAULT_INCLUDES);
+    xkb_context_set_log_level(context, XKB_LOG_LEVEL_CRITICAL);
+    table = our_table();
+    their_state = xkb_compose_state_new(their_table(), XKB_COMPOSE_STATE_NO_FLAGS);
+    keys = read_file(key_path, &key_count);
+    key_count /= sizeof *keys;
 }
 
 int main(int count, char **words)
@@ -123,19 +148,21 @@ int main(int count, char **words)
         (words[1][0] == 'o' ? ours : theirs)();
         return 0;
     }
-    static void (*const parts[])(void) = { ours, theirs, our_feed, their_feed };
-    static const char *const names[] = { "ours", "theirs", "our feed", "their feed" };
-    uint64_t least[4] = { UINT64_MAX, UINT64_MAX, UINT64_MAX, UINT64_MAX };
+    static void (*const parts[])(void) = { ours, theirs, our_feed, their_feed, our_reading, their_reading };
+    static const char *const names[] = { "ours", "theirs", "our feed", "their feed", "our table", "their table" };
+    enum { PARTS = sizeof parts / sizeof *parts };
+    uint64_t least[PARTS];
+    memset(least, 0xff, sizeof least);
     begin(words[1], words[2]);
     printf("differences\t%zu\n", differences());
     for (int round = atoi(words[3]); round > 0; round--)
-        for (int part = 0; part < 4; part++) {
+        for (int part = 0; part < PARTS; part++) {
             uint64_t start = now();
             parts[part]();
             uint64_t taken = now() - start;
             least[part] = taken < least[part] ? taken : least[part];
         }
-    for (int part = 0; part < 4; part++)
+    for (int part = 0; part < PARTS; part++)
         printf("%s\t%llu\n", names[part], (unsigned long long) least[part]);
     return text_bytes == 0;
 }

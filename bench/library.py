@@ -44,6 +44,8 @@ def main():
     print(f"{figures['differences']} of {KEYS} keys are answered otherwise")
     for name in ("ours", "theirs", "our feed", "their feed"):
         print(f"{name}: {figures[name] / KEYS:.1f} ns a key")
+    for name in ("our table", "their table"):
+        print(f"{name}: {figures[name] / 1e6:.2f} ms")
     for whose, number in zip(("ours", "theirs"), counted):
         print(f"{whose}: {number and round(number)} instructions a key")
     aims.add("a key, its status and text, from C", "time", 0.70, ratio(figures["ours"], figures["theirs"]))
