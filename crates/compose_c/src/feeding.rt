@@ -1,6 +1,6 @@
 //! One key fed to a state where it lies in C's memory: as `ComposeState::feed_alone` does, without a
 //! copy of the state.
-ghost use Rattle.std.specs.Prelude.{◌≡◌, ◌≤◌, ◌<◌, true, length, take, [], ◌∷◌, ◌++◌, Some, option_map, IsTrue, IsFalse, if◌then◌else◌};
+ghost use Rattle.std.specs.Prelude.{◌≡◌, ◌≤◌, ◌<◌, true, length, take, get_or, [], ◌∷◌, ◌++◌, Some, option_map, IsTrue, IsFalse, if◌then◌else◌};
 ghost use Rattle.std.specs.List.{list_all};
 ghost use Rattle.keysym_core.specs.Keysym.{is_keysym, is_ignored};
 ghost use Rattle.compose_model.specs.Nodes as words;
@@ -42,6 +42,19 @@ fn child_at<T: ComposeTable>(table: &T, node: NodeId, keysym: Keysym, hint: u32)
     child(table, node, keysym)
 }
 
+/// The keysym at this index. O(1).
+#[inline(always)]
+fn keysym_at(numbers: &[u32], index: usize) -> Keysym
+    requires in_range { index < length numbers.now }
+    requires keysyms { IsTrue (list_all is_keysym numbers.now) }
+    ensures { result ≡ get_or numbers.now index 0 }
+{
+    match Keysym::new(numbers[index]) {
+        Some(keysym) => keysym,
+        None => Keysym::default(),
+    }
+}
+
 /// The node of the keysyms with these numbers, if they are a node of the table.
 #[inline(always)]
 fn node_of<T: ComposeTable>(table: &T, numbers: &[u32], hints: &[u32; 31]) -> Option<NodeId>
@@ -51,9 +64,7 @@ fn node_of<T: ComposeTable>(table: &T, numbers: &[u32], hints: &[u32; 31]) -> Op
 {
     let mut node = NodeId::ROOT;
     for index in 0..numbers.len() {
-        let Some(keysym) = Keysym::new(numbers[index]) else {
-            return None;
-        };
+        let keysym = keysym_at(numbers, index);
         node = child_at(table, node, keysym, hints[index])?;
     }
     Some(node)
