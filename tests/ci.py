@@ -53,6 +53,7 @@ BOTH_ACCEPTED = INTENDED + """
 """
 NEW_ONE = "\nsv_SE.UTF-8 is new.\n"
 READS_OUTSIDE = "\n**fi_FI.UTF-8 reads files outside of its tree:**\n\n    note: ROOM/elsewhere/Compose lies outside of new\n"
+LOSES = "\n**Other readers lose lines of fi_FI.UTF-8:**\n\n    note: libX11 or libxkbcommon loses lines of new/fi_FI.UTF-8/Compose or of its includes, 1 in all: `composecheck lint` tells which\n"
 ONE, TWO, THREE, NONE = "\n1 locale was compared.\n", "\n2 locales were compared.\n", "\n3 locales were compared.\n", "\n0 locales were compared.\n"
 # The locales that include the English table, and one that doesn't.
 MANY = {"en_US.UTF-8": ENGLISH, **{f"{it}.UTF-8": INCLUDING for it in ("fi_FI", "pt_PT", "ru_RU", "th_TH")}, "el_GR.UTF-8": '<Multi_key> <c> : "c"\n'}
@@ -105,6 +106,7 @@ REPORTS = [
     Report("a change is intended in all locales", NEW, {"all": f"# dropped\n\n{DROPPED}"}, HEADING + BOTH_ACCEPTED + THREE, 0),
     Report("one list is empty", NEW, {"all": DROPPED, "en_US.UTF-8": "# none\n"}, HEADING + BOTH_ACCEPTED + THREE, 0),
     Report("a table reads a file outside of its tree", OUTSIDE, {}, HEADING + READS_OUTSIDE + UNCHANGED + THREE, 2),
+    Report("the last line of a table has no newline", {**OLD, "fi_FI.UTF-8": OLD["fi_FI.UTF-8"].rstrip("\n")}, {}, HEADING + LOSES + UNCHANGED + THREE, 0),
     Report("one table is missing, and the next one changes", {it: text for it, text in NEW.items() if it != "cs_CZ.UTF-8"}, {}, HEADING + missing("cs_CZ.UTF-8") + CHANGED + TWO, 2),
     Report("a single locale is compared", {"en_US.UTF-8": ENGLISH}, {}, HEADING + missing("cs_CZ.UTF-8", "fi_FI.UTF-8") + ONE, 2),
     Report("no locale is in both trees", {"sv_SE.UTF-8": ENGLISH}, {}, HEADING + NEW_ONE + missing("cs_CZ.UTF-8", "en_US.UTF-8", "fi_FI.UTF-8") + NONE, 2),

@@ -56,8 +56,11 @@ def words_by_itself(line):
         yield "keysym"
     if any(one == two and unicodedata.combining(one) for one, two in zip(line.text, line.text[1:])):
         yield "mark"
-    if unicodedata.normalize("NFC", line.text) != line.text:
-        yield "form"
+
+
+def normal(text):
+    """The text in normal form C."""
+    return unicodedata.normalize("NFC", text)
 
 
 def found(path, locales, values, characters):
@@ -66,7 +69,9 @@ def found(path, locales, values, characters):
     last = {(it.path, it.keysyms): it for it in lines}
     shorter = {it.keysyms[:count] for it in lines for count in range(len(it.keysyms))}
     texts, comments = defaultdict(Counter), defaultdict(Counter)
+    alike = defaultdict(set)
     for it in lines:
+        alike[normal(it.text)].add(it.text)
         if it.comment is not None:
             texts[it.comment][it.text] += 1
             comments[it.text][it.comment] += 1
@@ -74,6 +79,7 @@ def found(path, locales, values, characters):
         counts = last[it.path, it.keysyms]
         words = [] if counts is it else ["repeated" if counts.text == it.text else "overridden"]
         words += words_by_itself(it)
+        words += ["form"] if normal(it.text) != it.text or len(alike[normal(it.text)]) > 1 else []
         words += ["prefix"] if it.keysyms in shorter else []
         if it.comment is not None and leading(texts[it.comment]) not in (None, it.text) and leading(comments[it.text]) not in (None, it.comment):
             words.append("comment")

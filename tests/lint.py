@@ -27,6 +27,7 @@ CHARACTERS = {"x": "x", "y": "y", "eacute": "\u00e9"}
 COMMENTS = [None, "EX", "WHY", "E WITH ACUTE"]
 INCLUDES = {"own": ["other", "third"], "other": ["third"], "third": []}
 LONGER = "defines a longer sequence that begins with this one, and the longer one is typed"
+ALIKE = "gives another text that looks like this one, and is not in normal form C"
 MISPLACED = "comment: the comment stands most often beside another text, and the text beside another comment"
 STALE = "no finding in these tables is named by the line"
 BAD = 'expected the word of a kind, ": " and a line of a Compose file'
@@ -97,12 +98,25 @@ def found_in_file(lines, number, line):
         yield "keysym: the keysym after the string has another character"
     if any(one == two and unicodedata.combining(one) for one, two in zip(line.text, line.text[1:])):
         yield "mark: the text has one combining mark twice in a row"
-    if unicodedata.normalize("NFC", line.text) != line.text:
+
+
+def normal(text):
+    """The text in normal form C."""
+    return unicodedata.normalize("NFC", text)
+
+
+def form_found(files, line):
+    """What is found of the form of a line's text."""
+    alike = [(at, number) for at, number, it in placed(files) if it.keysyms and it.text != line.text and normal(it.text) == normal(line.text)]
+    if normal(line.text) != line.text:
         yield "form: the text is not in normal form C"
+    elif alike:
+        yield "form: %s:%d %s" % (*alike[0], ALIKE)
 
 
 def found_in_all(files, name, line):
     """What is found in a line by the lines of all files."""
+    yield from form_found(files, line)
     longer = [(at, number) for at, number, it in placed(files) if it.keysyms and len(it.keysyms) > len(line.keysyms) and it.keysyms[: len(line.keysyms)] == line.keysyms]
     if longer:
         yield "prefix: %s:%d %s" % (*longer[-1], LONGER)
@@ -146,7 +160,7 @@ def as_object(one):
     words, other = message.split(" "), None
     if kind in ("overridden", "repeated"):
         other = {"file": name, "line": int(words[1])}
-    elif kind in ("prefix", "redundant"):
+    elif kind in ("prefix", "redundant") or kind == "form" and message.endswith(ALIKE):
         path, at = words[0].split(":")
         other = {"file": path, "line": int(at)}
     return {"file": name, "line": number, "column": 1, "kind": kind, "message": message, "other": other, "reader": None}

@@ -41,15 +41,17 @@ def key(session, keysym):
 class Serving:
     """A running service in a folder of its own. What it prints is read as it comes, or by whoever gives a file for it."""
 
-    def __init__(self, program, table=OLD, certificate=ITSELF, connections=1, options=(), repertoire=b"", rule="", output=subprocess.PIPE):
+    def __init__(self, program, table=OLD, certificate=ITSELF, connections=1, options=(), repertoire=b"", rule="", output=subprocess.PIPE, given="table.manifest", more=()):
         self.room = tempfile.TemporaryDirectory(prefix="service-")
         self.folder = self.room.name
         self.path = os.path.join(self.folder, "socket")
         listing = f"{rule}root\ttable.compose\n".encode()
-        for name, content in {"table.compose": table, "table.manifest": listing, "repertoire": repertoire, "certificate": certificate}.items():
-            with open(os.path.join(self.folder, name), "wb") as file:
+        for name, content in {"table.compose": table, "table.manifest": listing, "repertoire": repertoire, "certificate": certificate, **dict(more)}.items():
+            path = os.path.join(self.folder, name)
+            os.makedirs(os.path.dirname(path), exist_ok=True)
+            with open(path, "wb") as file:
                 file.write(content)
-        words = [program, "serve", *options, "table.manifest", "repertoire", "certificate", "socket", str(connections)]
+        words = [program, "serve", *options, given, "repertoire", "certificate", "socket", str(connections)]
         self.process = subprocess.Popen(words, cwd=self.folder, stdin=subprocess.DEVNULL, stdout=output, stderr=subprocess.PIPE, text=True)
         self.printed = [self.process.stdout.readline()] if output == subprocess.PIPE else []
         # (so that a service which prints many lines need not wait)
@@ -488,10 +490,39 @@ def check_names_and_rules(program, results):
             results.expect(f"load by the rule of a manifest: {name}", ran(program, service, "load", "socket", f"{name}.manifest", f"{name}.certificate"), wanted)
 
 
+def check_compose_files(program, results):
+    """With `-f` a Compose file is served and loaded with what it includes, by the built-in names, and the longer of overlapping sequences
+    counts; what is noted of it is printed; and a key of a session may be written as its character."""
+    more = {
+        "old/en/Compose": 'include "outside"\n<dead_hook> <eacute> : "x"\n<dead_hook> : "y"\n'.encode(),
+        "new/en/Compose": 'include "part"\ninclude "outside"\n<dead_hook> : "y"\n'.encode(),
+        "new/en/part": b'<dead_hook> <eacute> : "x"\n',
+        "outside": b'<dead_hook> <slash> : "z"\n',
+    }
+    with Serving(program, certificate=NEW_ITSELF, options=("-f",), connections=3, given="old/en/Compose", more=more) as service:
+        is_listening = service.printed[0] == "listening\n"
+        results.expect("serve -f takes a Compose file", is_listening, True)
+        if is_listening:
+            rows = [
+                ("session -f takes characters", ("session", "-f", "--open", "socket", "7", "dead_hook", "é", "dead_hook"), ('composing ""\ncomposed "x"\ncomposing ""\n', "", 0)),
+                ("load -f takes a Compose file", ("load", "-f", "socket", "new/en/Compose", "certificate"), ("loaded 1\n", "note: outside lies outside of new\n", 0)),
+                ("session -f after the load", ("session", "-f", "--ask", "socket", "7", "/", "dead_hook"), ('composed "z"\ncomposing ""\nstate composing dead_hook\n', "", 0)),
+                ("session without -f takes names alone", ("session", "socket", "7", "é"), ("", "refused: key: é\n", 2)),
+            ]
+            for what, words, wanted in rows:
+                results.expect(what, ran(program, service, *words), wanted)
+            wanted = "listening\n" + "".join(f"connection {it}: ended\n" for it in range(1, 4)), "note: outside lies outside of old\n", 0
+            results.expect("serve -f notes what lies outside of the tree", service.ended(), wanted)
+    with Serving(program, certificate=NEW_ITSELF, options=("-f", "--overlap", "refuse"), given="old/en/Compose", more=more) as service:
+        printed, complained, status = service.ended()
+        results.expect("serve -f --overlap refuse", (printed, complained.splitlines()[:2], status),
+                       ("", ["note: outside lies outside of old", "composecheck: old/en/Compose:3:1: the sequence <dead_hook> is a prefix of the sequence <dead_hook> <slash>"], 2))
+
+
 def main():
     program, results = os.path.abspath(sys.argv[1]), Results()
     for check in (check_worked, check_cuts, check_greatest_load, check_overlaps, check_allowed_fresh, check_start, check_clients, check_socket_file, check_modes, check_signal, check_handed_over, check_late_replies,
-                  check_client_commands, check_sessions, check_names_and_rules):
+                  check_client_commands, check_sessions, check_names_and_rules, check_compose_files):
         check(program, results)
     print(f"{results.passed} passed, {results.failed} failed")
     return 1 if results.failed else 0

@@ -23,19 +23,19 @@ _composecheck() {
         --mode) COMPREPLY=($(compgen -W "600 660 666" -- "$word")); return ;;
     esac
     case ${COMP_WORDS[1]} in
-        type) options="--files --names --overlap --system --locale --root --verbose --help" ;;
+        type) options="--files --names --skip-faulty --overlap --system --locale --root --verbose --help" ;;
         check) options="--files --names --fresh --overlap --system --locale --root --verbose --help" ;;
         explain) options="--files --names --fresh --all --overlap --system --locale --root --verbose --help" ;;
         make) options="--files --names --fresh --all --output --overlap --system --locale --root --verbose --help" ;;
-        diff) options="--verbose --names --fresh --overlap --accept --write-accept --no-fold --lost --format --color --system --locale --root --help" ;;
-        how) options="--names --from --repertoire --first --format --overlap --system --locale --root --help" ;;
-        list) options="--names --prefix --text --next --sort --format --overlap --system --locale --root --help" ;;
-        lint) options="--names --reader --all --accept --write-accept --format --system --locale --root --verbose --help" ;;
+        diff) options="--verbose --names --fresh --overlap --accept --write-accept --no-fold --lost --format --color --skip-faulty --system --locale --root --help" ;;
+        how) options="--names --from --repertoire --first --format --skip-faulty --overlap --system --locale --root --help" ;;
+        list) options="--names --prefix --text --next --sort --format --skip-faulty --overlap --system --locale --root --help" ;;
+        lint) options="--names --reader --all --accept --write-accept --format --skip-faulty --system --locale --root --verbose --help" ;;
         update) options="--fresh --repertoire --accept --state --socket --system --locale --verbose --help" ;;
         manifest) options="--system --locale --root --verbose --help" ;;
-        serve) options="--names --fresh --state --at-once --unsent --idle --mode --replace --unlink --verbose --help" ;;
-        load) options="--verbose --help" ;;
-        session) options="--names --open --reset --ask --close --verbose --help" ;;
+        serve) options="--files --names --fresh --state --at-once --unsent --idle --mode --replace --unlink --overlap --system --locale --root --verbose --help" ;;
+        load) options="--files --overlap --system --locale --root --verbose --help" ;;
+        session) options="--files --names --open --reset --ask --close --verbose --help" ;;
     esac
     case $word in
         -*) COMPREPLY=($(compgen -W "$options" -- "$word")) ;;

@@ -216,12 +216,17 @@ shorten() {
 
 # Prints what is wrong with a locale, in the words of a file.
 report_fault() {
+    report_notes "$1" "$2"
+    worst=2
+}
+
+# Prints the lines of a file below these words.
+report_notes() {
     case $form in
     html) print_words "<strong>$1:</strong>" ;;
     *) print_words "**$1:**" ;;
     esac
     print_block < "$2"
-    worst=2
 }
 
 # Runs `diff` on the tables of a locale.
@@ -295,6 +300,9 @@ compare() {
     fi
     if grep '^note: .* lies outside of ' "$room/errors" > "$room/notes"; then
         report_fault "$locale reads files outside of its tree" "$room/notes"
+    fi
+    if grep '^note: libX11 or libxkbcommon loses ' "$room/errors" > "$room/notes"; then
+        report_notes "Other readers lose lines of $locale" "$room/notes"
     fi
 }
 

@@ -1,4 +1,5 @@
 //! What `load` and `session` ask for.
+use crate::given_tables::{TypeTable, table_named};
 use clap::ArgMatches;
 use std::alloc::{AllocError, Global};
 
@@ -7,8 +8,8 @@ use std::alloc::{AllocError, Global};
 pub struct LoadArguments<'a> {
     /// The path of the service's socket.
     pub socket: &'a str,
-    /// The path of the new table's manifest.
-    pub new: &'a str,
+    /// The new table.
+    pub new: TypeTable<'a>,
     /// The path of the certificate.
     pub certificate: &'a str,
 }
@@ -18,13 +19,15 @@ pub struct LoadArguments<'a> {
 pub struct SessionArguments<'a> {
     /// The path of the service's socket.
     pub socket: &'a str,
+    /// Whether a key may be written as its character, and names are the built-in ones unless others are given.
+    pub files: bool,
     /// The number of the session.
     pub session: u32,
     /// Whether the session is opened first.
     pub open: bool,
     /// Whether it is put to rest before the keys.
     pub reset: bool,
-    /// The names of the keysyms.
+    /// The names of the keysyms, or their characters.
     pub keys: Vec<&'a str>,
     /// Whether it is asked where the session stands, after the keys.
     pub ask: bool,
@@ -36,7 +39,7 @@ pub struct SessionArguments<'a> {
 pub fn load_arguments<'a>(given: &ArgMatches<'a>) -> Option<LoadArguments<'a>> {
     Some(LoadArguments {
         socket: given.get_str("SOCKET")?,
-        new: given.get_str("NEW")?,
+        new: table_named(given, "NEW")?,
         certificate: given.get_str("CERTIFICATE")?,
     })
 }
@@ -56,6 +59,7 @@ pub fn session_arguments<'a>(
     };
     Ok(Some(SessionArguments {
         socket,
+        files: given.get_flag("files"),
         session,
         open: given.get_flag("open"),
         reset: given.get_flag("reset"),

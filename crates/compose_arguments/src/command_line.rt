@@ -138,6 +138,7 @@ fn argument_of<'a>(alloc: Global, row: &ArgumentRow) -> Result<Arg<'a>, AllocErr
             Ok(argument.value_parser(number_in(range)))
         }
         Given::Some => Ok(argument.required(true).num_args(1..)),
+        Given::SomeUnless(option) => argument.num_args(1..).required_unless_present(option),
         Given::Any => Ok(argument.num_args(0..)),
     }
 }

@@ -111,6 +111,14 @@ const ROOTS: OptionRow = OptionRow {
     help: "Look for an include's absolute path below DIR first, as in an unpacked package; given twice, the first is OLD's and the last NEW's",
 };
 
+/// Faulty lines are left out.
+const SKIP_FAULTY: OptionRow = OptionRow {
+    name: "skip-faulty",
+    letter: None,
+    takes: Takes::Nothing,
+    help: "Leave faulty lines out, as libxkbcommon does, and report each; the last line says how many",
+};
+
 /// Compose files in the place of manifests.
 const FILES: OptionRow = OptionRow {
     name: "files",
@@ -140,20 +148,6 @@ const NEW: ArgumentRow = ArgumentRow {
     help: "The manifest of the new table, or with --files its Compose file",
 };
 
-/// The manifest of a table that is used.
-const TABLE_MANIFEST: ArgumentRow = ArgumentRow {
-    name: "TABLE",
-    given: Given::Text,
-    help: "The manifest of the table",
-};
-
-/// The manifest of a new table.
-const NEW_MANIFEST: ArgumentRow = ArgumentRow {
-    name: "NEW",
-    given: Given::Text,
-    help: "The manifest of the new table",
-};
-
 /// The characters and keys.
 const REPERTOIRE: ArgumentRow = ArgumentRow {
     name: "REPERTOIRE",
@@ -179,15 +173,15 @@ const SOCKET: ArgumentRow = ArgumentRow {
 static TYPE: CommandRow = CommandRow {
     name: "type",
     about: "Type keys with a table, and print what happens at each",
-    after_help: "With --files, names are those of keysymdef.h, unless --names gives others, and a key may be written as its character.\nExit status: 0 typed, 2 input refused, 3 out of memory\nExample: composecheck type -f ~/.XCompose Multi_key \"'\" e",
+    after_help: "With --files, names are those of keysymdef.h, unless --names gives others, and a key may be written as its character; without a KEY each line of standard input is a list of keys, and an empty line follows what is printed of each.\nExit status: 0 typed, 2 input refused, 3 out of memory\nExample: composecheck type -f ~/.XCompose Multi_key \"'\" e",
     options: &[VERBOSE, NAMES, FILES],
-    options_of_files: &[OVERLAP, SYSTEM, LOCALE, ROOT],
+    options_of_files: &[SKIP_FAULTY, OVERLAP, SYSTEM, LOCALE, ROOT],
     arguments: &[
         TABLE,
         ArgumentRow {
             name: "KEY",
-            given: Given::Some,
-            help: "The names of the keysyms",
+            given: Given::SomeUnless("files"),
+            help: "The names of the keysyms; without one, with --files, each line of standard input has a list of them",
         },
     ],
 };
@@ -265,6 +259,7 @@ static DIFF: CommandRow = CommandRow {
             },
             help: "Colour the lines: on a terminal unless NO_COLOR is set (auto), always, or never",
         },
+        SKIP_FAULTY,
         SYSTEM,
         LOCALE,
         ROOTS,
@@ -334,6 +329,7 @@ static HOW: CommandRow = CommandRow {
             help: "Print the first sequence of each text alone",
         },
         LIST_FORMAT,
+        SKIP_FAULTY,
         OVERLAP,
         SYSTEM,
         LOCALE,
@@ -383,6 +379,7 @@ static LIST: CommandRow = CommandRow {
             help: "The order: by the keysyms of the keys, by text, or by file and line",
         },
         LIST_FORMAT,
+        SKIP_FAULTY,
         OVERLAP,
         SYSTEM,
         LOCALE,
@@ -465,6 +462,7 @@ static LINT: CommandRow = CommandRow {
             },
             help: "Lines for people, or json: an object for each finding",
         },
+        SKIP_FAULTY,
     ],
     options_of_files: &[],
     arguments: &[ArgumentRow {
@@ -562,10 +560,16 @@ static UPDATE: CommandRow = CommandRow {
 static SERVE: CommandRow = CommandRow {
     name: "serve",
     about: "Serve typing sessions on a Unix socket, one connection after another or many at once",
-    after_help: "Exit status: 0 served, 1 the certificate is not valid, 2 input refused, 3 out of memory\nExample: composecheck serve table.manifest repertoire certificate compose.socket 100",
+    after_help: "With --files, names are those of keysymdef.h, unless --names gives others.\nExit status: 0 served, 1 the certificate is not valid, 2 input refused, 3 out of memory\nExample: composecheck serve table.manifest repertoire certificate compose.socket 100",
     options: &[
         VERBOSE,
         NAMES,
+        OptionRow {
+            name: "files",
+            letter: Some('f'),
+            takes: Takes::NothingWith(&["state"]),
+            help: "Take a Compose file as it lies on the system in the place of the manifest, includes followed",
+        },
         OptionRow {
             name: "fresh",
             letter: None,
@@ -631,9 +635,9 @@ static SERVE: CommandRow = CommandRow {
             help: "Serve the table that update keeps in DIR, without end: the path of the socket is all that follows",
         },
     ],
-    options_of_files: &[],
+    options_of_files: &[OVERLAP, SYSTEM, LOCALE, ROOT],
     arguments: &[
-        TABLE_MANIFEST,
+        TABLE,
         ArgumentRow {
             name: "REPERTOIRE",
             given: Given::TextUnless("state"),
@@ -662,19 +666,25 @@ static LOAD: CommandRow = CommandRow {
     name: "load",
     about: "Load a new table into a running service, by a certificate that it follows the table in use",
     after_help: "Exit status: 0 loaded, 1 refused by the service, 2 input refused, 3 out of memory\nExample: composecheck load compose.socket new.manifest certificate",
-    options: &[VERBOSE],
-    options_of_files: &[],
-    arguments: &[SOCKET, NEW_MANIFEST, CERTIFICATE],
+    options: &[VERBOSE, FILES],
+    options_of_files: &[OVERLAP, SYSTEM, LOCALE, ROOT],
+    arguments: &[SOCKET, NEW, CERTIFICATE],
 };
 
 /// The command that types in a session.
 static SESSION: CommandRow = CommandRow {
     name: "session",
     about: "Type keys in a session of a running service, and print what happens at each",
-    after_help: "Exit status: 0 answered, 1 refused by the service, 2 input refused, 3 out of memory\nExample: composecheck session --open compose.socket 7 Multi_key apostrophe",
+    after_help: "With --files, names are those of keysymdef.h, unless --names gives others, and a key may be written as its character.\nExit status: 0 answered, 1 refused by the service, 2 input refused, 3 out of memory\nExample: composecheck session --open compose.socket 7 Multi_key apostrophe",
     options: &[
         VERBOSE,
         NAMES,
+        OptionRow {
+            name: "files",
+            letter: Some('f'),
+            takes: Takes::Nothing,
+            help: "Take a key by its character too, and the names of keysymdef.h unless --names gives others",
+        },
         OptionRow {
             name: "open",
             letter: None,

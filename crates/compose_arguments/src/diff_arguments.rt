@@ -7,6 +7,8 @@ use clap::ArgMatches;
 pub struct DiffArguments<'a> {
     /// The old and the new Compose file.
     pub files: FilePair<'a>,
+    /// Whether faulty lines are left out.
+    pub skip_faulty: bool,
     /// The path of the list of changes that are meant.
     pub accept: Option<&'a str>,
     /// Whether only changes are printed whose old text no sequence of the new table gives.
@@ -47,6 +49,7 @@ pub enum DiffColor {
 pub fn diff_arguments<'a>(given: &ArgMatches<'a>) -> Option<DiffArguments<'a>> {
     Some(DiffArguments {
         files: file_pair(given)?,
+        skip_faulty: given.get_flag("skip-faulty"),
         accept: given.get_str("accept"),
         lost: given.get_flag("lost"),
         form: form_of(given),

@@ -2,7 +2,7 @@
 use crate::table_arguments::{TableArguments, table_arguments};
 use clap::ArgMatches;
 
-/// The table that is typed with.
+/// A table: what a command types with, serves or loads.
 #[derive(Clone, Copy)]
 pub enum TypeTable<'a> {
     /// The path of its manifest.
@@ -48,9 +48,14 @@ pub struct FilePair<'a> {
     pub new_root: Option<&'a str>,
 }
 
-/// The table that is typed with, if it is given.
+/// The table that is typed with or served, if it is given.
 pub fn type_table<'a>(given: &ArgMatches<'a>) -> Option<TypeTable<'a>> {
-    let path = given.get_str("TABLE")?;
+    table_named(given, "TABLE")
+}
+
+/// The table that this argument gives, if it is there.
+pub fn table_named<'a>(given: &ArgMatches<'a>, argument: &str) -> Option<TypeTable<'a>> {
+    let path = given.get_str(argument)?;
     if given.get_flag("files") {
         return Some(TypeTable::File(table_arguments(given, Some(path))));
     }

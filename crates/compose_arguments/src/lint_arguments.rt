@@ -15,6 +15,8 @@ pub struct LintArguments<'a> {
     pub readers: Vec<&'a str>,
     /// Whether what included files say too is asked for.
     pub all: bool,
+    /// Whether faulty lines are left out.
+    pub skip_faulty: bool,
     /// The path of the list of findings that are accepted.
     pub accept: Option<&'a str>,
     /// Whether the list that accepts the findings is asked for.
@@ -36,6 +38,7 @@ pub fn lint_arguments<'a>(
         root: given.get_str("root"),
         readers: Vec::from_slice(alloc, given.get_strs("reader").unwrap_or(&[]))?,
         all: given.get_flag("all"),
+        skip_faulty: given.get_flag("skip-faulty"),
         accept: given.get_str("accept"),
         write_accept: given.get_flag("write-accept"),
         json: given.get_str("format") == Some("json"),

@@ -15,7 +15,7 @@ pub enum Question<'a> {
     /// What these keys type with a table.
     Keys {
         table: TypeTable<'a>,
-        /// The names of the keysyms, at least one.
+        /// The names of the keysyms; none of a Compose file where standard input has them.
         keys: Vec<&'a str>,
     },
     /// Whether a certificate is valid.
@@ -90,12 +90,12 @@ fn type_question<'a>(
     alloc: Global,
     given: &ArgMatches<'a>,
 ) -> Result<Option<Question<'a>>, AllocError> {
-    let (Some(table), Some(keys)) = (type_table(given), given.get_strs("KEY")) else {
+    let Some(table) = type_table(given) else {
         return Ok(None);
     };
     Ok(Some(Question::Keys {
         table,
-        keys: Vec::from_slice(alloc, keys)?,
+        keys: Vec::from_slice(alloc, given.get_strs("KEY").unwrap_or(&[]))?,
     }))
 }
 

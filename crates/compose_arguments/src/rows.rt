@@ -84,6 +84,8 @@ pub enum Given {
     NumberUnless(NumberRange, &'static str),
     /// All texts that are left, at least one.
     Some,
+    /// All texts that are left, which may be none with the option of this name.
+    SomeUnless(&'static str),
     /// All texts that are left, if any.
     Any,
 }

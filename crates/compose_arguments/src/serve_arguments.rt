@@ -1,12 +1,13 @@
 //! What `serve` asks for.
+use crate::given_tables::{TypeTable, type_table};
 use clap::ArgMatches;
 
 /// What a service begins with.
 #[derive(Clone, Copy)]
 pub enum Served<'a> {
-    /// The paths of a table's manifest, of the repertoire, and of the certificate of the table against itself.
+    /// A table, and the paths of the repertoire and of the certificate of the table against itself.
     Files {
-        table: &'a str,
+        table: TypeTable<'a>,
         repertoire: &'a str,
         certificate: &'a str,
     },
@@ -57,12 +58,11 @@ pub fn serve_arguments<'a>(given: &ArgMatches<'a>) -> Option<ServeArguments<'a>>
 
 /// What is served, and the path of the socket, which is the first word after `--state`.
 fn served_on<'a>(given: &ArgMatches<'a>) -> Option<(Served<'a>, &'a str)> {
-    let first = given.get_str("TABLE")?;
     if let Some(folder) = given.get_str("state") {
-        return Some((Served::State { folder }, first));
+        return Some((Served::State { folder }, given.get_str("TABLE")?));
     }
     let files = Served::Files {
-        table: first,
+        table: type_table(given)?,
         repertoire: given.get_str("REPERTOIRE")?,
         certificate: given.get_str("CERTIFICATE")?,
     };

@@ -8,6 +8,8 @@ pub struct TableArguments<'a> {
     pub file: Option<&'a str>,
     /// Whether an overlap is refused, where the longest of overlapping sequences is taken else.
     pub refuse_overlaps: bool,
+    /// Whether faulty lines are left out.
+    pub skip_faulty: bool,
     /// The folder of the system's tables.
     pub system: Option<&'a str>,
     /// The name of a locale.
@@ -21,6 +23,7 @@ pub fn table_arguments<'a>(given: &ArgMatches<'a>, file: Option<&'a str>) -> Tab
     TableArguments {
         file,
         refuse_overlaps: given.get_str("overlap") == Some("refuse"),
+        skip_faulty: given.get_flag("skip-faulty"),
         system: given.get_str("system"),
         locale: given.get_str("locale"),
         root: given.get_str("root"),

@@ -7,7 +7,7 @@ use compose_client::{ReplyFeeder, RequestFault, put_request};
 use compose_folder::{Folder, ReadOnce};
 use compose_input::{Fault, TableFiles};
 use compose_report::Outcome;
-use compose_runs::Options;
+use compose_runs::{Environment, Options};
 use compose_service_runs::{
     ClientRequests, Peer, load_requests, run_exchange, run_load, run_session,
 };
@@ -25,10 +25,11 @@ const PIECE: usize = 4096;
 pub fn load_files<F: Folder>(
     rt: &(impl Net + AllocGlobal),
     files: &mut ReadOnce<F>,
+    environment: &Environment,
     arguments: &LoadArguments<'_>,
 ) -> Result<Outcome, Fault> {
-    let sent = run_load(rt.alloc(), files, arguments)?;
-    exchange(rt, arguments.socket, &sent)
+    let sent = run_load(rt.alloc(), files, environment, arguments)?;
+    exchange(rt, arguments.socket, sent)
 }
 
 /// Loads this table into the service on the socket, by the certificate.
@@ -39,7 +40,7 @@ pub fn load_outcome(
     certificate: &[u8],
 ) -> Result<Outcome, Fault> {
     let sent = load_requests(rt.alloc(), table, certificate)?;
-    exchange(rt, socket, &sent)
+    exchange(rt, socket, sent)
 }
 
 /// Types in a session of a running service.
@@ -50,7 +51,7 @@ pub fn session_files<T: ComposeTable, F: Folder>(
     arguments: &SessionArguments<'_>,
 ) -> Result<Outcome, Fault> {
     match run_session::<T, F>(rt.alloc(), files, options, arguments)? {
-        Ok(sent) => exchange(rt, arguments.socket, &sent),
+        Ok(sent) => exchange(rt, arguments.socket, sent),
         Err(outcome) => Ok(outcome),
     }
 }
@@ -59,7 +60,7 @@ pub fn session_files<T: ComposeTable, F: Folder>(
 fn exchange(
     rt: &(impl Net + AllocGlobal),
     path: &str,
-    sent: &ClientRequests,
+    sent: ClientRequests,
 ) -> Result<Outcome, Fault> {
     let stream = match UnixStream::connect(rt, path) {
         Ok(stream) => stream,

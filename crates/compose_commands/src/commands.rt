@@ -29,9 +29,9 @@ pub fn answer<T: ComposeTable, F: Folder>(
         names: &asked.names,
         verbose: asked.verbose,
     };
+    let environment = read_environment(rt, is_terminal)?;
     match &asked.request {
         Request::Answer(question) => {
-            let environment = read_environment(rt, is_terminal)?;
             let outcome = run_question::<T, F>(
                 rt.alloc(),
                 files,
@@ -47,9 +47,19 @@ pub fn answer<T: ComposeTable, F: Folder>(
         }
         Request::Serve { arguments, fresh } => {
             let allowed = fresh.as_deref();
-            serve_files::<T, F>(rt, files, options, process_id, arguments, allowed)
+            serve_files::<T, F>(
+                rt,
+                files,
+                &environment,
+                options,
+                process_id,
+                arguments,
+                allowed,
+            )
         }
-        Request::Load(arguments) => put(rt, form, load_files(rt, files, arguments)),
+        Request::Load(arguments) => {
+            put(rt, form, load_files(rt, files, &environment, arguments))
+        }
         Request::Session(arguments) => {
             put(
                 rt,

@@ -10,7 +10,7 @@ use compose_folder::{Folder, ReadOnce};
 use compose_hub::ConnectionEnd;
 use compose_input::Fault;
 use compose_program::FaultForm;
-use compose_runs::Options;
+use compose_runs::{Environment, Options};
 use compose_serve::{Device, serve};
 use compose_service::Service;
 use compose_service_runs::start_service;
@@ -27,13 +27,18 @@ use std::rt::{Clock, Env, Files};
 pub fn serve_files<T: ComposeTable, F: Folder>(
     rt: &(impl Clock + Env + Files + Net + Print + Eprint + AllocGlobal),
     files: &mut ReadOnce<F>,
+    environment: &Environment,
     options: Options<'_>,
     process_id: u32,
     arguments: &ServeArguments<'_>,
     allowed: Option<&[&str]>,
 ) -> Result<Ended, Fault> {
-    match start_service::<T, F>(rt.alloc(), files, options, arguments, allowed)? {
-        Ok(mut service) => serve_on_socket(rt, process_id, &mut service, arguments),
+    let alloc = rt.alloc();
+    match start_service::<T, F>(alloc, files, environment, options, arguments, allowed)? {
+        Ok((mut service, notes)) => {
+            let _ = eprint!(rt; "{notes}");
+            serve_on_socket(rt, process_id, &mut service, arguments)
+        }
         Err(outcome) => put(rt, FaultForm::Line, Ok(outcome)),
     }
 }

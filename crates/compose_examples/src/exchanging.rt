@@ -21,6 +21,9 @@ const OPEN_AND_KEY: &str =
 const ALL: &str =
     "Request { session: 7, body: Open };Request { session: 7, body: Key(97) };Request { session: 7, body: Ask };";
 
+/// The notes, which are printed before all else.
+const NOTES: &str = "note: of the table\n";
+
 /// A service whose replies are written out, the last one first; and the requests that it was sent, as they are printed.
 #[derive(Drop)]
 struct Script {
@@ -64,10 +67,13 @@ fn requests(alloc: Global) -> Result<Vec<Request>, AllocError> {
 fn run(
     alloc: Global,
     script: &mut Script,
-    sent: &ClientRequests,
+    sent: ClientRequests,
 ) -> Result<Option<String>, AllocError> {
     match run_exchange(alloc, script, sent) {
-        Ok(outcome) => Ok(Some(format!(in alloc; "{}{}", outcome.output, outcome.errors)?)),
+        Ok(outcome) => Ok(Some(format!(in alloc;
+            "{}{}{}",
+            outcome.notes, outcome.output, outcome.errors
+        )?)),
         Err(_) => Ok(None),
     }
 }
@@ -82,6 +88,7 @@ fn expect(
 ) -> Result<(), Fail> {
     let alloc = rt.alloc();
     let sent = ClientRequests {
+        notes: String::from_str(alloc, NOTES)?,
         names: core(alloc)?,
         requests: requests(alloc)?,
     };
@@ -89,9 +96,10 @@ fn expect(
         replies,
         asked: String::new(alloc),
     };
-    let text = run(alloc, &mut script, &sent)?;
+    let printed = format!(in alloc; "{NOTES}{printed}")?;
+    let text = run(alloc, &mut script, sent)?;
     expect_text(rt, row, &script.asked, asked);
-    expect_text(rt, row, text.as_deref().unwrap_or("a fault"), printed);
+    expect_text(rt, row, text.as_deref().unwrap_or("a fault"), &printed);
     Ok(())
 }
 

@@ -20,11 +20,15 @@ mod explaining;
 #[cfg(test)]
 mod faults;
 #[cfg(test)]
+mod faulty_lines;
+#[cfg(test)]
 mod forms;
 #[cfg(test)]
 mod frames;
 #[cfg(test)]
 mod helpers;
+#[cfg(test)]
+mod key_lists;
 #[cfg(test)]
 mod keysyms;
 #[cfg(test)]

@@ -1,7 +1,7 @@
 //! What is found in the lines of worked tables.
-use crate::helpers::{expect_text, two_sources};
+use crate::helpers::{core, expect_text, two_sources};
 use compose_answer::Answer;
-use compose_lint::{LintForm, LintInput, LintTable, Readers, lint_tables};
+use compose_lint::{LintForm, LintInput, LintTable, Readers, lint_tables, lost_count};
 use std::alloc::Global;
 use std::test::Fail;
 
@@ -13,7 +13,7 @@ struct LintRow {
 }
 
 #[rattlefmt::skip]
-static ROWS: [LintRow; 18] = [
+static ROWS: [LintRow; 21] = [
     LintRow { root: "", included: "", lines: "" },
     LintRow { root: "<Multi_key> <a> : \"é\" eacute\n", included: "", lines: "" },
     LintRow { root: "<a> <b> : \"x\"\n<a> <c> : \"y\"\n<a> <b> : \"z\"\n", included: "", lines: "r:1:1: overridden: line 3 gives the sequence another text, which counts\n" },
@@ -27,12 +27,20 @@ static ROWS: [LintRow; 18] = [
     LintRow { root: "<a> <b> : \"é\" egrave\n", included: "", lines: "r:1:1: keysym: the keysym after the string has another character\n" },
     LintRow { root: "<a> <b> : \"х\u{301}\u{301}\"\n", included: "", lines: "r:1:1: mark: the text has one combining mark twice in a row\n" },
     LintRow { root: "<a> <b> : \"e\u{301}\"\n", included: "", lines: "r:1:1: form: the text is not in normal form C\n" },
+    LintRow { root: "<a> <b> : \"é\"\n<a> <c> : \"e\u{301}\"\n", included: "", lines: "r:1:1: form: r:2 gives another text that looks like this one, and is not in normal form C\nr:2:1: form: the text is not in normal form C\n" },
+    LintRow { root: "include \"%L\"\n<a> <b> : \"Å\"\n", included: "<a> <c> : \"\u{212b}\"\n<a> <d> : \"A\u{30a}\"\n", lines: "r:2:1: form: %L:1 gives another text that looks like this one, and is not in normal form C\n%L:1:1: form: the text is not in normal form C\n%L:2:1: form: the text is not in normal form C\n" },
+    LintRow { root: "<a> <b> : \"é\"\n<a> <c> : \"é\"\n<a> <d> : \"e\"\n", included: "", lines: "" },
     LintRow { root: "\u{feff}include \"%L\"\n", included: "\u{feff}# none\n", lines: "r:1:1: libX11: the line is skipped, as it follows a byte order mark\nr:1:1: libxkbcommon: the line is skipped, as it follows a byte order mark\n" },
     LintRow { root: "<a> <b> : \"x\"\r\n<a> <c> : \"\r\" # \r\n", included: "", lines: "r:1:1: libX11: the line is skipped, as it has a carriage return\n" },
     LintRow { root: "include \"%L\"\n", included: "<a> <b> : \"x\"", lines: "%L:1:1: libxkbcommon: the line is skipped, as no newline follows it\n" },
     LintRow { root: "<a> <a> <a> <a> <a> <a> <a> <a> <a> <a> : \"x\"\n", included: "", lines: "r:1:1: libX11: the line is skipped, as its sequence has more keysyms than are read\n" },
     LintRow { root: "<a> <U01EB> : x\n", included: "", lines: "r:1:1: gtk3: the line is skipped, as it has no string\nr:1:1: gtk4: the sequence is never typed, as a keysym of it is above 0xffff\nr:1:1: gtk4: the line is skipped, as it has no string\n" },
 ];
+
+/// A row whose faulty lines are left out: the fault of its include stays.
+#[rattlefmt::skip]
+static LEFT_OUT: LintRow =
+    LintRow { root: "<a> <nosuch> : \"x\"\ninclude \"nowhere\"\n", included: "", lines: "r:2:9: fault: the manifest does not list the included file \"nowhere\"\n" };
 
 /// All readers.
 const ALL: Readers = Readers {
@@ -42,12 +50,13 @@ const ALL: Readers = Readers {
     gtk4: true,
 };
 
-/// What is answered on a row.
-fn answered(alloc: Global, row: &LintRow) -> Result<Option<Answer>, Fail> {
+/// What is answered on a row, with its faulty lines or without them.
+fn answered(alloc: Global, row: &LintRow, skip_faulty: bool) -> Result<Option<Answer>, Fail> {
     let sources = two_sources(alloc, row.root.as_bytes(), row.included)?;
     let table = LintTable {
         sources: &sources,
         paths: &["r", "%L"],
+        skip_faulty,
     };
     let input = LintInput {
         header: &[],
@@ -72,8 +81,26 @@ fn printed(answer: &Option<Answer>) -> &str {
 #[test]
 fn lines_of_worked_tables(rt: HostRuntime) -> Result<(), Fail> {
     for row in &ROWS {
-        let answer = answered(rt.alloc(), row)?;
+        let answer = answered(rt.alloc(), row, false)?;
         expect_text(&rt, row.root, printed(&answer), row.lines);
     }
+    Ok(())
+}
+
+#[test]
+fn faults_of_includes_stay(rt: HostRuntime) -> Result<(), Fail> {
+    let answer = answered(rt.alloc(), &LEFT_OUT, true)?;
+    expect_text(&rt, LEFT_OUT.root, printed(&answer), LEFT_OUT.lines);
+    Ok(())
+}
+
+/// A line that both libraries skip after a mark, one that they skip for two reasons, one whose text
+/// they cut, and one that libxkbcommon skips for its missing newline.
+#[test]
+fn lost_lines_are_counted_once(rt: HostRuntime) -> Result<(), Fail> {
+    let root = "\u{feff}<a> <b> : \"x\"\n< a> <NoSymbol> : \"y\"\n<a> <c> : \"\\0\"\n";
+    let sources = two_sources(rt.alloc(), root.as_bytes(), "<a> <d> : \"z\"")?;
+    let names = core(rt.alloc())?;
+    assert_eq!(rt; lost_count(rt.alloc(), &names, &sources)?, 3);
     Ok(())
 }

@@ -17,7 +17,7 @@ use Rattle.compose_lint.specs.Rows.{Row}
 use Rattle.compose_lint.specs.Report.{kind_word}
 use Rattle.compose_lint.specs.Accepted.{listed_character, listed_line, listed_text, file_words, text_words, reader_words, begins_as_one, is_in_form, is_accepted, is_none_of, without_blanks, distinct, as_lines, accept_lines, AcceptsAll}
 use Rattle.compose_lint.specs.declared.finding.Kind.{Kind}
-use Rattle.compose_lint.specs.declared.finding.Kind.TheVariants.{Fault, Overridden, Repeated, Prefix, Keysym, Mark, Form, Comment, Redundant, Reader}
+use Rattle.compose_lint.specs.declared.finding.Kind.TheVariants.{Fault, Overridden, Repeated, Prefix, Keysym, Mark, Form, Alike, Comment, Redundant, Reader}
 use Rattle.compose_lint.specs.declared.reader.Reader.TheVariants.{LibX11, Libxkbcommon, Gtk3, Gtk4}
 use Rattle.compose_lint.proofs.Among.{distinct_all, among_distinct, all_among}
 
@@ -56,6 +56,7 @@ good (Prefix place) more line = line
 good Keysym more line = line
 good Mark more line = line
 good Form more line = line
+good (Alike place) more line = line
 good Comment more line = line
 good (Redundant place) more line = line
 good (Reader LibX11 class) more line = line

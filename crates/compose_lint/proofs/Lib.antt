@@ -4,6 +4,7 @@ pub mod OneMore
 pub mod LastOnes
 pub mod OneSource
 pub mod PrefixOnes
+pub mod AlikeOnes
 pub mod Tests
 pub mod Leading
 pub mod MoreVisits

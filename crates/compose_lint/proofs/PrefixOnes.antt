@@ -47,7 +47,7 @@ put_more t q n place old within =
 
 -- ---- more lines
 
-map_or : (a b : Option LintLine) → option_map place_of (option_or a b) ≡ option_or (option_map place_of a) (option_map place_of b)
+pub map_or : (a b : Option LintLine) → option_map place_of (option_or a b) ≡ option_or (option_map place_of a) (option_map place_of b)
 map_or None b = refl
 map_or (Some a) b = refl
 

@@ -22,7 +22,7 @@ use Rattle.compose_lint.specs.declared.reader.Readers.{Readers}
 -- ---- what is asked
 
 abbrev pub table_given : LintTable → Table
-table_given t = record { sources = t.sources.now; paths = map (λ path. path.now) t.paths.now }
+table_given t = record { sources = t.sources.now; paths = map (λ path. path.now) t.paths.now; skip_faulty = t.skip_faulty }
 
 pub record Asked : Type 0 where
   pub header : List ℕ

@@ -1,5 +1,5 @@
 -- What is found in the lines of a file, each kind by itself.
-use Rattle.std.specs.Prelude.{ℕ, Bool, ◌&&◌, not, nat_lt, bytes_eq, if◌then◌else◌, List, [], ◌∷◌, ◌++◌, length, map, flat_map, Option, Some, false}
+use Rattle.std.specs.Prelude.{ℕ, Bool, ◌&&◌, nat_lt, bytes_eq, if◌then◌else◌, List, [], ◌∷◌, ◌++◌, length, map, flat_map, Option, Some, false}
 use Rattle.std.specs.Option.{option_map_or, option_and_then}
 use Rattle.keysym_core.specs.Names.{KeysymNames}
 use Rattle.compose_model.specs.Table.{Definition}
@@ -11,12 +11,13 @@ use Rattle.compose_lint.specs.FileLines.{is_after_mark, is_without_newline, is_j
 use Rattle.compose_lint.specs.Lines.{LintLine, SourceLines, all_lines, all_sources}
 use Rattle.compose_lint.specs.Counting.{last_defining}
 use Rattle.compose_lint.specs.Longer.{longer_place, place_of}
+use Rattle.compose_lint.specs.Alike.{alike_place}
 use Rattle.compose_lint.specs.Comments.{has_misplaced_comment}
 use Rattle.compose_lint.specs.Texts.{repeats_mark, is_normal, has_other_character}
 use Rattle.compose_lint.specs.Readers.{has_ten_keysyms, has_eleven_keysyms, has_no_symbol, has_longest_text, has_nul, has_wide_keysym, has_digit_name, has_no_string, has_letter_escape}
 use Rattle.compose_lint.specs.declared.finding.Finding.{Finding}
 use Rattle.compose_lint.specs.declared.finding.Kind.{Kind}
-use Rattle.compose_lint.specs.declared.finding.Kind.TheVariants.{Overridden, Repeated, Prefix, Keysym, Mark, Form, Comment, Redundant, Reader}
+use Rattle.compose_lint.specs.declared.finding.Kind.TheVariants.{Overridden, Repeated, Prefix, Keysym, Mark, Form, Alike, Comment, Redundant, Reader}
 use Rattle.compose_lint.specs.declared.reader.Readers.{Readers}
 use Rattle.compose_lint.specs.declared.reader.Reader.TheVariants.{LibX11, Libxkbcommon, Gtk3, Gtk4}
 use Rattle.compose_lint.specs.declared.reader.Class.TheVariants.{ByteOrderMark, NoNewline, Joined, CarriageReturn, SpacedName, ManyKeysyms, NoSymbol, LongestText, Nul, WideKeysym, DigitName, NoString, LetterEscape}
@@ -40,7 +41,7 @@ defined_again lines l d = option_map_or (beside l d) (last_defining lines d.sequ
 -- ---- the line by itself
 
 abbrev pub text_kinds : KeysymNames → Written → Definition → List Kind
-text_kinds names p d = when (has_other_character names p d) Keysym ++ when (repeats_mark d.text) Mark ++ when (not (is_normal d.text)) Form
+text_kinds names p d = when (has_other_character names p d) Keysym ++ when (repeats_mark d.text) Mark
 
 -- ---- the readers that are asked for
 
@@ -96,6 +97,13 @@ own_kinds names readers faults bytes lines l =
 
 -- ---- the lines of all files
 
+-- the text is not in normal form C, or it is, and of any file a line defines another text that looks like it
+abbrev pub form_of : List LintLine → List ℕ → List Kind
+form_of all text = if is_normal text then option_map_or (λ place. Alike place ∷ []) (alike_place all text) [] else Form ∷ []
+
+abbrev pub form_kinds : List LintLine → LintLine → List Kind
+form_kinds all l = option_map_or (λ d. form_of all d.text) l.definition []
+
 -- of any file a line defines a longer sequence that begins with that of the line
 abbrev pub prefix_kinds : List LintLine → LintLine → List Kind
 prefix_kinds all l = option_map_or (λ place. Prefix place ∷ []) (option_and_then (λ d. longer_place all d.sequence) l.definition) []
@@ -114,7 +122,7 @@ redundant_kinds included l = option_map_or (λ d. option_map_or (again d) (last_
 
 -- what is found in a line of the file, where these are the lines of all files
 abbrev pub line_kinds : KeysymNames → Readers → List ReadFault → List LintLine → SourceLines → LintLine → List Kind
-line_kinds names readers faults all f l = own_kinds names readers faults f.bytes f.lines l ++ prefix_kinds all l ++ comment_kinds all l ++ redundant_kinds f.included l
+line_kinds names readers faults all f l = own_kinds names readers faults f.bytes f.lines l ++ form_kinds all l ++ prefix_kinds all l ++ comment_kinds all l ++ redundant_kinds f.included l
 
 abbrev pub line_findings : KeysymNames → Readers → List ReadFault → List LintLine → SourceLines → LintLine → List Finding
 line_findings names readers faults all f l = map (λ k. record { source = l.source; line = l.line; kind = k }) (line_kinds names readers faults all f l)

@@ -5,7 +5,7 @@ use Rattle.compose_diff.specs.Json.{json_string}
 use Rattle.compose_lint.specs.Rows.{Row}
 use Rattle.compose_lint.specs.Report.{kind_word, path_of, sentence_of, column_of, reader_word}
 use Rattle.compose_lint.specs.declared.finding.Kind.{Kind}
-use Rattle.compose_lint.specs.declared.finding.Kind.TheVariants.{Overridden, Repeated, Prefix, Redundant, Reader}
+use Rattle.compose_lint.specs.declared.finding.Kind.TheVariants.{Overridden, Repeated, Prefix, Alike, Redundant, Reader}
 use Rattle.compose_lint.specs.declared.finding.LinePlace.{LinePlace}
 use Rattle.compose_lint.specs.declared.reader.Reader.{Reader as ReaderName}
 
@@ -14,6 +14,7 @@ abbrev pub kind_other : ℕ → Kind → Option LinePlace
 kind_other source (Overridden line) = Some (record { source = source; line = line })
 kind_other source (Repeated line) = Some (record { source = source; line = line })
 kind_other source (Prefix place) = Some place
+kind_other source (Alike place) = Some place
 kind_other source (Redundant place) = Some place
 kind_other source kind = None
 

@@ -6,6 +6,7 @@ pub mod FileLines
 pub mod Faults
 pub mod Counting
 pub mod Longer
+pub mod Alike
 pub mod Commonest
 pub mod Comments
 pub mod Findings

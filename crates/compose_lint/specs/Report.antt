@@ -8,7 +8,7 @@ use Rattle.compose_messages.specs.Messages.{read_said}
 use Rattle.compose_lint.specs.Rows.{Row}
 use Rattle.compose_lint.specs.declared.finding.Kind.{Kind}
 use Rattle.compose_lint.specs.declared.finding.LinePlace.{LinePlace}
-use Rattle.compose_lint.specs.declared.finding.Kind.TheVariants.{Fault, Overridden, Repeated, Prefix, Keysym, Mark, Form, Comment, Redundant, Reader}
+use Rattle.compose_lint.specs.declared.finding.Kind.TheVariants.{Fault, Overridden, Repeated, Prefix, Keysym, Mark, Form, Alike, Comment, Redundant, Reader}
 use Rattle.compose_lint.specs.declared.reader.Reader.{Reader as ReaderName}
 use Rattle.compose_lint.specs.declared.reader.Reader.TheVariants.{LibX11, Libxkbcommon, Gtk3, Gtk4}
 use Rattle.compose_lint.specs.declared.reader.Class.{Class}
@@ -43,6 +43,7 @@ kind_word (Prefix place) = codes "prefix"
 kind_word Keysym = codes "keysym"
 kind_word Mark = codes "mark"
 kind_word Form = codes "form"
+kind_word (Alike place) = codes "form"
 kind_word Comment = codes "comment"
 kind_word (Redundant place) = codes "redundant"
 kind_word (Reader reader class) = reader_word reader
@@ -79,6 +80,7 @@ kind_sentence row (Fault index) = fault_sentence row index
 kind_sentence row (Overridden line) = line_sentence line (codes " gives the sequence another text, which counts")
 kind_sentence row (Repeated line) = line_sentence line (codes " gives the sequence the same text again")
 kind_sentence row (Prefix place) = place_sentence row.paths place (codes " defines a longer sequence that begins with this one, and the longer one is typed")
+kind_sentence row (Alike place) = place_sentence row.paths place (codes " gives another text that looks like this one, and is not in normal form C")
 kind_sentence row (Redundant place) = place_sentence row.paths place (codes " is included, and gives the sequence the same text")
 kind_sentence row kind = own_sentence kind
 

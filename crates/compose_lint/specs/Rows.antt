@@ -1,20 +1,22 @@
 -- What is found in tables: each finding, with what its table says of it.
-use Rattle.std.specs.Prelude.{ℕ, ◌-◌, Bool, List, [], take, map, flat_map, slice_get}
+use Rattle.std.specs.Prelude.{ℕ, ◌-◌, Bool, true, false, if◌then◌else◌, List, [], take, map, filter, flat_map, slice_get}
 use Rattle.std.specs.Option.{option_map_or}
 use Rattle.keysym_core.specs.Names.{KeysymNames}
 use Rattle.compose_read.specs.Lines.{Source}
 use Rattle.compose_read.specs.Faults.{faults_of}
 use Rattle.compose_read.specs.declared.ReadFault.{ReadFault}
+use Rattle.compose_read.specs.declared.ReadFault.TheVariants.{MissingInclude, IncludeDepth}
 use Rattle.compose_messages.specs.Places.{line_at}
 use Rattle.compose_lint.specs.Findings.{findings}
 use Rattle.compose_lint.specs.Lines.{LintLine, SourceLines}
 use Rattle.compose_lint.specs.declared.finding.Finding.{Finding}
 use Rattle.compose_lint.specs.declared.reader.Readers.{Readers}
 
--- a table: its sources, and the path of the file of each
+-- a table: its sources, the path of the file of each, and whether its faulty lines are left out
 pub record Table : Type 0 where
   pub sources : List Source
   pub paths : List (List ℕ)
+  pub skip_faulty : Bool
 
 -- a finding, the sources, the paths and the first faults of its table, and the bytes of the line in which it stands
 pub record Row : Type 0 where
@@ -35,6 +37,19 @@ max_faults = 1000
 abbrev pub first_faults : KeysymNames → List Source → List ReadFault
 first_faults names sources = take max_faults (faults_of names sources (root_of sources))
 
+-- the fault of an include, which is in no line by itself
+abbrev pub is_of_include : ReadFault → Bool
+is_of_include (MissingInclude source line) = true
+is_of_include (IncludeDepth source line) = true
+is_of_include fault = false
+
+-- the faults that are looked at, but for those of lines that are left out
+abbrev pub left_faults : Bool → List ReadFault → List ReadFault
+left_faults skip_faulty faults = if skip_faulty then filter is_of_include faults else faults
+
+abbrev pub table_faults : KeysymNames → Table → List ReadFault
+table_faults names t = left_faults t.skip_faulty (first_faults names t.sources)
+
 abbrev pub row_of : Table → List ReadFault → Finding → Row
 row_of t faults f = record { sources = t.sources; paths = t.paths; faults = faults; finding = f; bytes = line_at t.sources f.source f.line }
 
@@ -43,7 +58,7 @@ abbrev pub rows_by : KeysymNames → Readers → Bool → Table → List ReadFau
 rows_by names readers is_all t faults = map (row_of t faults) (findings names readers is_all faults t.sources)
 
 abbrev pub table_rows : KeysymNames → Readers → Bool → Table → List Row
-table_rows names readers is_all t = rows_by names readers is_all t (first_faults names t.sources)
+table_rows names readers is_all t = rows_by names readers is_all t (table_faults names t)
 
 -- what is found in the tables, in their order
 abbrev pub rows_in : KeysymNames → Readers → Bool → List Table → List Row
@@ -57,7 +72,7 @@ pub record FaultyTable : Type 0 where
   pub faults : List ReadFault
 
 abbrev pub with_faults : KeysymNames → Table → FaultyTable
-with_faults names t = record { table = t; faults = first_faults names t.sources }
+with_faults names t = record { table = t; faults = table_faults names t }
 
 abbrev pub faulty_rows : KeysymNames → Readers → Bool → FaultyTable → List Row
 faulty_rows names readers is_all t = rows_by names readers is_all t.table t.faults

@@ -16,9 +16,13 @@ is_mark c = not (canonical_combining_class c == 0)
 abbrev pub repeats_mark : List ℕ → Bool
 repeats_mark text = list_any (λ p. p.0 == p.1 && is_mark p.0) (zip (chars text) (drop 1 (chars text)))
 
+-- the text in normal form C
+abbrev pub normal_form : List ℕ → List ℕ
+normal_form text = encode_utf8_all (nfc (chars text))
+
 -- the text is in normal form C
 abbrev pub is_normal : List ℕ → Bool
-is_normal text = bytes_eq (encode_utf8_all (nfc (chars text))) text
+is_normal text = bytes_eq (normal_form text) text
 
 -- beside the string stands the name of a keysym whose character is not the string
 abbrev pub has_other_character : KeysymNames → Written → Definition → Bool

@@ -22,6 +22,8 @@ pub enum LintForm {
 pub struct LintTable<'a> {
     pub sources: &'a Sources,
     pub paths: &'a [&'a str],
+    /// Whether faulty lines are left out, so that they are no findings.
+    pub skip_faulty: bool,
 }
 
 /// What `lint` is asked.

@@ -25,6 +25,8 @@ pub enum Kind {
     Mark,
     /// The text is not in normal form C.
     Form,
+    /// The line at this place gives another text that looks like this one, which is in normal form C.
+    Alike(LinePlace),
     /// The comment stands most often beside another text, and the text beside another comment.
     Comment,
     /// The line at this place, of an included file, gives the sequence the same text.

@@ -95,7 +95,7 @@ fn other_of(row: &Row<'_>) -> Option<LinePlace>
     let source = row.finding.source;
     match row.finding.kind {
         Kind::Overridden { line } | Kind::Repeated { line } => Some(LinePlace { source, line }),
-        Kind::Prefix(place) | Kind::Redundant(place) => Some(place),
+        Kind::Prefix(place) | Kind::Alike(place) | Kind::Redundant(place) => Some(place),
         _ => None,
     }
 }

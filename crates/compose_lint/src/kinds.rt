@@ -2,14 +2,16 @@
 ghost use Rattle.std.specs.Prelude.{◌≡◌, ◌++◌, ℕ, List, IfOk, OnOk, bytes_eq, slice_get, option_copied, map};
 ghost use Rattle.std.specs.Borrow.{Bor};
 ghost use Rattle.std.specs.Option.{option_and_then};
-ghost use Rattle.indexmap.specs.IndexMap.{get_by};
+ghost use Rattle.indexmap.specs.IndexMap.{get_by, get_by_text};
 ghost use Rattle.compose_lint.specs.Counting.{last_defining};
 ghost use Rattle.compose_lint.specs.Lines.{all_lines};
+ghost use Rattle.compose_lint.specs.Alike.{form_place};
 ghost use Rattle.compose_lint.specs.Longer.{longer_place};
 ghost use Rattle.compose_lint.specs.Comments.{comments_in, turned};
 ghost use Rattle.compose_lint.specs.Commonest.{IsLed, times};
 ghost use Rattle.compose_lint.specs.Findings as words;
 
+use crate::alike::FormPlaces;
 use crate::classes::{
     has_digit_name, has_eleven_keysyms, has_letter_escape, has_longest_text, has_no_string,
     has_no_symbol, has_nul, has_ten_keysyms, has_wide_keysym,
@@ -114,7 +116,6 @@ fn push_beside(
 
 /// Adds what is wrong with the text by itself.
 fn push_text_kinds(
-    alloc: Global,
     names: &Names,
     kinds: &mut Vec<Kind>,
     written: &Written<'_>,
@@ -126,8 +127,7 @@ fn push_text_kinds(
 {
     let is_other = has_other_character(names, written, definition);
     push_when(kinds, is_other, Kind::Keysym)?;
-    push_when(kinds, repeats_mark(definition.text()), Kind::Mark)?;
-    push_when(kinds, !is_normal(alloc, definition.text())?, Kind::Form)
+    push_when(kinds, repeats_mark(definition.text()), Kind::Mark)
 }
 
 /// Adds what libX11 doesn't take.
@@ -276,7 +276,6 @@ pub(crate) struct LintFile<'b, 'a> {
 
 /// Adds what is found in a line of the file with this definition, which what it writes gives.
 fn push_kinds_of(
-    alloc: Global,
     kinds: &mut Vec<Kind>,
     file: LintFile<'_, '_>,
     last: &LastLines<'_>,
@@ -294,7 +293,7 @@ fn push_kinds_of(
         written.now definition.now) }
 {
     push_defined_again(kinds, file.lines, last, line, definition)?;
-    push_text_kinds(alloc, file.names, kinds, written, definition)?;
+    push_text_kinds(file.names, kinds, written, definition)?;
     push_blank_kinds(kinds, file.readers, line.bytes(), written)?;
     push_libx11_kinds(kinds, file.readers, definition)?;
     push_libxkbcommon_kinds(kinds, file.readers, written, definition)?;
@@ -303,7 +302,6 @@ fn push_kinds_of(
 
 /// Adds what is found in a line of the file for the definition that it gives, if it gives one.
 fn push_kinds_if(
-    alloc: Global,
     kinds: &mut Vec<Kind>,
     file: LintFile<'_, '_>,
     last: &LastLines<'_>,
@@ -320,14 +318,14 @@ fn push_kinds_if(
 {
     match (line.written(), line.definition()) {
         (Some(written), Some(definition)) => {
-            push_kinds_of(alloc, kinds, file, last, line, written, definition)
+            push_kinds_of(kinds, file, last, line, written, definition)
         }
         _ => Ok(()),
     }
 }
 
 /// What is found in a line of the file by that file alone.
-fn own_kinds(
+pub(crate) fn own_kinds(
     alloc: Global,
     file: LintFile<'_, '_>,
     last: &LastLines<'_>,
@@ -344,7 +342,7 @@ fn own_kinds(
     let mut kinds = Vec::new(alloc);
     push_fault_kinds(&mut kinds, file.faults, line)?;
     push_file_kinds(&mut kinds, file.readers, file.bytes, file.lines, line)?;
-    push_kinds_if(alloc, &mut kinds, file, last, line)?;
+    push_kinds_if(&mut kinds, file, last, line)?;
     Ok(kinds)
 }
 
@@ -367,6 +365,45 @@ fn push_kinds(
             line,
             kind: *kind,
         })?;
+    }
+    Ok(())
+}
+
+/// Adds that the text of the line is not in normal form C, or that it is, and a line of any file
+/// gives another text that looks like it, if so.
+fn push_form_kinds(
+    alloc: Global,
+    kinds: &mut Vec<Kind>,
+    files: &[SourceLines<'_>],
+    forms: &FormPlaces,
+    line: &LintLine<'_>,
+) -> Result<(), AllocError>
+    requires { (q : List ℕ) → get_by_text forms.now q ≡ form_place (all_lines files.now) q }
+    ensures { OnOk result
+        (kinds.new.items ≡ kinds.old.items ++ words.form_kinds (all_lines files.now) line.now) }
+{
+    match line.definition() {
+        Some(definition) => push_form_of(alloc, kinds, files, forms, definition.text()),
+        None => Ok(()),
+    }
+}
+
+/// The same of a text.
+fn push_form_of(
+    alloc: Global,
+    kinds: &mut Vec<Kind>,
+    _files: &[SourceLines<'_>],
+    forms: &FormPlaces,
+    text: &str,
+) -> Result<(), AllocError>
+    requires { (q : List ℕ) → get_by_text forms.now q ≡ form_place (all_lines _files.now) q }
+    ensures { OnOk result
+        (kinds.new.items ≡ kinds.old.items ++ words.form_of (all_lines _files.now) text.now) }
+{
+    if !is_normal(alloc, text)? {
+        kinds.push(Kind::Form)?;
+    } else if let Some(place) = forms.get(text) {
+        kinds.push(Kind::Alike(*place))?;
     }
     Ok(())
 }
@@ -426,11 +463,12 @@ fn push_again(
     push_when(kinds, is_same, Kind::Redundant(counting.place()))
 }
 
-/// What the lines of all files say of a line: the places of longer sequences, and what stands most
-/// often beside each comment and beside each text.
+/// What the lines of all files say of a line: the places of texts that look like others, those of
+/// longer sequences, and what stands most often beside each comment and beside each text.
 #[derive(Clone, Copy)]
 pub(crate) struct AllFiles<'c, 'b, 'a> {
     pub(crate) files: &'b [SourceLines<'a>],
+    pub(crate) forms: &'c FormPlaces,
     pub(crate) longer: &'c LongerPlaces<'b>,
     pub(crate) by_comment: &'c Leaders<'b>,
     pub(crate) by_text: &'c Leaders<'b>,
@@ -444,6 +482,8 @@ pub(crate) fn push_findings(
     file: LintFile<'_, '_>,
     included: &[LintLine<'_>],
 ) -> Result<(), AllocError>
+    requires forms { (q : List ℕ)
+        → get_by_text all.forms.now q ≡ form_place (all_lines all.files.now) q }
     requires longer { (q : Bor (List ℕ))
         → get_by (λ k. bytes_eq q.now k.now) all.longer.now
         ≡ longer_place (all_lines all.files.now) q.now }
@@ -471,6 +511,7 @@ pub(crate) fn push_findings(
     let last_included = last_lines(alloc, included)?;
     for line in lines {
         let mut kinds = own_kinds(alloc, file, &last, line)?;
+        push_form_kinds(alloc, &mut kinds, all.files, all.forms, line)?;
         push_prefix_kinds(&mut kinds, all.files, all.longer, line)?;
         let is_misplaced = has_misplaced_comment(all.files, all.by_comment, all.by_text, line);
         push_when(&mut kinds, is_misplaced, Kind::Comment)?;

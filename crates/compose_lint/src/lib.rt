@@ -7,6 +7,7 @@ ghost use Rattle.compose_lint.specs.Accepted.{AcceptsAll, accept_lines, listed_l
 ghost use Rattle.compose_lint.specs.Rows.{Row};
 
 mod accepted;
+mod alike;
 mod answer;
 mod asking;
 mod classes;

@@ -1,13 +1,15 @@
 //! What is found in a table.
 ghost use Rattle.std.specs.Prelude.{◌≡◌, ℕ, List, map, IfOk, bytes_eq};
 ghost use Rattle.std.specs.Borrow.{Bor};
-ghost use Rattle.indexmap.specs.IndexMap.{get_by};
+ghost use Rattle.indexmap.specs.IndexMap.{get_by, get_by_text};
 ghost use Rattle.compose_lint.specs.Lines.{all_lines};
+ghost use Rattle.compose_lint.specs.Alike.{form_place};
 ghost use Rattle.compose_lint.specs.Longer.{longer_place};
 ghost use Rattle.compose_lint.specs.Comments.{comments_in, turned};
 ghost use Rattle.compose_lint.specs.Commonest.{IsLed, times};
 ghost use Rattle.compose_lint.specs.Findings.{findings, findings_of};
 
+use crate::alike::form_places;
 use crate::comments::{comments_in, texts_of};
 use crate::commonest::leaders;
 use crate::finding::Finding;
@@ -51,6 +53,7 @@ pub(crate) fn findings_of(
     ensures { IfOk result
         (λ found. found.items ≡ findings_of names.now readers faults.now files.now) }
 {
+    let forms = form_places(alloc, files)?;
     let longer = longer_places(alloc, files)?;
     let comments = comments_in(alloc, files)?;
     let texts = texts_of(alloc, &comments)?;
@@ -58,6 +61,7 @@ pub(crate) fn findings_of(
     let by_text = leaders(alloc, &texts)?;
     let all = AllFiles {
         files,
+        forms: &forms,
         longer: &longer,
         by_comment: &by_comment,
         by_text: &by_text,
@@ -73,6 +77,8 @@ fn findings_by(
     faults: &[ReadFault],
     all: AllFiles<'_, '_, '_>,
 ) -> Result<Vec<Finding>, AllocError>
+    requires forms { (q : List ℕ)
+        → get_by_text all.forms.now q ≡ form_place (all_lines all.files.now) q }
     requires longer { (q : Bor (List ℕ))
         → get_by (λ k. bytes_eq q.now k.now) all.longer.now
         ≡ longer_place (all_lines all.files.now) q.now }

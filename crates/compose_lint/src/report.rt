@@ -56,7 +56,7 @@ pub(crate) fn kind_word(kind: Kind) -> &'static str
         Kind::Prefix(_) => "prefix",
         Kind::Keysym => "keysym",
         Kind::Mark => "mark",
-        Kind::Form => "form",
+        Kind::Form | Kind::Alike(_) => "form",
         Kind::Comment => "comment",
         Kind::Redundant(_) => "redundant",
         Kind::Reader(reader, _) => reader_word(reader),
@@ -91,6 +91,12 @@ pub(crate) fn push_sentence(text: &mut String, row: &Row<'_>) -> Result<(), Allo
             row.paths,
             place,
             " defines a longer sequence that begins with this one, and the longer one is typed",
+        ),
+        Kind::Alike(place) => push_place_sentence(
+            text,
+            row.paths,
+            place,
+            " gives another text that looks like this one, and is not in normal form C",
         ),
         Kind::Redundant(place) => push_place_sentence(
             text,

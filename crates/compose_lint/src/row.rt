@@ -117,8 +117,39 @@ fn faulty_table<'a>(
     ensures { IfOk result
         (λ faulty. faulty ≡ words.with_faults names.now (table_given table.entry)) }
 {
-    let faults = first_faults(alloc, names, table.sources)?;
+    let first = first_faults(alloc, names, table.sources)?;
+    let faults = left_faults(alloc, table.skip_faulty, first)?;
     Ok(FaultyTable { table, faults })
+}
+
+/// The faults, but for those of lines that are left out.
+fn left_faults(
+    alloc: Global,
+    skip_faulty: bool,
+    faults: Vec<ReadFault>,
+) -> Result<Vec<ReadFault>, AllocError>
+    ensures { IfOk result (λ left. left.items ≡ words.left_faults skip_faulty faults.items) }
+{
+    if !skip_faulty {
+        return Ok(faults);
+    }
+    let mut left = Vec::new(alloc);
+    for fault in faults {
+        if is_of_include(&fault) {
+            left.push(fault)?;
+        }
+    }
+    Ok(left)
+}
+
+/// Whether the fault is that of an include, which is in no line by itself.
+fn is_of_include(fault: &ReadFault) -> bool
+    ensures { result ≡ words.is_of_include fault.now }
+{
+    matches!(
+        fault,
+        ReadFault::MissingInclude { .. } | ReadFault::IncludeDepth { .. }
+    )
 }
 
 /// The first faults of a table.

@@ -1,5 +1,5 @@
 //! What is wrong with a text by itself.
-ghost use Rattle.std.specs.Prelude.{◌≡◌, IfOk, bytes_eq, encode_utf8, option_copied};
+ghost use Rattle.std.specs.Prelude.{◌≡◌, IfOk, bytes_eq, encode_utf8, option_copied, string_bytes};
 ghost use Rattle.std.specs.Option.{option_and_then};
 ghost use Rattle.keysym_core.specs.Names.{value, character_of};
 ghost use Rattle.compose_lint.specs.Texts as words;
@@ -9,7 +9,7 @@ use crate::production::Written;
 use keysym_core::Names;
 use std::alloc::{AllocError, Global};
 use unicode_normalization::char::canonical_combining_class;
-use unicode_normalization::is_nfc;
+use unicode_normalization::{is_nfc, to_nfc};
 
 /// Whether the text has one combining mark twice in a row. O(characters).
 pub(crate) fn repeats_mark(text: &str) -> bool
@@ -32,6 +32,13 @@ pub(crate) fn is_normal(alloc: Global, text: &str) -> Result<bool, AllocError>
     ensures { IfOk result (λ is. is ≡ words.is_normal text.now) }
 {
     is_nfc(alloc, text)
+}
+
+/// The text in normal form C. O(characters).
+pub(crate) fn normal_form(alloc: Global, text: &str) -> Result<String, AllocError>
+    ensures { IfOk result (λ form. string_bytes form ≡ words.normal_form text.now) }
+{
+    to_nfc(alloc, text)
 }
 
 /// Whether a string has the name of a keysym beside it that has another character.

@@ -14,14 +14,13 @@ use Rattle.compose_report.specs.declared.outcome.Outcome.{Outcome}
 use Rattle.compose_runs.specs.Checking.{IsCheckRun, IsCheckFilesRun}
 use Rattle.compose_runs.specs.Differing.{IsDiffRun}
 use Rattle.compose_runs.specs.Explaining.{IsExplainRun, IsExplainFilesRun}
-use Rattle.compose_runs.specs.Faults.{FailsType, FailsTableRead, FailsCheck, FailsCheckFiles, FailsMigration, FailsPair, FailsDiffRun, FailsHow, FailsLintRun, FailsMake, FailsMakeFiles, FailsManifestRun}
+use Rattle.compose_runs.specs.Faults.{FailsType, FailsTypeFile, FailsTableRead, FailsCheck, FailsCheckFiles, FailsMigration, FailsPair, FailsDiffRun, FailsHow, FailsLintRun, FailsMake, FailsMakeFiles, FailsManifestRun}
 use Rattle.compose_runs.specs.HowTo.{IsHowRun}
 use Rattle.compose_runs.specs.Linting.{IsLintRun}
 use Rattle.compose_runs.specs.Listing.{IsListRun}
 use Rattle.compose_runs.specs.Making.{IsMakeRun, IsMakeFilesRun}
 use Rattle.compose_runs.specs.Manifest.{IsManifestRun}
 use Rattle.compose_runs.specs.Typing.{IsTypeRun, IsTypeFileRun}
-use Rattle.compose_runs.specs.declared.checking.CheckPaths.{CheckPaths}
 use Rattle.compose_runs.specs.declared.checking.CheckTexts.{CheckTexts}
 use Rattle.compose_runs.specs.declared.environment.Environment.{Environment}
 use Rattle.compose_runs.specs.declared.making.MakeOptions.{MakeOptions}
@@ -40,9 +39,9 @@ abbrev pub AnswersType : Option (List Entry) → Environment → Options → Typ
 AnswersType folder environment options (OneManifest path) keys outcome = IsTypeRun folder options path.now keys outcome
 AnswersType folder environment options (File table) keys outcome = IsTypeFileRun folder environment (names_of options) table keys outcome
 
-abbrev pub FailsToType : Option (List Entry) → Environment → Options → TypeTable → Fault → Type 0
-FailsToType folder environment options (OneManifest path) fault = FailsType folder (names_of options) path.now fault
-FailsToType folder environment options (File table) fault = FailsTableRead folder environment (names_of options) table fault
+abbrev pub FailsToType : Option (List Entry) → Environment → Options → TypeTable → List (List ℕ) → Fault → Type 0
+FailsToType folder environment options (OneManifest path) keys fault = FailsType folder (names_of options) path.now fault
+FailsToType folder environment options (File table) keys fault = FailsTypeFile folder environment (names_of options) table keys fault
 
 abbrev pub AnswersCheck : Option (List Entry) → Environment → Options → BothTables → CheckTexts → Option (List (List ℕ)) → Outcome → Type 0
 AnswersCheck folder environment options (Manifests tables) texts allowed outcome =
@@ -89,7 +88,7 @@ Answers folder environment options (Manifest arguments) outcome = IsManifestRun 
 
 -- the first thing that it was given which can't be read, or is refused; or memory was refused
 abbrev pub Fails : Option (List Entry) → Environment → Options → Question → Fault → Type 0
-Fails folder environment options (Keys table keys) fault = FailsToType folder environment options table fault
+Fails folder environment options (Keys table keys) fault = FailsToType folder environment options table (words keys.items) fault
 Fails folder environment options (Check tables fresh repertoire certificate) fault =
     FailsToCheck folder environment options tables (record { repertoire = repertoire; certificate = certificate }) fault
 Fails folder environment options (Explain tables fresh all) fault = FailsToExplain folder environment options tables fault

@@ -3,7 +3,7 @@ ghost use Rattle.std.specs.Prelude.{◌≡◌, IfOk};
 ghost use Rattle.compose_program.specs.Faults as said;
 ghost use Rattle.compose_program.specs.Faults.{IsFaultInForm};
 
-use compose_arguments::{BothTables, DiffForm, Question, Request, TypeTable};
+use compose_arguments::{BothTables, DiffForm, Question, Request, Served, TypeTable};
 use compose_input::Fault;
 use compose_report::{Outcome, fault_outcome, fault_worded};
 use std::alloc::{AllocError, Global};
@@ -94,7 +94,19 @@ fn is_of_files(request: &Request<'_>) -> bool
     match request {
         Request::Answer(question) => is_answer_on_files(question),
         Request::Update { .. } => true,
-        Request::Serve { .. } | Request::Load(_) | Request::Session(_) => false,
+        Request::Serve { arguments, .. } => is_served_file(&arguments.served),
+        Request::Load(arguments) => is_file(&arguments.new),
+        Request::Session(arguments) => arguments.files,
+    }
+}
+
+/// Whether a Compose file is served.
+fn is_served_file(served: &Served<'_>) -> bool
+    ensures { result ≡ said.is_served_file served.now }
+{
+    match served {
+        Served::Files { table, .. } => is_file(table),
+        Served::State { .. } => false,
     }
 }
 

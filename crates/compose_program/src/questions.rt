@@ -95,7 +95,8 @@ fn run_typing<T: ComposeTable, F: Folder>(
         (λ outcome. AnswersType files.old.holds environment.now options.entry table.now
         (map (λ key. key.now) keys.now) outcome) }
     ensures fault { IfErr result
-        (λ fault. FailsToType files.old.holds environment.now options.entry table.now fault) }
+        (λ fault. FailsToType files.old.holds environment.now options.entry table.now
+        (map (λ key. key.now) keys.now) fault) }
 {
     match table {
         TypeTable::Manifest(path) => run_type::<T, F>(alloc, files, options, *path, keys),

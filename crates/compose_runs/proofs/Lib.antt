@@ -1,5 +1,7 @@
 pub mod Failing
 pub mod Given
+pub mod LeftOut
+pub mod LeftOutOfAll
 pub mod Lent
 pub mod Missing
 pub mod Slashes

@@ -29,7 +29,11 @@ use Rattle.compose_runs.specs.Environment.{wants_color}
 use Rattle.compose_runs.specs.Variables.{Said}
 use Rattle.compose_runs.specs.DiffFiles.{AreDiffFiles}
 use Rattle.compose_runs.specs.Files.{migration_given, notes_of}
+use Rattle.compose_runs.specs.Losing.{lost_notes}
+use Rattle.compose_runs.specs.Skipping.{IsFollowed, IsKeptPair}
 use Rattle.compose_runs.specs.declared.differing.DiffFiles.{DiffFiles}
+use Rattle.compose_runs.specs.declared.files.MigrationFiles.{MigrationFiles}
+use Rattle.compose_runs.specs.declared.skipping.KeptPair.{KeptPair}
 use Rattle.compose_runs.specs.declared.environment.Environment.{Environment}
 
 -- ---- what is asked
@@ -120,18 +124,31 @@ abbrev pub IsDiffPrinted : DiffFiles → DiffArguments → List (List ℕ) → B
 IsDiffPrinted files arguments fresh colored (Ok answer) outcome = ShowsAnswer colored answer fresh outcome
 IsDiffPrinted files arguments fresh colored (Err fault) outcome = IsFaultPrinted files arguments fresh fault outcome
 
--- the answer on these files, printed below the notes on where they lie
-pub record IsDiffOutcome (files : DiffFiles) (arguments : DiffArguments) (fresh : List (List ℕ)) (colored : Bool) (outcome : Outcome) : Type 0 where
+-- what is noted of the lines of these files that other readers lose
+abbrev pub lost_of : MigrationFiles → List ℕ
+lost_of both = lost_notes both.names.lines.items both.old both.new
+
+-- the answer on these files, printed below the notes on where they lie and on the lines that other readers lose
+pub record IsDiffOutcome (files : DiffFiles) (arguments : DiffArguments) (fresh : List (List ℕ)) (colored : Bool) (lost : List ℕ) (outcome : Outcome) : Type 0 where
   pub answered : Result Answer DiffFault
   pub is : AnswersDiff (diff_asked files arguments fresh) answered
   pub printed : Outcome
   pub is_printed : IsDiffPrinted files arguments fresh colored answered printed
-  pub noted : IsNoted (notes_of files.both) printed outcome
+  pub noted : IsNoted (notes_of files.both ++ lost) printed outcome
+
+-- the same on what was read, or on what is left of it without faulty lines, if these are skipped; with what is reported of the lines that are left out
+-- after all else
+pub record IsKeptDiff (found : DiffFiles) (arguments : DiffArguments) (fresh : List (List ℕ)) (colored : Bool) (outcome : Outcome) : Type 0 where
+  pub kept : KeptPair
+  pub is_kept : IsKeptPair arguments.skip_faulty found kept
+  pub printed : Outcome
+  pub is : IsDiffOutcome kept.files arguments fresh colored (lost_of found.both) printed
+  pub followed : IsFollowed (string_bytes kept.skipped) printed outcome
 
 -- the same on the files that the folder has, in this environment
 pub record IsDiffRun (folder : Option (List Entry)) (environment : Environment) (names : List (List ℕ)) (arguments : DiffArguments) (fresh : List (List ℕ)) (outcome : Outcome) : Type 0 where
-  pub files : DiffFiles
-  pub read : AreDiffFiles folder environment names arguments files
+  pub found : DiffFiles
+  pub read : AreDiffFiles folder environment names arguments found
   pub colored : Bool
   pub colors : is_colored environment arguments ≡ Ok colored
-  pub is : IsDiffOutcome files arguments fresh colored outcome
+  pub is : IsKeptDiff found arguments fresh colored outcome

@@ -1,6 +1,6 @@
 -- Why the files of a command can't be read: the first that is refused says it, and those before it are read (this project's profile).
 -- Memory may run out at any time: nothing more is known then.
-use Rattle.std.specs.Prelude.{◌≡◌, ◌⊎◌, ℕ, List, ◌∷◌, ◌++◌, Option, Some, None, Err, option_copied, string_bytes, codes}
+use Rattle.std.specs.Prelude.{◌≡◌, ◌⊎◌, ℕ, List, [], ◌∷◌, ◌++◌, Option, Some, None, Err, IsUtf8, option_copied, string_bytes, codes}
 use Rattle.std.proofs.Common.{Bor}
 use Rattle.compose_folder.specs.Content.{Entry, File, IsHeld}
 use Rattle.compose_model.specs.declared.Rule.TheVariants.{Longest}
@@ -16,6 +16,7 @@ use Rattle.compose_input.specs.Names.{AreNames}
 use Rattle.compose_input.specs.Tables.{IsListed, IsFoundOnSystem}
 use Rattle.compose_input.specs.Texts.{IsRead}
 use Rattle.compose_input.specs.declared.fault.Fault.{Fault}
+use Rattle.compose_input.specs.declared.fault.Fault.TheVariants as faults
 use Rattle.compose_input.specs.declared.fault.Fault.TheVariants.{Word, NoMemory}
 use Rattle.compose_input.specs.declared.names.NameFiles.{NameFiles}
 use Rattle.compose_input.specs.declared.places.Places.{Places}
@@ -145,6 +146,21 @@ FailsTableRead folder environment names arguments fault =
     OrMemory (FailsPlaced environment (table_places arguments)
     (λ places f. FailNames folder (names_or_builtin names) f ⊎ (HasNames folder (names_or_builtin names) × FailsChosenTable folder environment places (option_copied arguments.file) f))) fault
 
+-- standard input is refused, as it is no text, unless memory ran out for saying so
+abbrev pub SaysNoText : Fault → Type 0
+SaysNoText (faults.Refused part why) = (part.now ≡ codes "keys") × (string_bytes why ≡ codes "standard input is not UTF-8")
+SaysNoText faults.NoMemory = Unit {0}
+SaysNoText fault = ⊥
+
+-- memory ran out; or the bytes are no text, and it is said so
+abbrev pub FailsText : List ℕ → Fault → Type 0
+FailsText bytes fault = (fault ≡ NoMemory) ⊎ ((IsUtf8 bytes → ⊥) × SaysNoText fault)
+
+-- of the lists of keys of standard input, which are read where there is no word: it can't be read, or is no text
+abbrev pub FailsLines : Option (List Entry) → List (List ℕ) → Fault → Type 0
+FailsLines folder [] fault = OrMemory (λ f. IsRead folder (45 ∷ []) (Err f) ⊎ ((bytes : List ℕ) × IsHeld folder (45 ∷ []) (File bytes) × FailsText bytes f)) fault
+FailsLines folder (word ∷ words) fault = ⊥
+
 -- of `manifest`: the environment, the table
 abbrev pub FailsManifestRun : Option (List Entry) → Environment → ManifestArguments → Fault → Type 0
 FailsManifestRun folder environment arguments fault =
@@ -152,6 +168,11 @@ FailsManifestRun folder environment arguments fault =
 
 abbrev pub HasTableRead : Option (List Entry) → Environment → List (List ℕ) → TableArguments → Type 0
 HasTableRead folder environment names arguments = (read : TableRead) × IsTableRead folder environment names arguments read
+
+-- of `type` with a Compose file: these, and the lists of keys, where there is no word
+abbrev pub FailsTypeFile : Option (List Entry) → Environment → List (List ℕ) → TableArguments → List (List ℕ) → Fault → Type 0
+FailsTypeFile folder environment names arguments words fault =
+    OrMemory (λ f. FailsTableRead folder environment names arguments f ⊎ (HasTableRead folder environment names arguments × FailsLines folder words f)) fault
 
 -- of `how`: these, and the repertoire, where one is given
 abbrev pub FailsHow : Option (List Entry) → Environment → List (List ℕ) → HowArguments → Fault → Type 0

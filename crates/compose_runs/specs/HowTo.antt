@@ -17,8 +17,10 @@ use Rattle.compose_listing.specs.declared.how.Ways.{Ways}
 use Rattle.compose_report.specs.declared.outcome.Outcome.{Outcome}
 use Rattle.compose_runs.specs.Listing.{form_of}
 use Rattle.compose_runs.specs.OneTable.{IsTableRead, IsTableOutcome}
+use Rattle.compose_runs.specs.Skipping.{IsFollowed, IsKeptRead}
 use Rattle.compose_runs.specs.declared.environment.Environment.{Environment}
 use Rattle.compose_runs.specs.declared.one_table.TableRead.{TableRead}
+use Rattle.compose_runs.specs.declared.skipping.KeptRead.{KeptRead}
 
 -- ---- what is answered
 
@@ -71,12 +73,21 @@ abbrev pub IsHowOutcome : Bool → TableRead → List ℕ → List ℕ → List 
 IsHowOutcome numbered read repertoire text words (Ok ways) outcome = IsWaysOutcome read repertoire text words ways outcome
 IsHowOutcome numbered read repertoire text words (Err refusal) outcome = IsTableOutcome numbered read [] repertoire text (Err refusal) outcome
 
--- the same on the files that the folder has, in this environment, below the notes on where they lie
+-- the same on what was read, or on what is left of it without faulty lines, if these are skipped; with what is reported of the lines that are left out
+-- after all else
+pub record IsKeptHow (found : TableRead) (arguments : HowArguments) (repertoire : Option (List ℕ)) (words : List (List ℕ)) (outcome : Outcome) : Type 0 where
+  pub kept : KeptRead
+  pub is_kept : IsKeptRead arguments.table.skip_faulty found kept
+  pub answered : Result Ways Refusal
+  pub is : AnswersHow kept.read arguments repertoire words answered
+  pub printed : Outcome
+  pub is_printed : IsHowOutcome arguments.json kept.read (unwrap_or (option_copied arguments.repertoire) []) (unwrap_or repertoire []) words answered printed
+  pub followed : IsFollowed (string_bytes kept.skipped) printed outcome
+
+-- the same on the files that the folder has, in this environment
 pub record IsHowRun (folder : Option (List Entry)) (environment : Environment) (names : List (List ℕ)) (arguments : HowArguments) (words : List (List ℕ)) (outcome : Outcome) : Type 0 where
-  pub read : TableRead
-  pub is_read : IsTableRead folder environment names arguments.table read
+  pub found : TableRead
+  pub is_read : IsTableRead folder environment names arguments.table found
   pub repertoire : Option (List ℕ)
   pub is_repertoire : IsGivenText folder (option_copied arguments.repertoire) repertoire
-  pub answered : Result Ways Refusal
-  pub is : AnswersHow read arguments repertoire words answered
-  pub printed : IsHowOutcome arguments.json read (unwrap_or (option_copied arguments.repertoire) []) (unwrap_or repertoire []) words answered outcome
+  pub is : IsKeptHow found arguments repertoire words outcome

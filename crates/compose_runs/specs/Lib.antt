@@ -12,10 +12,13 @@ pub mod DiffFiles
 pub mod Differing
 pub mod Faults
 pub mod OneTable
+pub mod GivenTable
 pub mod Reports
 pub mod WrittenKeys
 pub mod Listing
+pub mod Losing
 pub mod HowTo
 pub mod Stored
 pub mod Updating
 pub mod Linting
+pub mod Skipping

@@ -29,6 +29,8 @@ use Rattle.compose_report.specs.declared.outcome.Outcome.{Outcome}
 use Rattle.compose_runs.specs.DiffFiles.{IsAccepted, names_or_builtin}
 use Rattle.compose_runs.specs.Environment.{IsPlaced}
 use Rattle.compose_runs.specs.Own.{IsChosen}
+use Rattle.compose_runs.specs.Skipping.{IsFollowed}
+use Rattle.compose_skipped.specs.Reported.{report_text}
 use Rattle.compose_runs.specs.declared.environment.Environment.{Environment}
 use Rattle.compose_runs.specs.declared.environment.PlaceArguments.{PlaceArguments}
 use Rattle.compose_runs.specs.declared.linting.LintFiles.{LintFiles}
@@ -81,13 +83,13 @@ form_of true json = AcceptList
 form_of false true = Json
 form_of false false = Lines
 
-abbrev pub table_of : ReadTable → Table
-table_of read = record { sources = read.table.sources; paths = map string_bytes read.table.paths.items }
+abbrev pub table_of : Bool → ReadTable → Table
+table_of skip_faulty read = record { sources = read.table.sources; paths = map string_bytes read.table.paths.items; skip_faulty = skip_faulty }
 
 abbrev pub lint_asked : LintFiles → LintArguments → Asked
 lint_asked files arguments = record {
   header = files.names.lines.items;
-  tables = map table_of files.tables.items;
+  tables = map (table_of arguments.skip_faulty) files.tables.items;
   readers = readers_of arguments.readers.items;
   is_all = arguments.all;
   accepted = files.accepted.items;
@@ -122,13 +124,24 @@ IsLintPrinted files arguments (Err (Accept fault)) outcome = IsLintAcceptRefusal
 abbrev pub notes_in : List ReadTable → List ℕ
 notes_in tables = flat_map (λ (read : ReadTable). string_bytes read.file.note) tables
 
--- the answer on these files, printed below the notes
+-- the faulty lines of these tables by the names of a header, and how many they are
+abbrev pub report_in : List ℕ → List ReadTable → List ℕ
+report_in header tables = report_text header (map (λ (read : ReadTable). read.table) tables)
+
+-- the same, if they are left out
+abbrev pub skipped_lines : Bool → LintFiles → List ℕ
+skipped_lines true files = report_in files.names.lines.items files.tables.items
+skipped_lines false files = []
+
+-- the answer on these files, printed below the notes, with what is reported of the lines that are left out after all else
 pub record IsLintOutcome (files : LintFiles) (arguments : LintArguments) (outcome : Outcome) : Type 0 where
   pub answered : Result Answer LintFault
   pub is : AnswersLint (lint_asked files arguments) answered
   pub printed : Outcome
   pub is_printed : IsLintPrinted files arguments answered printed
-  pub noted : IsNoted (notes_in files.tables.items) printed outcome
+  pub noted : Outcome
+  pub is_noted : IsNoted (notes_in files.tables.items) printed noted
+  pub followed : IsFollowed (skipped_lines arguments.skip_faulty files) noted outcome
 
 -- the same on the files that the folder has, in this environment
 pub record IsLintRun (folder : Option (List Entry)) (environment : Environment) (names : List (List ℕ)) (arguments : LintArguments) (outcome : Outcome) : Type 0 where

@@ -18,8 +18,10 @@ use Rattle.compose_listing.specs.declared.form.ListOrder.{ListOrder}
 use Rattle.compose_listing.specs.declared.form.ListOrder.TheVariants.{Keys, Text, File}
 use Rattle.compose_report.specs.declared.outcome.Outcome.{Outcome}
 use Rattle.compose_runs.specs.OneTable.{IsTableRead, IsTableOutcome}
+use Rattle.compose_runs.specs.Skipping.{IsFollowed, IsKeptRead}
 use Rattle.compose_runs.specs.declared.environment.Environment.{Environment}
 use Rattle.compose_runs.specs.declared.one_table.TableRead.{TableRead}
+use Rattle.compose_runs.specs.declared.skipping.KeptRead.{KeptRead}
 
 -- ---- what is asked
 
@@ -59,10 +61,19 @@ AnswersList false = AnswersSequences
 
 -- ---- what is printed
 
--- the answer on the files that the folder has, in this environment, below the notes on where they lie
-pub record IsListRun (folder : Option (List Entry)) (environment : Environment) (names : List (List ℕ)) (arguments : ListArguments) (outcome : Outcome) : Type 0 where
-  pub read : TableRead
-  pub is_read : IsTableRead folder environment names arguments.table read
+-- the answer on what was read, or on what is left of it without faulty lines, if these are skipped; below the notes on where the files lie, and with
+-- what is reported of the lines that are left out after all else
+pub record IsListOutcome (found : TableRead) (arguments : ListArguments) (outcome : Outcome) : Type 0 where
+  pub kept : KeptRead
+  pub is_kept : IsKeptRead arguments.table.skip_faulty found kept
   pub answered : Result Answer Refusal
-  pub is : AnswersList arguments.next read arguments answered
-  pub printed : IsTableOutcome arguments.json read (map (λ key. key.now) arguments.prefix.items) [] [] answered outcome
+  pub is : AnswersList arguments.next kept.read arguments answered
+  pub printed : Outcome
+  pub is_printed : IsTableOutcome arguments.json kept.read (map (λ key. key.now) arguments.prefix.items) [] [] answered printed
+  pub followed : IsFollowed (string_bytes kept.skipped) printed outcome
+
+-- the same on the files that the folder has, in this environment
+pub record IsListRun (folder : Option (List Entry)) (environment : Environment) (names : List (List ℕ)) (arguments : ListArguments) (outcome : Outcome) : Type 0 where
+  pub found : TableRead
+  pub is_read : IsTableRead folder environment names arguments.table found
+  pub is : IsListOutcome found arguments outcome

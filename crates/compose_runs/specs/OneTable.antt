@@ -19,6 +19,7 @@ use Rattle.compose_runs.specs.Own.{IsChosen}
 use Rattle.compose_runs.specs.declared.environment.Environment.{Environment}
 use Rattle.compose_runs.specs.declared.environment.PlaceArguments.{PlaceArguments}
 use Rattle.compose_runs.specs.declared.one_table.ChosenFile.{ChosenFile}
+use Rattle.compose_runs.specs.declared.one_table.NotedTable.{NotedTable}
 use Rattle.compose_runs.specs.declared.one_table.TableRead.{TableRead}
 
 -- overlaps are refused where that is asked for
@@ -29,15 +30,19 @@ rule_unless false = Longest
 abbrev pub table_places : TableArguments → PlaceArguments
 table_places arguments = record { system = arguments.system; locale = arguments.locale; root = arguments.root }
 
--- the names, and the Compose file that is given, or else the user's, with what is noted of where they lie
+-- the Compose file that is given, or else the user's, with what is noted of where its files lie
+pub record IsNotedTable (folder : Option (List Entry)) (environment : Environment) (places : Places) (arguments : TableArguments) (read : NotedTable) : Type 0 where
+  pub file : ChosenFile
+  pub is_file : IsChosen folder environment places (option_copied arguments.file) file
+  pub is_table : IsFoundOnSystem folder places (string_bytes file.path) (rule_unless arguments.refuse_overlaps) read.table
+  pub noted : string_bytes read.notes ≡ string_bytes file.note ++ string_bytes read.table.note
+
+-- the names, and that table
 pub record IsTableRead (folder : Option (List Entry)) (environment : Environment) (names : List (List ℕ)) (arguments : TableArguments) (read : TableRead) : Type 0 where
   pub places : Places
   pub are_places : IsPlaced environment (table_places arguments) places
   pub are_names : AreNames folder (names_or_builtin names) read.names
-  pub file : ChosenFile
-  pub is_file : IsChosen folder environment places (option_copied arguments.file) file
-  pub is_table : IsFoundOnSystem folder places (string_bytes file.path) (rule_unless arguments.refuse_overlaps) read.table
-  pub notes : string_bytes read.notes ≡ string_bytes file.note ++ string_bytes read.table.note
+  pub is : IsNotedTable folder environment places arguments (record { table = read.table; notes = read.notes })
 
 -- there is no answer
 abbrev pub is_refused : Result Answer Refusal → Bool

@@ -1,6 +1,7 @@
 -- What `type` prints (this project's profile).
-use Rattle.std.specs.Prelude.{ℕ, Bool, false, List, [], ◌∷◌, map, Option, Result}
-use Rattle.compose_folder.specs.Content.{Entry}
+use Rattle.std.specs.Prelude.{◌≡◌, ℕ, Bool, false, List, [], ◌∷◌, flat_map, length, map, Option, Some, None, Result, string_bytes}
+use Rattle.std.specs.Str.Lines.{lines}
+use Rattle.compose_folder.specs.Content.{Entry, File, IsHeld}
 use Rattle.compose_input.specs.Names.{AreNames}
 use Rattle.compose_input.specs.Tables.{IsListed, sources_of}
 use Rattle.compose_input.specs.declared.names.NameFiles.{NameFiles}
@@ -9,18 +10,21 @@ use Rattle.compose_answer.specs.Parts.{type_parts}
 use Rattle.compose_answer.specs.Refused.{Gives}
 use Rattle.compose_answer.specs.declared.answer.Answer.{Answer}
 use Rattle.compose_answer.specs.declared.refusal.Refusal.{Refusal}
-use Rattle.compose_tool.specs.Answers.{IsTyped}
+use Rattle.compose_tool.specs.Answers.{AreListsTyped, IsTyped}
 use Rattle.compose_details.specs.Given.{IsGiven, parts_of}
 use Rattle.compose_details.specs.declared.given.Given.{Given}
 use Rattle.compose_report.specs.Outcomes.{IsReported}
 use Rattle.compose_report.specs.declared.outcome.Outcome.{Outcome}
 use Rattle.keysym_core.specs.Header.{names_of}
 use Rattle.compose_arguments.specs.declared.table_arguments.TableArguments.{TableArguments}
+use Rattle.compose_key_lists.specs.Lists.{refused_line, words_in}
 use Rattle.compose_runs.specs.OneTable.{IsTableRead, IsTableOutcome}
+use Rattle.compose_runs.specs.Skipping.{IsFollowed, IsKeptRead}
 use Rattle.compose_runs.specs.WrittenKeys.{AreWritten}
 use Rattle.compose_runs.specs.declared.environment.Environment.{Environment}
 use Rattle.compose_runs.specs.declared.one_table.TableRead.{TableRead}
 use Rattle.compose_runs.specs.declared.options.Options.{Options}
+use Rattle.compose_runs.specs.declared.skipping.KeptRead.{KeptRead}
 
 -- the answer on these names and this table, reported
 pub record IsTypeOutcome (verbose : Bool) (names : NameFiles) (table : TableFiles) (keys : List (List ℕ)) (outcome : Outcome) : Type 0 where
@@ -48,8 +52,40 @@ pub record IsTypeFileOutcome (read : TableRead) (words : List (List ℕ)) (outco
   pub is : Gives IsTyped answered (type_parts read.names.lines.items keys (sources_of read.table))
   pub reported : IsTableOutcome false read keys [] [] answered outcome
 
+-- what standard input has, at the path of a hyphen (code 45), if there is no word
+abbrev pub AreGivenLines : Option (List Entry) → List (List ℕ) → Option (List ℕ) → Type 0
+AreGivenLines folder [] (Some lines) = IsHeld folder (45 ∷ []) (File lines)
+AreGivenLines folder [] None = ⊥
+AreGivenLines folder (word ∷ words) lines = lines ≡ None
+
+-- the answer to the lists of keys that these lines write, and after a refusal of a key which line has it
+pub record IsTypeLinesOutcome (read : TableRead) (text : List ℕ) (outcome : Outcome) : Type 0 where
+  pub keys : List (List ℕ)
+  pub are_keys : AreWritten (names_of read.names.lines.items) (flat_map words_in (lines text)) keys
+  pub answered : Result Answer Refusal
+  pub is : Gives (AreListsTyped (map (λ line. length (words_in line)) (lines text))) answered (type_parts read.names.lines.items keys (sources_of read.table))
+  pub printed : Outcome
+  pub reported : IsTableOutcome false read keys [] [] answered printed
+  pub followed : IsFollowed (refused_line (map (λ line. length (words_in line)) (lines text)) answered) printed outcome
+
+-- the answer to the words, or where lines are given, to these
+abbrev pub IsTypedFile : TableRead → List (List ℕ) → Option (List ℕ) → Outcome → Type 0
+IsTypedFile read words None outcome = IsTypeFileOutcome read words outcome
+IsTypedFile read words (Some text) outcome = IsTypeLinesOutcome read text outcome
+
+-- the same on what was read, or on what is left of it without faulty lines, if these are skipped; with what is reported of the lines that are left out
+-- after all else
+pub record IsKeptType (found : TableRead) (skip_faulty : Bool) (words : List (List ℕ)) (text : Option (List ℕ)) (outcome : Outcome) : Type 0 where
+  pub kept : KeptRead
+  pub is_kept : IsKeptRead skip_faulty found kept
+  pub printed : Outcome
+  pub is : IsTypedFile kept.read words text printed
+  pub followed : IsFollowed (string_bytes kept.skipped) printed outcome
+
 -- the same on the files that the folder has, in this environment
 pub record IsTypeFileRun (folder : Option (List Entry)) (environment : Environment) (names : List (List ℕ)) (arguments : TableArguments) (words : List (List ℕ)) (outcome : Outcome) : Type 0 where
-  pub read : TableRead
-  pub is_read : IsTableRead folder environment names arguments read
-  pub is : IsTypeFileOutcome read words outcome
+  pub found : TableRead
+  pub is_read : IsTableRead folder environment names arguments found
+  pub text : Option (List ℕ)
+  pub is_text : AreGivenLines folder words text
+  pub is : IsKeptType found arguments.skip_faulty words text outcome

@@ -1,5 +1,5 @@
 -- Keys as the words of the command line write them where Compose files are given: by their names, or as their characters (this project's profile).
-use Rattle.std.specs.Prelude.{◌≡◌, ℕ, List, [], ◌∷◌, Option, Some, None, Result, Ok, Err}
+use Rattle.std.specs.Prelude.{◌≡◌, ℕ, Bool, true, false, List, [], ◌∷◌, Option, Some, None, Result, Ok, Err}
 use Rattle.keysym_core.specs.Names.{KeysymNames, value}
 use Rattle.keysym_core.specs.Printed.{printed}
 use Rattle.compose_messages.specs.Characters.{IsKeyOfText}
@@ -34,3 +34,8 @@ AreNamed names words keys = ⊥
 abbrev pub AreWritten : Result KeysymNames NameFault → List (List ℕ) → List (List ℕ) → Type 0
 AreWritten (Ok names) words keys = AreNamed names words keys
 AreWritten (Err fault) words keys = keys ≡ words
+
+-- the names of keys that the words are: of Compose files those that they stand for, and else the words themselves
+abbrev pub AreKeyNames : Bool → Result KeysymNames NameFault → List (List ℕ) → List (List ℕ) → Type 0
+AreKeyNames true names words keys = AreWritten names words keys
+AreKeyNames false names words keys = keys ≡ words

@@ -6,12 +6,16 @@ ghost use Rattle.compose_input.specs.Names.{AreNames};
 ghost use Rattle.compose_report.specs.Outcomes.{told_text};
 ghost use Rattle.compose_runs.specs.DiffFiles.{IsAccepted, names_or_builtin};
 ghost use Rattle.compose_runs.specs.Differing as words;
-ghost use Rattle.compose_runs.specs.Differing.{IsAcceptRefusal, IsDiffOutcome, IsDiffPrinted, IsDiffRun, IsFaultPrinted, IsRefusalOutcome, ShowsAnswer, diff_asked};
+ghost use Rattle.compose_runs.specs.Differing.{IsAcceptRefusal, IsDiffOutcome, IsDiffPrinted, IsDiffRun, IsFaultPrinted, IsKeptDiff, IsRefusalOutcome, ShowsAnswer, diff_asked};
 ghost use Rattle.compose_runs.specs.Environment.{GivesColor};
 ghost use Rattle.compose_runs.specs.Faults.{FailsAccepted, FailsDiff, FailsDiffRun};
+ghost use Rattle.compose_runs.specs.Files.{notes_of};
 
 use crate::environment::Environment;
 use crate::files::MigrationFiles;
+use crate::losing::lost_notes;
+use crate::one_table::joined;
+use crate::skipping::{KeptPair, followed};
 use compose_answer::{Answer, Ended, Refusal};
 use compose_arguments::{DiffArguments, DiffColor, DiffForm};
 use compose_details::{Given, GivenTable};
@@ -46,14 +50,33 @@ pub fn run_diff<T: ComposeTable, F: Folder>(
 {
     let colored = is_colored(environment, arguments)?;
     let read = DiffFiles::read(files, alloc, environment, names, arguments)?;
-    Ok(diff_outcome::<T>(alloc, &read, arguments, fresh, colored)?)
+    Ok(kept_outcome::<T>(alloc, read, arguments, fresh, colored)?)
+}
+
+/// The outcome of `diff`, once the files are read: without the faulty lines of both tables, if these are skipped.
+fn kept_outcome<T: ComposeTable>(
+    alloc: Global,
+    files: DiffFiles<'_>,
+    arguments: &DiffArguments<'_>,
+    fresh: &[&str],
+    colored: bool,
+) -> Result<Outcome, AllocError>
+    ensures { IfOk result
+        (λ outcome. IsKeptDiff files.entry arguments.now (map (λ name. name.now) fresh.now)
+        colored outcome) }
+{
+    let lost = lost_of(alloc, &files.both)?;
+    let kept = KeptPair::of(alloc, arguments.skip_faulty, files)?;
+    let KeptPair { files, skipped } = kept;
+    let printed = diff_outcome::<T>(alloc, &files, arguments, fresh, colored, lost)?;
+    followed(printed, &skipped)
 }
 
 /// What a comparison of two tables is read from.
 #[derive(Drop)]
-struct DiffFiles<'n> {
-    both: MigrationFiles<'n>,
-    accepted: Vec<u8>,
+pub(crate) struct DiffFiles<'n> {
+    pub(crate) both: MigrationFiles<'n>,
+    pub(crate) accepted: Vec<u8>,
 }
 
 impl<'n> DiffFiles<'n> {
@@ -158,21 +181,39 @@ fn is_colored(environment: &Environment, arguments: &DiffArguments<'_>) -> Resul
     }
 }
 
-/// The outcome of `diff`, once the files are read.
+/// The outcome of `diff` on these files, with notes on the lines that other readers lose.
 fn diff_outcome<T: ComposeTable>(
     alloc: Global,
     files: &DiffFiles<'_>,
     arguments: &DiffArguments<'_>,
     fresh: &[&str],
     colored: bool,
+    lost: String,
 ) -> Result<Outcome, AllocError>
     ensures { IfOk result
         (λ outcome. IsDiffOutcome files.now arguments.now (map (λ name. name.now) fresh.now)
-        colored outcome) }
+        colored (string_bytes lost) outcome) }
 {
     let answered = diff_answer::<T>(alloc, files, arguments, fresh);
     let printed = printed_outcome(alloc, files, arguments, fresh, colored, answered)?;
-    Ok(printed.with_notes(files.both.notes(alloc)?))
+    let notes = diff_notes(alloc, &files.both, lost)?;
+    Ok(printed.with_notes(notes))
+}
+
+/// Notes on the lines of these files that other readers lose.
+fn lost_of(alloc: Global, both: &MigrationFiles<'_>) -> Result<String, AllocError>
+    ensures { IfOk result (λ notes. string_bytes notes ≡ words.lost_of both.now) }
+{
+    lost_notes(alloc, &both.names.lines, &both.old, &both.new)
+}
+
+/// Notes on where the files lie, and then these.
+fn diff_notes(alloc: Global, both: &MigrationFiles<'_>, lost: String) -> Result<String, AllocError>
+    ensures { IfOk result
+        (λ notes. string_bytes notes ≡ notes_of both.now ++ string_bytes lost) }
+{
+    let places = both.notes(alloc)?;
+    joined(alloc, &places, &lost)
 }
 
 /// The outcome of what is answered, or refused, on these files, without notes.

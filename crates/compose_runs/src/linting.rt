@@ -12,6 +12,7 @@ ghost use Rattle.compose_runs.specs.Linting.{AreReadTables, IsLintAcceptRefusal,
 use crate::differing::{read_accepted, read_names};
 use crate::environment::{Environment, PlaceArguments};
 use crate::one_table::{ChosenFile, file_or_own};
+use crate::skipping::followed;
 use compose_answer::{Answer, Ended, Refusal};
 use compose_arguments::LintArguments;
 use compose_details::Given;
@@ -23,6 +24,7 @@ use compose_messages::{FileMessage, Message, Position};
 use compose_model::Rule;
 use compose_read::Sources;
 use compose_report::{Outcome, outcome_with, told_text, worded_refusal};
+use compose_skipped::Report;
 use std::alloc::{AllocError, Global};
 use std::marker::Model;
 
@@ -206,7 +208,36 @@ fn lint_outcome(
 {
     let answered = lint_answer(alloc, files, arguments);
     let printed = printed_outcome(alloc, files, arguments, answered)?;
-    Ok(printed.with_notes(notes_of(alloc, &files.tables)?))
+    let noted = printed.with_notes(notes_of(alloc, &files.tables)?);
+    let skipped = skipped_lines(alloc, files, arguments.skip_faulty)?;
+    followed(noted, &skipped)
+}
+
+/// What is reported of the lines that are left out, if faulty lines are skipped.
+fn skipped_lines(
+    alloc: Global,
+    files: &LintFiles<'_>,
+    skip_faulty: bool,
+) -> Result<String, AllocError>
+    ensures { IfOk result
+        (λ text. string_bytes text ≡ words.skipped_lines skip_faulty files.now) }
+{
+    if !skip_faulty {
+        return Ok(String::new(alloc));
+    }
+    skipped_report(alloc, &files.names.lines, &files.tables)
+}
+
+/// A line for each faulty line of the tables, in their order, and a last one that counts them.
+fn skipped_report(alloc: Global, header: &[u8], tables: &[ReadTable]) -> Result<String, AllocError>
+    ensures { IfOk result
+        (λ text. string_bytes text ≡ words.report_in header.now tables.now) }
+{
+    let mut report = Report::new(alloc);
+    for read in tables {
+        report.push(alloc, header, &read.table)?;
+    }
+    report.into_text()
 }
 
 /// The lines that note the files that were not given.
@@ -228,7 +259,7 @@ fn lint_answer(
 ) -> Result<Answer, LintFault>
     ensures { AnswersLint (lint_asked files.now arguments.now) result }
 {
-    let pathed = with_paths(alloc, &files.tables)?;
+    let pathed = with_paths(alloc, arguments.skip_faulty, &files.tables)?;
     let tables = tables_in(alloc, &pathed)?;
     lint_tables(alloc, &input_of(files, arguments, &tables))
 }
@@ -256,11 +287,12 @@ fn input_of<'a>(
     }
 }
 
-/// The sources of a table, and the paths of their files.
+/// The sources of a table, the paths of their files, and whether its faulty lines are left out.
 #[derive(Drop)]
 struct PathedTable<'a> {
     sources: &'a Sources,
     paths: Vec<&'a str>,
+    skip_faulty: bool,
 }
 
 impl<'a> Model for PathedTable<'a> {
@@ -272,6 +304,7 @@ impl<'a> Model for PathedTable<'a> {
     ghost view = { λ t. record {
       sources = t.sources.now;
       paths = map (λ path. path.now) t.paths.items;
+      skip_faulty = t.skip_faulty;
     } };
 }
 
@@ -285,29 +318,40 @@ impl<'a> PathedTable<'a> {
         LintTable {
             sources: self.sources,
             paths: &self.paths,
+            skip_faulty: self.skip_faulty,
         }
     }
 }
 
 /// The tables with the paths of their files.
-fn with_paths(alloc: Global, tables: &[ReadTable]) -> Result<Vec<PathedTable<'_>>, AllocError>
-    ensures { IfOk result (λ pathed. pathed.items ≡ map words.table_of tables.now) }
+fn with_paths(
+    alloc: Global,
+    skip_faulty: bool,
+    tables: &[ReadTable],
+) -> Result<Vec<PathedTable<'_>>, AllocError>
+    ensures { IfOk result
+        (λ pathed. pathed.items ≡ map (words.table_of skip_faulty) tables.now) }
 {
     let mut pathed = Vec::new(alloc);
     for read in tables {
-        pathed.push(with_own_paths(alloc, read)?)?;
+        pathed.push(with_own_paths(alloc, skip_faulty, read)?)?;
     }
     Ok(pathed)
 }
 
 /// A table with the paths of its files.
-fn with_own_paths(alloc: Global, read: &ReadTable) -> Result<PathedTable<'_>, AllocError>
-    ensures { IfOk result (λ pathed. pathed ≡ words.table_of read.now) }
+fn with_own_paths(
+    alloc: Global,
+    skip_faulty: bool,
+    read: &ReadTable,
+) -> Result<PathedTable<'_>, AllocError>
+    ensures { IfOk result (λ pathed. pathed ≡ words.table_of skip_faulty read.now) }
 {
     let paths = read.table.path_texts(alloc)?;
     Ok(PathedTable {
         sources: &read.table.sources,
         paths,
+        skip_faulty,
     })
 }
 

@@ -7,12 +7,13 @@ ghost use Rattle.compose_listing.specs.Wanted as wanted_words;
 ghost use Rattle.compose_input.specs.Tables.{sources_of};
 ghost use Rattle.compose_runs.specs.Faults.{FailsAccepted, FailsHow, FailsTableRead};
 ghost use Rattle.compose_runs.specs.HowTo as how_words;
-ghost use Rattle.compose_runs.specs.HowTo.{AnswersHow, HasErrors, IsGivenText, IsHowOutcome, IsHowRun, IsWaysOutcome};
+ghost use Rattle.compose_runs.specs.HowTo.{AnswersHow, HasErrors, IsGivenText, IsHowOutcome, IsHowRun, IsKeptHow, IsWaysOutcome};
 ghost use Rattle.compose_runs.specs.Listing as words;
-ghost use Rattle.compose_runs.specs.Listing.{AnswersList, AnswersNext, AnswersSequences, IsListRun, list_parts};
+ghost use Rattle.compose_runs.specs.Listing.{AnswersList, AnswersNext, AnswersSequences, IsListOutcome, IsListRun, list_parts};
 
 use crate::environment::Environment;
 use crate::one_table::TableRead;
+use crate::skipping::{KeptRead, followed};
 use compose_answer::{Answer, Refusal};
 use compose_arguments::{HowArguments, ListArguments, ListSort};
 use compose_folder::{Folder, ReadOnce};
@@ -45,8 +46,22 @@ pub fn run_list<T: ComposeTable, F: Folder>(
         (map (λ name. name.now) names.now) arguments.now.table fault) }
 {
     let read = TableRead::read(alloc, files, environment, names, &arguments.table)?;
+    Ok(list_outcome::<T>(alloc, read, arguments)?)
+}
+
+/// The outcome of `list`, once the files are read.
+fn list_outcome<T: ComposeTable>(
+    alloc: Global,
+    read: TableRead<'_>,
+    arguments: &ListArguments<'_>,
+) -> Result<Outcome, AllocError>
+    ensures { IfOk result (λ outcome. IsListOutcome read.entry arguments.now outcome) }
+{
+    let kept = KeptRead::of(alloc, arguments.table.skip_faulty, read)?;
+    let KeptRead { read, skipped } = kept;
     let answered = list_answer::<T>(alloc, &read, arguments);
-    Ok(read.outcome::<T>(alloc, arguments.json, &arguments.prefix, "", &[], answered)?)
+    let printed = read.outcome::<T>(alloc, arguments.json, &arguments.prefix, "", &[], answered)?;
+    followed(printed, &skipped)
 }
 
 /// The sequences of the table, or the keys that can follow.
@@ -179,9 +194,28 @@ pub fn run_how<T: ComposeTable, F: Folder>(
 {
     let read = TableRead::read(alloc, files, environment, names, &arguments.table)?;
     let repertoire = read_given(alloc, files, arguments.repertoire)?;
-    let answered = how_answer::<T>(alloc, &read, arguments, &repertoire, words);
-    let text = held_text(&repertoire);
-    Ok(how_outcome::<T>(alloc, read, arguments, text, words, answered)?)
+    Ok(kept_how_outcome::<T>(alloc, read, arguments, &repertoire, words)?)
+}
+
+/// The outcome of `how`, once the files are read.
+fn kept_how_outcome<T: ComposeTable>(
+    alloc: Global,
+    read: TableRead<'_>,
+    arguments: &HowArguments<'_>,
+    repertoire: &Option<Vec<u8>>,
+    words: &[&str],
+) -> Result<Outcome, AllocError>
+    ensures { IfOk result
+        (λ outcome. IsKeptHow read.entry arguments.now
+        (option_map (λ held. held.items) repertoire.now) (map (λ word. word.now) words.now)
+        outcome) }
+{
+    let kept = KeptRead::of(alloc, arguments.table.skip_faulty, read)?;
+    let KeptRead { read, skipped } = kept;
+    let answered = how_answer::<T>(alloc, &read, arguments, repertoire, words);
+    let text = held_text(repertoire);
+    let printed = how_outcome::<T>(alloc, read, arguments, text, words, answered)?;
+    followed(printed, &skipped)
 }
 
 /// The bytes of the file at this path, if one is given.

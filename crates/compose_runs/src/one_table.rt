@@ -2,9 +2,9 @@
 ghost use Rattle.std.specs.Prelude.{◌≡◌, ◌||◌, ◌++◌, None, Ok, map, option_copied, IfOk, IfErr, string_bytes};
 ghost use Rattle.compose_runs.specs.Environment as said;
 ghost use Rattle.compose_runs.specs.Environment.{GivesPlaces};
-ghost use Rattle.compose_runs.specs.Faults.{FailsChosen};
+ghost use Rattle.compose_runs.specs.Faults.{FailsChosen, FailsChosenTable, OrMemory};
 ghost use Rattle.compose_runs.specs.OneTable as words;
-ghost use Rattle.compose_runs.specs.OneTable.{table_places, rule_unless};
+ghost use Rattle.compose_runs.specs.OneTable.{IsNotedTable, table_places, rule_unless};
 ghost use Rattle.compose_runs.specs.Own as own;
 ghost use Rattle.compose_runs.specs.Own.{IsChosen, IsOwnFile, own_note};
 
@@ -21,6 +21,14 @@ use compose_shown::Shown;
 use compose_tree::ComposeTable;
 use compose_user::{UserFolders, first_file, user_paths};
 use std::alloc::{AllocError, Global};
+
+/// The files of a table, and notes on where they lie.
+#[derive(Drop)]
+pub struct NotedTable {
+    pub table: TableFiles,
+    /// The notes, in lines.
+    pub notes: String,
+}
 
 /// The files of names, those of a Compose file, and notes on where they lie.
 #[derive(Drop)]
@@ -52,10 +60,8 @@ impl<'n> TableRead<'n> {
     {
         let places = places_of(environment, arguments)?;
         let names = read_names(files, alloc, names)?;
-        let file = file_or_own(alloc, files, environment, places, arguments.file)?;
-        let rule = rule_of(arguments);
-        let table = TableFiles::found(files, alloc, places, &file.path, rule)?;
-        let notes = joined(alloc, &file.note, &table.note)?;
+        let found = chosen_table(alloc, files, environment, places, arguments)?;
+        let NotedTable { table, notes } = found;
         Ok(TableRead {
             names,
             table,
@@ -91,8 +97,8 @@ impl<'n> TableRead<'n> {
     }
 }
 
-/// Whether there is no answer.
-pub(crate) fn is_refused(answered: &Result<Answer, Refusal>) -> bool
+/// Whether there is no answer. O(1).
+pub fn is_refused(answered: &Result<Answer, Refusal>) -> bool
     ensures { result ≡ words.is_refused answered.now }
 {
     match answered {
@@ -117,8 +123,30 @@ pub(crate) fn joined(alloc: Global, first: &str, second: &str) -> Result<String,
     Ok(text)
 }
 
+/// The Compose file at these places as it lies on the system; if none is given, that of the user, which is noted first.
+pub(crate) fn chosen_table<F: Folder>(
+    alloc: Global,
+    files: &mut ReadOnce<F>,
+    environment: &Environment,
+    places: Places<'_>,
+    arguments: &TableArguments<'_>,
+) -> Result<NotedTable, Fault>
+    ensures kept { files.new.holds ≡ files.old.holds }
+    ensures read { IfOk result
+        (λ found. IsNotedTable files.old.holds environment.now places.entry arguments.now found) }
+    ensures fault { IfErr result
+        (λ fault. OrMemory (FailsChosenTable files.old.holds environment.now places.entry
+        (option_copied arguments.now.file)) fault) }
+{
+    let file = file_or_own(alloc, files, environment, places, arguments.file)?;
+    let rule = rule_of(arguments);
+    let table = TableFiles::found(files, alloc, places, &file.path, rule)?;
+    let notes = joined(alloc, &file.note, &table.note)?;
+    Ok(NotedTable { table, notes })
+}
+
 /// Where tables lie: as the arguments say, or else the environment.
-fn places_of<'a>(
+pub(crate) fn places_of<'a>(
     environment: &'a Environment,
     arguments: &TableArguments<'a>,
 ) -> Result<Places<'a>, Fault>

@@ -1,20 +1,25 @@
 //! `type`: what happens at keys.
-ghost use Rattle.std.specs.Prelude.{◌≡◌, map, IfOk, IfErr};
-ghost use Rattle.compose_runs.specs.Faults.{FailsTableRead, FailsType};
-ghost use Rattle.compose_runs.specs.Typing.{IsTypeFileOutcome, IsTypeFileRun, IsTypeRun, IsTypeOutcome};
+ghost use Rattle.std.specs.Prelude.{◌≡◌, map, IfOk, IfErr, option_map, string_bytes};
+ghost use Rattle.compose_runs.specs.Faults.{FailsLines, FailsText, FailsType, FailsTypeFile, SaysNoText};
+ghost use Rattle.compose_runs.specs.Typing.{AreGivenLines, IsKeptType, IsTypeFileOutcome, IsTypeFileRun, IsTypeLinesOutcome, IsTypeRun, IsTypeOutcome, IsTypedFile};
 
 use crate::environment::Environment;
 use crate::one_table::TableRead;
 use crate::options::Options;
+use crate::skipping::{KeptRead, followed};
 use crate::written_keys::{borrowed, written_keys};
 use compose_arguments::TableArguments;
 use compose_details::{Given, GivenTable};
 use compose_folder::{Folder, ReadOnce};
-use compose_input::{Fault, NameFiles, TableFiles};
+use compose_input::{Fault, NameFiles, TableFiles, read_text};
+use compose_key_lists::{key_lists, refused_line};
 use compose_report::{Outcome, outcome_of};
-use compose_tool::type_keys;
+use compose_tool::{type_keys, type_lists};
 use compose_tree::ComposeTable;
 use std::alloc::{AllocError, Global};
+
+/// What is said of standard input whose bytes are no text.
+const NO_TEXT: &str = "standard input is not UTF-8";
 
 /// The outcome of `type`: these keys are typed with the table of the manifest at this path. The files of names are read first, then those
 /// of the table. At the cost of reading them and of `type_keys`.
@@ -57,7 +62,8 @@ fn type_outcome<T: ComposeTable>(
 }
 
 /// The outcome of `type` with a Compose file as it lies on the system: of the keys that these words write, by their names or as their
-/// characters. The files of names are read first, then those of the table. At the cost of `find_files` and of `type_keys`.
+/// characters; where there is no word, of the lists of keys that the lines of standard input write. The files of names are read first, then
+/// those of the table, and then standard input. At the cost of `find_files` and of `type_keys` or `type_lists`.
 pub fn run_type_file<T: ComposeTable, F: Folder>(
     alloc: Global,
     files: &mut ReadOnce<F>,
@@ -71,11 +77,85 @@ pub fn run_type_file<T: ComposeTable, F: Folder>(
         (λ outcome. IsTypeFileRun files.old.holds environment.now (map (λ name. name.now) names.now)
         arguments.now (map (λ word. word.now) words.now) outcome) }
     ensures fault { IfErr result
-        (λ fault. FailsTableRead files.old.holds environment.now (map (λ name. name.now) names.now)
-        arguments.now fault) }
+        (λ fault. FailsTypeFile files.old.holds environment.now (map (λ name. name.now) names.now)
+        arguments.now (map (λ word. word.now) words.now) fault) }
 {
     let read = TableRead::read(alloc, files, environment, names, arguments)?;
-    Ok(type_file_outcome::<T>(alloc, read, words)?)
+    let lines = read_lines(alloc, files, words)?;
+    Ok(kept_type_outcome::<T>(alloc, read, arguments.skip_faulty, words, lines)?)
+}
+
+/// What standard input has, if there is no word.
+fn read_lines<F: Folder>(
+    alloc: Global,
+    files: &mut ReadOnce<F>,
+    words: &[&str],
+) -> Result<Option<String>, Fault>
+    ensures kept { files.new.holds ≡ files.old.holds }
+    ensures read { IfOk result
+        (λ lines. AreGivenLines files.old.holds (map (λ word. word.now) words.now)
+        (option_map string_bytes lines)) }
+    ensures fault { IfErr result
+        (λ fault. FailsLines files.old.holds (map (λ word. word.now) words.now) fault) }
+{
+    if words.is_empty() {
+        let bytes = read_text(files, alloc, "-")?;
+        return Ok(Some(text_of(alloc, &bytes)?));
+    }
+    Ok(None)
+}
+
+/// These bytes as a text.
+fn text_of(alloc: Global, bytes: &[u8]) -> Result<String, Fault>
+    ensures text { IfOk result (λ text. string_bytes text ≡ bytes.now) }
+    ensures fault { IfErr result (λ fault. FailsText bytes.now fault) }
+{
+    match str::from_utf8(bytes) {
+        Ok(text) => Ok(String::from_str(alloc, text)?),
+        Err(_) => Err(no_text(alloc)),
+    }
+}
+
+/// That standard input is no text.
+fn no_text(alloc: Global) -> Fault
+    ensures { SaysNoText result }
+{
+    Fault::refused("keys", String::from_str(alloc, NO_TEXT))
+}
+
+/// The outcome of `type` with a Compose file, once it is read: without its faulty lines, if these are skipped.
+fn kept_type_outcome<T: ComposeTable>(
+    alloc: Global,
+    read: TableRead<'_>,
+    skip_faulty: bool,
+    words: &[&str],
+    lines: Option<String>,
+) -> Result<Outcome, AllocError>
+    ensures { IfOk result
+        (λ outcome. IsKeptType read.entry skip_faulty (map (λ word. word.now) words.now)
+        (option_map string_bytes lines) outcome) }
+{
+    let kept = KeptRead::of(alloc, skip_faulty, read)?;
+    let KeptRead { read, skipped } = kept;
+    let printed = typed_outcome::<T>(alloc, read, words, lines)?;
+    followed(printed, &skipped)
+}
+
+/// The outcome of `type` with a Compose file and these lines; where there are none, with these words.
+fn typed_outcome<T: ComposeTable>(
+    alloc: Global,
+    read: TableRead<'_>,
+    words: &[&str],
+    lines: Option<String>,
+) -> Result<Outcome, AllocError>
+    ensures { IfOk result
+        (λ outcome. IsTypedFile read.entry (map (λ word. word.now) words.now)
+        (option_map string_bytes lines) outcome) }
+{
+    match lines {
+        Some(lines) => type_lines_outcome::<T>(alloc, read, &lines),
+        None => type_file_outcome::<T>(alloc, read, words),
+    }
 }
 
 /// The outcome of `type` with a Compose file, once it is read.
@@ -91,4 +171,22 @@ fn type_file_outcome<T: ComposeTable>(
     let keys = borrowed(alloc, &written)?;
     let answered = type_keys::<T>(alloc, &read.names.lines, &keys, &read.table.input());
     read.outcome::<T>(alloc, false, &keys, "", &[], answered)
+}
+
+/// The outcome of `type` with a Compose file and the lists of keys that these lines write, once both are read.
+fn type_lines_outcome<T: ComposeTable>(
+    alloc: Global,
+    read: TableRead<'_>,
+    lines: &str,
+) -> Result<Outcome, AllocError>
+    ensures { IfOk result (λ outcome. IsTypeLinesOutcome read.entry lines.now outcome) }
+{
+    let lists = key_lists(alloc, lines)?;
+    let written = written_keys(alloc, &read.names.lines, &lists.words)?;
+    let keys = borrowed(alloc, &written)?;
+    let table = read.table.input();
+    let answered = type_lists::<T>(alloc, &read.names.lines, &keys, &lists.counts, &table);
+    let line = refused_line(alloc, &lists.counts, &answered)?;
+    let printed = read.outcome::<T>(alloc, false, &keys, "", &[], answered)?;
+    followed(printed, &line)
 }

@@ -2,11 +2,30 @@
 ghost use Rattle.std.specs.Prelude.{◌≡◌, map, IfOk, string_bytes};
 ghost use Rattle.keysym_core.specs.Header.{names_of};
 ghost use Rattle.keysym_core.specs.Printed as words;
-ghost use Rattle.compose_runs.specs.WrittenKeys.{AreNamed, AreWritten, IsNameOfCharacter, IsWritten};
+ghost use Rattle.compose_runs.specs.WrittenKeys.{AreKeyNames, AreNamed, AreWritten, IsNameOfCharacter, IsWritten};
 
 use compose_messages::key_of_text;
 use keysym_core::{Keysym, NameFault, Names};
 use std::alloc::{AllocError, Global};
+
+/// The names of keys that these words are: of Compose files those that the words stand for by the names of this header, as names or as characters,
+/// and else the words themselves. O(bytes + words × log characters).
+pub fn key_names(
+    alloc: Global,
+    are_files: bool,
+    header: &[u8],
+    words: &[&str],
+) -> Result<Vec<String>, AllocError>
+    ensures { IfOk result
+        (λ keys. AreKeyNames are_files (names_of header.now) (map (λ word. word.now) words.now)
+        (map string_bytes keys.items)) }
+{
+    if are_files {
+        written_keys(alloc, header, words)
+    } else {
+        copied(alloc, words)
+    }
+}
 
 /// The names that these words stand for by the names of this header: a word itself where it names a keysym, or else, where it is one character, the
 /// name of the least keysym of this character; any other word itself. O(bytes + words × log characters).
@@ -53,8 +72,8 @@ fn copied(alloc: Global, words: &[&str]) -> Result<Vec<String>, AllocError>
     Ok(keys)
 }
 
-/// These names, lent.
-pub(crate) fn borrowed(alloc: Global, keys: &[String]) -> Result<Vec<&str>, AllocError>
+/// These names, lent. O(names).
+pub fn borrowed(alloc: Global, keys: &[String]) -> Result<Vec<&str>, AllocError>
     ensures { IfOk result
         (λ names. map (λ name. name.now) names.items ≡ map string_bytes keys.now) }
 {

@@ -1,6 +1,7 @@
 -- What `load` and `session` send, and what they print of the replies (this project's profile: docs/PROTOCOL.md).
-use Rattle.std.specs.Prelude.{◌≡◌, ◌⊎◌, ◌<◌, ℕ, Bool, true, false, List, [], ◌∷◌, ◌++◌, map, length, Option, Some, None, option_map, if◌then◌else◌, Result, Ok, Err, codes}
+use Rattle.std.specs.Prelude.{◌≡◌, ◌⊎◌, ◌||◌, not, ◌<◌, ℕ, Bool, true, false, List, [], ◌∷◌, ◌++◌, map, length, Option, Some, None, option_map, if◌then◌else◌, Result, Ok, Err, string_bytes, codes}
 use Rattle.keysym_core.specs.Core.{core_names}
+use Rattle.keysym_core.specs.Header.{names_of}
 use Rattle.compose_folder.specs.Content.{Entry, File, IsHeld}
 use Rattle.compose_model.specs.declared.Rule.{Rule}
 use Rattle.compose_bundle.specs.Bundle.{Bundle, BundleFits, bundle_bytes}
@@ -20,17 +21,20 @@ use Rattle.compose_arguments.specs.declared.client_arguments.SessionArguments.{S
 use Rattle.compose_details.specs.Given.{IsGiven, parts_of}
 use Rattle.compose_details.specs.declared.given.Given.{Given}
 use Rattle.compose_input.specs.Names.{AreNames}
-use Rattle.compose_input.specs.Tables.{IsListed}
 use Rattle.compose_input.specs.Texts.{IsRead}
-use Rattle.compose_input.specs.Faults.{FailNames, FailsListed}
+use Rattle.compose_input.specs.Faults.{FailNames}
 use Rattle.compose_input.specs.declared.fault.Fault.{Fault}
 use Rattle.compose_input.specs.declared.fault.Fault.TheVariants as faults
 use Rattle.compose_input.specs.declared.names.NameFiles.{NameFiles}
 use Rattle.compose_input.specs.declared.tables.TableFiles.{TableFiles}
 use Rattle.compose_report.specs.Exchange.{IsExchangeOutcome}
-use Rattle.compose_report.specs.Outcomes.{IsReported}
+use Rattle.compose_report.specs.Outcomes.{IsNoted, IsWorded}
 use Rattle.compose_report.specs.declared.outcome.Outcome.{Outcome}
-use Rattle.compose_runs.specs.Faults.{OrMemory, HasListed}
+use Rattle.compose_runs.specs.Faults.{OrMemory}
+use Rattle.compose_runs.specs.GivenTable.{FailsGivenTable, HasGivenTable, IsGivenTable, names_for}
+use Rattle.compose_runs.specs.WrittenKeys.{AreKeyNames}
+use Rattle.compose_runs.specs.declared.environment.Environment.{Environment}
+use Rattle.compose_runs.specs.declared.one_table.NotedTable.{NotedTable}
 use Rattle.compose_service_runs.specs.Turns.{Turn, then_turns, turns_of}
 use Rattle.compose_service_runs.specs.declared.client.ClientRequests.{ClientRequests}
 use Rattle.compose_runs.specs.declared.options.Options.{Options}
@@ -41,8 +45,9 @@ use Rattle.compose_runs.specs.declared.options.Options.{Options}
 abbrev pub bundle_of : TableFiles → List ℕ → Bundle
 bundle_of table certificate = record { sources = table.sources; certificate = certificate }
 
--- one request, which loads the bundle by the table's rule
-pub record LoadsTable (table : TableFiles) (certificate : List ℕ) (sent : ClientRequests) : Type 0 where
+-- one request, which loads the bundle by the table's rule, with these notes
+pub record LoadsTable (table : TableFiles) (certificate said : List ℕ) (sent : ClientRequests) : Type 0 where
+  pub notes : string_bytes sent.notes ≡ said
   pub names : sent.names ≡ core_names
   pub request : Request
   pub one : sent.requests.items ≡ request ∷ []
@@ -54,27 +59,27 @@ IsUnsendable bundle (faults.Refused part why) = (part.now ≡ codes "load") × (
 IsUnsendable bundle faults.NoMemory = Unit {0}
 IsUnsendable bundle fault = ⊥
 
--- the table of the manifest, and the certificate, at the paths that are given
-pub record IsLoadRun (folder : Option (List Entry)) (arguments : LoadArguments) (sent : ClientRequests) : Type 0 where
-  pub table : TableFiles
-  pub is_table : IsListed folder arguments.new.now table
+-- the new table, and the certificate at the path that is given, with what is noted of the table
+pub record IsLoadRun (folder : Option (List Entry)) (environment : Environment) (arguments : LoadArguments) (sent : ClientRequests) : Type 0 where
+  pub new : NotedTable
+  pub is_new : IsGivenTable folder environment arguments.new new
   pub certificate : List ℕ
   pub is_certificate : IsHeld folder arguments.certificate.now (File certificate)
-  pub loads : LoadsTable table certificate sent
+  pub loads : LoadsTable new.table certificate (string_bytes new.notes) sent
 
 -- both are read, and no load can carry them
-pub record IsUnsendableLoad (folder : Option (List Entry)) (arguments : LoadArguments) (fault : Fault) : Type 0 where
-  pub table : TableFiles
-  pub is_table : IsListed folder arguments.new.now table
+pub record IsUnsendableLoad (folder : Option (List Entry)) (environment : Environment) (arguments : LoadArguments) (fault : Fault) : Type 0 where
+  pub new : NotedTable
+  pub is_new : IsGivenTable folder environment arguments.new new
   pub certificate : List ℕ
   pub is_certificate : IsHeld folder arguments.certificate.now (File certificate)
-  pub unsendable : IsUnsendable (bundle_of table certificate) fault
+  pub unsendable : IsUnsendable (bundle_of new.table certificate) fault
 
 -- the table, the certificate, the load
-abbrev pub FailsLoad : Option (List Entry) → LoadArguments → Fault → Type 0
-FailsLoad folder arguments fault =
-    OrMemory (λ f. FailsListed folder (codes "new") arguments.new.now f
-    ⊎ ((HasListed folder arguments.new.now × IsRead folder arguments.certificate.now (Err f)) ⊎ IsUnsendableLoad folder arguments f)) fault
+abbrev pub FailsLoad : Option (List Entry) → Environment → LoadArguments → Fault → Type 0
+FailsLoad folder environment arguments fault =
+    OrMemory (λ f. FailsGivenTable folder environment (codes "new") arguments.new f
+    ⊎ ((HasGivenTable folder environment arguments.new × IsRead folder arguments.certificate.now (Err f)) ⊎ IsUnsendableLoad folder environment arguments f)) fault
 
 -- ---- session
 
@@ -87,46 +92,55 @@ pub record IsAsked (keys : List ℕ) (arguments : SessionArguments) (asked : Ask
   pub asks_state : asked.ask ≡ arguments.ask
   pub closes : asked.close ≡ arguments.close
 
--- its requests, in order
+-- its requests, in order; nothing is noted
 pub record AsksSession (n : NamedParts) (arguments : SessionArguments) (sent : ClientRequests) : Type 0 where
+  pub quiet : string_bytes sent.notes ≡ []
   pub names : sent.names ≡ n.names
   pub asked : Asked
   pub is_asked : IsAsked n.keys arguments asked
   pub requests : sent.requests.items ≡ map (asks asked.session) (bodies_of asked)
 
--- a refusal of the names or of the keys, reported
-pub record IsKeysReported (verbose : Bool) (names : NameFiles) (keys : List (List ℕ)) (refusal : Refusal) (outcome : Outcome) : Type 0 where
+-- a refusal of the names or of the keys, with each faulty line where that is asked for, and with `--files` always, and for people
+pub record IsKeysReported (verbose are_files : Bool) (names : NameFiles) (keys : List (List ℕ)) (refusal : Refusal) (outcome : Outcome) : Type 0 where
   pub given : Given
   pub parts : IsGiven (parts_of names keys []) given
-  pub reported : IsReported verbose given (Err refusal) outcome
+  pub worded : IsWorded (not are_files) (verbose || are_files) given (Err refusal) outcome
 
 -- the names or the keys are refused
-abbrev pub IsKeysRefused : Bool → NameFiles → List (List ℕ) → Outcome → Type 0
-IsKeysRefused verbose names keys outcome =
-    (refusal : Refusal) × IsRefused refusal (given_key_names names.lines.items keys) × IsKeysReported verbose names keys refusal outcome
+abbrev pub IsKeysRefused : Bool → Bool → NameFiles → List (List ℕ) → Outcome → Type 0
+IsKeysRefused verbose are_files names keys outcome =
+    (refusal : Refusal) × IsRefused refusal (given_key_names names.lines.items keys) × IsKeysReported verbose are_files names keys refusal outcome
 
--- by these names; or what is printed where they or the keys are refused
-abbrev pub IsSessionOf : Bool → NameFiles → SessionArguments → Result ClientRequests Outcome → Type 0
-IsSessionOf verbose names arguments (Ok sent) = (n : NamedParts) × (given_key_names names.lines.items (map (λ key. key.now) arguments.keys.items) ≡ Ok n) × AsksSession n arguments sent
-IsSessionOf verbose names arguments (Err outcome) = IsKeysRefused verbose names (map (λ key. key.now) arguments.keys.items) outcome
+-- of the keys of these names; or what is printed where the names or the keys are refused
+abbrev pub IsSessionBy : Bool → NameFiles → SessionArguments → List (List ℕ) → Result ClientRequests Outcome → Type 0
+IsSessionBy verbose names arguments keys (Ok sent) = (n : NamedParts) × (given_key_names names.lines.items keys ≡ Ok n) × AsksSession n arguments sent
+IsSessionBy verbose names arguments keys (Err outcome) = IsKeysRefused verbose arguments.files names keys outcome
+
+-- the same of the keys that the words are: with `--files` a key may be written as its character
+pub record IsSessionOf (verbose : Bool) (names : NameFiles) (arguments : SessionArguments) (started : Result ClientRequests Outcome) : Type 0 where
+  pub keys : List (List ℕ)
+  pub are_keys : AreKeyNames arguments.files (names_of names.lines.items) (map (λ key. key.now) arguments.keys.items) keys
+  pub is : IsSessionBy verbose names arguments keys started
 
 -- the same by the names that the folder has
 pub record IsSessionRun (folder : Option (List Entry)) (options : Options) (arguments : SessionArguments) (started : Result ClientRequests Outcome) : Type 0 where
   pub names : NameFiles
-  pub are_names : AreNames folder (map (λ name. name.now) options.names.now) names
+  pub are_names : AreNames folder (names_for arguments.files (map (λ name. name.now) options.names.now)) names
   pub is : IsSessionOf options.verbose names arguments started
 
 -- ---- the exchange
 
--- each request is sent once all before it are answered, and none of them refused; then the report on the replies is printed
+-- each request is sent once all before it are answered, and none of them refused; then the report on the replies is printed, below the notes
 pub record IsExchange (sent : ClientRequests) (before after : Option (List Turn)) (outcome : Outcome) : Type 0 where
   pub replies : List Reply
   pub turns : after ≡ then_turns before (turns_of sent.requests.items replies)
   pub report : Report
   pub is_report : report_of report ≡ reported sent.names sent.requests.items replies
-  pub printed : IsExchangeOutcome report outcome
+  pub printed : Outcome
+  pub is_printed : IsExchangeOutcome report printed
+  pub noted : IsNoted (string_bytes sent.notes) printed outcome
 
 -- ---- why nothing is sent
 
-abbrev pub FailsSession : Option (List Entry) → List (List ℕ) → Fault → Type 0
-FailsSession folder names fault = OrMemory (FailNames folder names) fault
+abbrev pub FailsSession : Option (List Entry) → Bool → List (List ℕ) → Fault → Type 0
+FailsSession folder are_files names fault = OrMemory (FailNames folder (names_for are_files names)) fault

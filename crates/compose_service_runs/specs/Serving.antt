@@ -1,5 +1,7 @@
 -- What `serve` begins with (this project's profile).
-use Rattle.std.specs.Prelude.{◌≡◌, ◌⊎◌, ℕ, Bool, true, false, List, [], ◌∷◌, ◌++◌, map, unwrap_or, Option, Some, None, Result, Ok, Err, string_bytes, codes}
+use Rattle.std.specs.Prelude.{◌≡◌, ◌⊎◌, ◌||◌, ◌&&◌, not, ℕ, Bool, true, false, List, [], ◌∷◌, ◌++◌, map, unwrap_or, Option, Some, None, Result, Ok, Err, string_bytes, codes}
+use Rattle.std.specs.declared.alloc.Global.{Global}
+use Rattle.std.specs.declared.string.String.{String}
 use Rattle.compose_folder.specs.Content.{Entry, File, IsHeld}
 use Rattle.compose_model.specs.declared.Rule.TheVariants.{Longest}
 use Rattle.compose_read.specs.Lines.{Source}
@@ -9,32 +11,47 @@ use Rattle.compose_machine.specs.Machine.{ServiceState}
 use Rattle.compose_answer.specs.declared.answer.Answer.{Answer}
 use Rattle.compose_answer.specs.declared.answer.Answer.TheVariants as answers
 use Rattle.compose_answer.specs.declared.refusal.Refusal.{Refusal}
+use Rattle.compose_arguments.specs.declared.given_tables.TypeTable.{TypeTable}
+use Rattle.compose_arguments.specs.declared.given_tables.TypeTable.TheVariants.{Manifest, File as ComposeFile}
 use Rattle.compose_arguments.specs.declared.serve_arguments.Served.{Served}
 use Rattle.compose_arguments.specs.declared.serve_arguments.Served.TheVariants.{Files, State}
 use Rattle.compose_details.specs.Given.{GivenParts, IsGiven, parts_of}
 use Rattle.compose_details.specs.declared.given.Given.{Given}
 use Rattle.compose_input.specs.Names.{AreNames}
-use Rattle.compose_input.specs.Tables.{IsListed}
 use Rattle.compose_input.specs.declared.tables.TableFiles.{TableFiles}
-use Rattle.compose_report.specs.Outcomes.{IsOutcome, IsReported}
+use Rattle.compose_report.specs.Outcomes.{IsNoted, IsOutcome, IsWorded}
 use Rattle.compose_report.specs.declared.outcome.Outcome.{Outcome}
 use Rattle.compose_serving.specs.Begin.{BeginGives, start_over}
 use Rattle.compose_serving.specs.Fresh.{Allows}
 use Rattle.compose_serving.specs.declared.start.BeginFault.{BeginFault}
 use Rattle.compose_serving.specs.declared.start.BeginFault.TheVariants.{Invalid, Refused}
+use Rattle.compose_runs.specs.GivenTable.{IsGivenTable, names_for}
+use Rattle.compose_runs.specs.OneTable.{is_refused}
 use Rattle.compose_runs.specs.Updating.{builtin}
+use Rattle.compose_runs.specs.declared.environment.Environment.{Environment}
 use Rattle.compose_runs.specs.declared.options.Options.{Options}
 use Rattle.compose_service_runs.specs.declared.serving.KeptBundle.{KeptBundle}
+use Rattle.compose_service_runs.specs.declared.serving.NotedFiles.{NotedFiles}
 use Rattle.compose_service_runs.specs.declared.serving.ServiceFiles.{ServiceFiles}
 
 -- ---- what is read
 
--- the names, the table of the manifest, the repertoire and the certificate at these paths
-pub record AreGivenFiles (folder : Option (List Entry)) (names : List (List ℕ)) (table repertoire certificate : List ℕ) (files : ServiceFiles) : Type 0 where
-  pub are_names : AreNames folder names files.names
-  pub is_table : IsListed folder table files.table
-  pub is_repertoire : IsHeld folder repertoire (File files.repertoire.items)
-  pub is_certificate : IsHeld folder certificate (File files.certificate.items)
+-- a table is given as its Compose file
+abbrev pub is_file : TypeTable → Bool
+is_file (Manifest path) = false
+is_file (ComposeFile arguments) = true
+
+-- a Compose file is served
+abbrev pub is_of_file : Served → Bool
+is_of_file (Files table repertoire certificate) = is_file table
+is_of_file (State state) = false
+
+-- the names, the table, the repertoire and the certificate at these paths, and what is noted of the table
+pub record AreGivenFiles (folder : Option (List Entry)) (environment : Environment) (names : List (List ℕ)) (table : TypeTable) (repertoire certificate : List ℕ) (files : NotedFiles) : Type 0 where
+  pub are_names : AreNames folder (names_for (is_file table) names) files.read.names
+  pub is_table : IsGivenTable folder environment table (record { table = files.read.table; notes = files.notes })
+  pub is_repertoire : IsHeld folder repertoire (File files.read.repertoire.items)
+  pub is_certificate : IsHeld folder certificate (File files.read.certificate.items)
 
 -- where `update` keeps the table in use, in this folder
 abbrev pub kept_path : List ℕ → List ℕ
@@ -59,18 +76,19 @@ pub record IsKeptBundle (path bytes : List ℕ) (kept : KeptBundle) : Type 0 whe
   pub bundle : IsBundle bytes (record { sources = kept.table.sources; certificate = kept.certificate.items })
   pub is_table : IsKeptTable path kept.table
 
--- the built-in names, the table and the certificate of the bundle that is kept, and an empty repertoire
-pub record AreKeptFiles (folder : Option (List Entry)) (path : List ℕ) (files : ServiceFiles) : Type 0 where
-  pub are_names : AreNames folder builtin files.names
+-- the built-in names, the table and the certificate of the bundle that is kept, and an empty repertoire; nothing is noted
+pub record AreKeptFiles (folder : Option (List Entry)) (path : List ℕ) (files : NotedFiles) : Type 0 where
+  pub are_names : AreNames folder builtin files.read.names
   pub bytes : List ℕ
   pub held : IsHeld folder path (File bytes)
-  pub bundle : IsBundle bytes (record { sources = files.table.sources; certificate = files.certificate.items })
-  pub is_table : IsKeptTable path files.table
-  pub repertoire : files.repertoire.items ≡ []
+  pub bundle : IsBundle bytes (record { sources = files.read.table.sources; certificate = files.read.certificate.items })
+  pub is_table : IsKeptTable path files.read.table
+  pub repertoire : files.read.repertoire.items ≡ []
+  pub quiet : string_bytes files.notes ≡ []
 
-abbrev pub AreServiceFiles : Option (List Entry) → List (List ℕ) → Served → ServiceFiles → Type 0
-AreServiceFiles folder names (Files table repertoire certificate) files = AreGivenFiles folder names table.now repertoire.now certificate.now files
-AreServiceFiles folder names (State state) files = AreKeptFiles folder (kept_path state.now) files
+abbrev pub AreServiceFiles : Option (List Entry) → Environment → List (List ℕ) → Served → NotedFiles → Type 0
+AreServiceFiles folder environment names (Files table repertoire certificate) files = AreGivenFiles folder environment names table repertoire.now certificate.now files
+AreServiceFiles folder environment names (State state) files = AreKeptFiles folder (kept_path state.now) files
 
 -- ---- the service that begins
 
@@ -112,25 +130,36 @@ service_given files served fresh = record (parts_of files.names fresh (files.tab
   certificate_text = files.certificate.items;
 }
 
--- the answer or the refusal, with each faulty line of these files
+-- each faulty line is told, and the keys and places of a `no`: where that is asked for, and of a refusal always where a Compose file is served
+abbrev pub wants_details : Bool → Served → Result Answer Refusal → Bool
+wants_details verbose served answered = verbose || (is_of_file served && is_refused answered)
+
+-- the answer or the refusal, with each faulty line of these files; for people where a Compose file is served
 pub record IsStartReported (files : ServiceFiles) (served : Served) (fresh : List (List ℕ)) (answered : Result Answer Refusal) (outcome : Outcome) : Type 0 where
   pub given : Given
   pub parts : IsGiven (service_given files served fresh) given
-  pub reported : IsReported true given answered outcome
+  pub worded : IsWorded (not (is_of_file served)) true given answered outcome
 
--- the answer or the refusal alone, or with each faulty line of the files that the folder has where that is asked for
-abbrev pub IsStartOutcome : Bool → Option (List Entry) → List (List ℕ) → Served → List (List ℕ) → Result Answer Refusal → Outcome → Type 0
-IsStartOutcome false folder names served fresh answered outcome = (own : List ℕ) × IsOutcome own fresh [] answered outcome
-IsStartOutcome true folder names served fresh answered outcome = (files : ServiceFiles) × AreServiceFiles folder names served files × IsStartReported files served fresh answered outcome
+-- the answer or the refusal alone, or with each faulty line of the files that the folder has where that is wanted
+abbrev pub IsStartOutcome : Bool → Option (List Entry) → Environment → List (List ℕ) → Served → List (List ℕ) → Result Answer Refusal → Outcome → Type 0
+IsStartOutcome false folder environment names served fresh answered outcome = (own : List ℕ) × IsOutcome own fresh [] answered outcome
+IsStartOutcome true folder environment names served fresh answered outcome =
+    (files : NotedFiles) × AreServiceFiles folder environment names served files × IsStartReported files.read served fresh answered outcome
 
--- the service that begins with these files, or what is printed where none begins
-abbrev pub IsStarted : Option (List Entry) → Options → Served → Option (List (List ℕ)) → ServiceFiles → Result ServiceState Outcome → Type 0
-IsStarted folder options served allowed files (Ok service) = BeginsAllowing files allowed (Ok service)
-IsStarted folder options served allowed files (Err outcome) =
-    (fault : BeginFault) × BeginsAllowing files allowed (Err fault)
-    × IsStartOutcome options.verbose folder (map (λ name. name.now) options.names.now) served (unwrap_or allowed []) (start_answer fault) outcome
+-- what is printed where no service begins, below the notes
+pub record IsStartRefused (folder : Option (List Entry)) (environment : Environment) (options : Options) (served : Served) (allowed : Option (List (List ℕ))) (files : NotedFiles) (outcome : Outcome) : Type 0 where
+  pub fault : BeginFault
+  pub begins : BeginsAllowing files.read allowed (Err fault)
+  pub printed : Outcome
+  pub is : IsStartOutcome (wants_details options.verbose served (start_answer fault)) folder environment (map (λ name. name.now) options.names.now) served (unwrap_or allowed []) (start_answer fault) printed
+  pub noted : IsNoted (string_bytes files.notes) printed outcome
+
+-- the service that begins with these files, and the notes; or what is printed where none begins
+abbrev pub IsStarted : Option (List Entry) → Environment → Options → Served → Option (List (List ℕ)) → NotedFiles → Result (ServiceState × String Global) Outcome → Type 0
+IsStarted folder environment options served allowed files (Ok (service, notes)) = BeginsAllowing files.read allowed (Ok service) × (string_bytes notes ≡ string_bytes files.notes)
+IsStarted folder environment options served allowed files (Err outcome) = IsStartRefused folder environment options served allowed files outcome
 
 -- the same with the files that the folder has
-abbrev pub IsServiceStart : Option (List Entry) → Options → Served → Option (List (List ℕ)) → Result ServiceState Outcome → Type 0
-IsServiceStart folder options served allowed started =
-    (files : ServiceFiles) × AreServiceFiles folder (map (λ name. name.now) options.names.now) served files × IsStarted folder options served allowed files started
+abbrev pub IsServiceStart : Option (List Entry) → Environment → Options → Served → Option (List (List ℕ)) → Result (ServiceState × String Global) Outcome → Type 0
+IsServiceStart folder environment options served allowed started =
+    (files : NotedFiles) × AreServiceFiles folder environment (map (λ name. name.now) options.names.now) served files × IsStarted folder environment options served allowed files started

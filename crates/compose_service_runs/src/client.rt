@@ -1,11 +1,11 @@
 //! `load` and `session`: what a client of a service sends, and what it prints of the replies.
-ghost use Rattle.std.specs.Prelude.{◌≡◌, [], ◌∷◌, map, Ok, IfOk, IfErr};
+ghost use Rattle.std.specs.Prelude.{◌≡◌, ◌||◌, [], ◌∷◌, map, Ok, IfOk, IfErr, string_bytes};
 ghost use Rattle.keysym_core.specs.Core.{core_names};
 ghost use Rattle.compose_migration.specs.MigrationGives.{named_parts};
 ghost use Rattle.compose_answer.specs.Parts.{given_key_names};
 ghost use Rattle.compose_answer.specs.Refused.{Gives};
 ghost use Rattle.compose_session.specs.Asked.{LoadGives};
-ghost use Rattle.compose_service_runs.specs.Clients.{AsksSession, FailsLoad, FailsSession, IsExchange, IsKeysReported, IsLoadRun, IsSessionOf, IsSessionRun, IsUnsendable, LoadsTable, bundle_of};
+ghost use Rattle.compose_service_runs.specs.Clients.{AsksSession, FailsLoad, FailsSession, IsExchange, IsKeysReported, IsLoadRun, IsSessionBy, IsSessionOf, IsSessionRun, IsUnsendable, LoadsTable, bundle_of};
 ghost use Rattle.compose_service_runs.specs.Turns as words;
 ghost use Rattle.compose_service_runs.specs.Turns.{then_turns, turns_of};
 
@@ -17,47 +17,69 @@ use compose_details::Given;
 use compose_folder::{Folder, ReadOnce};
 use compose_input::{Fault, NameFiles, TableFiles, read_text};
 use compose_migration::Named;
-use compose_report::{Outcome, exchange_outcome, outcome_of};
-use compose_runs::Options;
+use compose_report::{Outcome, exchange_outcome, worded_outcome};
+use compose_runs::{
+    Environment, NotedTable, Options, borrowed, key_names, read_names_for, read_table,
+};
 use compose_session::{Asked, load_request, report_replies, session_requests};
 use compose_tree::ComposeTable;
 use compose_wire::{Answer, Reply, Request};
 use keysym_core::Names;
 use std::alloc::{AllocError, Global};
 
-/// What a client sends, in order, and the names by which it prints keys.
+/// What a client sends, in order, the names by which it prints keys, and what is noted of what it read, in lines.
 #[derive(Drop)]
 pub struct ClientRequests {
+    pub notes: String,
     pub names: Names,
     pub requests: Vec<Request>,
 }
 
-/// The load of the table of the manifest by the certificate, which are read in this order. At the cost of reading them.
+/// The load of the new table by the certificate, which are read in this order, with notes on where the files of the table lie. At the cost of
+/// reading them.
 pub fn run_load<F: Folder>(
     alloc: Global,
     files: &mut ReadOnce<F>,
+    environment: &Environment,
     arguments: &LoadArguments<'_>,
 ) -> Result<ClientRequests, Fault>
     ensures kept { files.new.holds ≡ files.old.holds }
-    ensures sent { IfOk result (λ sent. IsLoadRun files.old.holds arguments.now sent) }
-    ensures fault { IfErr result (λ fault. FailsLoad files.old.holds arguments.now fault) }
+    ensures sent { IfOk result
+        (λ sent. IsLoadRun files.old.holds environment.now arguments.now sent) }
+    ensures fault { IfErr result
+        (λ fault. FailsLoad files.old.holds environment.now arguments.now fault) }
 {
-    let table = TableFiles::listed(files, alloc, "new", arguments.new)?;
+    let new = read_table(alloc, files, environment, "new", &arguments.new)?;
     let certificate = read_text(files, alloc, arguments.certificate)?;
-    load_requests(alloc, &table, &certificate)
+    let NotedTable { table, notes } = new;
+    noted_load(alloc, &table, &certificate, notes)
 }
 
-/// The load of this table by the certificate. O(bytes).
+/// The load of this table by the certificate, with no note. O(bytes).
 pub fn load_requests(
     alloc: Global,
     table: &TableFiles,
     certificate: &[u8],
 ) -> Result<ClientRequests, Fault>
-    ensures sent { IfOk result (λ sent. LoadsTable table.now certificate.now sent) }
+    ensures sent { IfOk result (λ sent. LoadsTable table.now certificate.now [] sent) }
+    ensures fault { IfErr result (λ fault. IsUnsendable (bundle_of table.now certificate.now) fault) }
+{
+    noted_load(alloc, table, certificate, String::new(alloc))
+}
+
+/// The load of this table by the certificate, with these notes.
+fn noted_load(
+    alloc: Global,
+    table: &TableFiles,
+    certificate: &[u8],
+    notes: String,
+) -> Result<ClientRequests, Fault>
+    ensures sent { IfOk result
+        (λ sent. LoadsTable table.now certificate.now (string_bytes notes) sent) }
     ensures fault { IfErr result (λ fault. IsUnsendable (bundle_of table.now certificate.now) fault) }
 {
     let request = request_to_load(alloc, table, certificate)?;
-    Ok(one_request(alloc, request)?)
+    Ok(one_request(alloc, request, notes)?)
 }
 
 /// The request that loads this table by the certificate.
@@ -73,8 +95,9 @@ fn request_to_load(alloc: Global, table: &TableFiles, certificate: &[u8]) -> Res
     }
 }
 
-/// One request without keys.
-fn one_request(alloc: Global, request: Request) -> Result<ClientRequests, AllocError>
+/// One request without keys, with these notes.
+fn one_request(alloc: Global, request: Request, notes: String) -> Result<ClientRequests, AllocError>
+    ensures notes { IfOk result (λ sent. string_bytes sent.notes ≡ string_bytes notes) }
     ensures names { IfOk result (λ sent. sent.names ≡ core_names) }
     ensures one { IfOk result (λ sent. sent.requests.items ≡ request ∷ []) }
 {
@@ -83,7 +106,11 @@ fn one_request(alloc: Global, request: Request) -> Result<ClientRequests, AllocE
     };
     let mut requests = Vec::new(alloc);
     requests.push(request)?;
-    Ok(ClientRequests { names, requests })
+    Ok(ClientRequests {
+        notes,
+        names,
+        requests,
+    })
 }
 
 /// The requests of a session; or the outcome where the names or the keys are refused. At the cost of reading the names.
@@ -97,14 +124,14 @@ pub fn run_session<T: ComposeTable, F: Folder>(
     ensures started { IfOk result
         (λ started. IsSessionRun files.old.holds options.entry arguments.now started) }
     ensures fault { IfErr result
-        (λ fault. FailsSession files.old.holds (map (λ name. name.now) options.entry.names.now)
-        fault) }
+        (λ fault. FailsSession files.old.holds arguments.now.files
+        (map (λ name. name.now) options.entry.names.now) fault) }
 {
-    let names = NameFiles::read(files, alloc, options.names)?;
+    let names = read_names_for(files, alloc, arguments.files, options.names)?;
     Ok(session_of::<T>(alloc, options.verbose, &names, arguments)?)
 }
 
-/// The same by these names.
+/// The same by these names; with `--files` a key may be written as its character.
 fn session_of<T: ComposeTable>(
     alloc: Global,
     verbose: bool,
@@ -113,10 +140,28 @@ fn session_of<T: ComposeTable>(
 ) -> Result<Result<ClientRequests, Outcome>, AllocError>
     ensures { IfOk result (λ started. IsSessionOf verbose names.now arguments.now started) }
 {
-    match read_keys(alloc, &names.lines, &arguments.keys) {
+    let written = key_names(alloc, arguments.files, &names.lines, &arguments.keys)?;
+    let keys = borrowed(alloc, &written)?;
+    session_by::<T>(alloc, verbose, names, arguments, &keys)
+}
+
+/// The same of the keys of these names.
+fn session_by<T: ComposeTable>(
+    alloc: Global,
+    verbose: bool,
+    names: &NameFiles<'_>,
+    arguments: &SessionArguments<'_>,
+    keys: &[&str],
+) -> Result<Result<ClientRequests, Outcome>, AllocError>
+    ensures { IfOk result
+        (λ started. IsSessionBy verbose names.now arguments.now (map (λ key. key.now) keys.now)
+        started) }
+{
+    match read_keys(alloc, &names.lines, keys) {
         Ok(named) => Ok(Ok(requests_of(alloc, named, arguments)?)),
         Err(refusal) => {
-            Ok(Err(keys_outcome::<T>(alloc, verbose, names, &arguments.keys, refusal)?))
+            let are_files = arguments.files;
+            Ok(Err(keys_outcome::<T>(alloc, verbose, are_files, names, keys, refusal)?))
         }
     }
 }
@@ -149,38 +194,51 @@ fn requests_of(
         close: arguments.close,
     };
     let requests = session_requests(alloc, &asked)?;
-    let names = named.names;
-    Ok(ClientRequests { names, requests })
+    Ok(ClientRequests {
+        notes: String::new(alloc),
+        names: named.names,
+        requests,
+    })
 }
 
-/// The outcome where the names or the keys are refused.
+/// The outcome where the names or the keys are refused, with each faulty line where that is asked for, and with `--files` always, and for people.
 fn keys_outcome<T: ComposeTable>(
     alloc: Global,
     verbose: bool,
+    are_files: bool,
     names: &NameFiles<'_>,
     keys: &[&str],
     refusal: Refusal,
 ) -> Result<Outcome, AllocError>
     ensures { IfOk result
-        (λ outcome. IsKeysReported verbose names.now (map (λ key. key.now) keys.now) refusal
-        outcome) }
+        (λ outcome. IsKeysReported verbose are_files names.now (map (λ key. key.now) keys.now)
+        refusal outcome) }
 {
     let given = Given::of(names, keys, &[]);
-    outcome_of::<T>(alloc, verbose, &given, Err(refusal))
+    let detailed = tells_lines(verbose, are_files);
+    worded_outcome::<T>(alloc, !are_files, detailed, &given, Err(refusal))
 }
 
-/// Sends the requests one after another, until one is refused or the other side closes, and gives what is printed of the replies.
+/// Whether each faulty line of a refusal is told: where that is asked for, and with `--files` always.
+fn tells_lines(verbose: bool, are_files: bool) -> bool
+    ensures { result ≡ verbose || are_files }
+{
+    verbose || are_files
+}
+
+/// Sends the requests one after another, until one is refused or the other side closes, and gives what is printed of the replies, below the notes.
 pub fn run_exchange<P: Peer>(
     alloc: Global,
     peer: &mut P,
-    sent: &ClientRequests,
+    sent: ClientRequests,
 ) -> Result<Outcome, Fault>
     ensures { IfOk result
-        (λ outcome. IsExchange sent.now (P.turns peer.old) (P.turns peer.new) outcome) }
+        (λ outcome. IsExchange sent (P.turns peer.old) (P.turns peer.new) outcome) }
 {
     let replies = replies_of(alloc, peer, &sent.requests)?;
     let report = report_replies(alloc, &sent.names, &sent.requests, &replies)?;
-    Ok(exchange_outcome(alloc, report)?)
+    let printed = exchange_outcome(alloc, report)?;
+    Ok(printed.with_notes(sent.notes))
 }
 
 /// The replies to the requests, until one is refused or the other side closes.

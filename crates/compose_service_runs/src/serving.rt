@@ -7,49 +7,60 @@ ghost use Rattle.compose_service_runs.specs.Serving.{AllowsAlone, AreKeptParts, 
 ghost use Rattle.compose_service_runs.specs.ServingFaults.{FailsServe, place_words};
 
 use compose_answer::{Answer, Refusal};
-use compose_arguments::{ServeArguments, Served};
+use compose_arguments::{ServeArguments, Served, TypeTable};
 use compose_bundle::Bundle;
 use compose_details::{Given, GivenTable};
 use compose_folder::{Folder, ReadOnce};
 use compose_input::{Fault, NameFiles, TableFiles, read_text};
 use compose_model::Rule;
 use compose_read::Sources;
-use compose_report::{Outcome, outcome_of, outcome_with};
-use compose_runs::{Options, read_stored};
+use compose_report::{Outcome, outcome_with, worded_outcome};
+use compose_runs::{
+    Environment, NotedTable, Options, is_refused, read_names_for, read_stored, read_table,
+};
 use compose_service::Service;
 use compose_serving::{BeginFault, BeginInput, allow_fresh, begin};
 use compose_tree::ComposeTable;
 use std::alloc::{AllocError, Global};
 
-/// The service that begins with the files that are given, or with the table that is kept in a folder: the names, the table, the repertoire and the
-/// certificate are read in this order. Its loads may list the keysyms of the allowed names alone as fresh, where these are given. Where no service
-/// begins, the outcome says why; with `verbose` the files are read again, of what was read, since the service took their bytes over. At the cost of
-/// reading the files, and of `begin`.
+/// The service that begins with the files that are given, or with the table that is kept in a folder, and notes on where the files of the table lie,
+/// in lines: the names, the table, the repertoire and the certificate are read in this order. Its loads may list the keysyms of the allowed names
+/// alone as fresh, where these are given. Where no service begins, the outcome says why, below the notes; with `verbose`, and of a refusal always
+/// where a Compose file is served, the files are read again, of what was read, since the service took their bytes over. At the cost of reading the
+/// files, and of `begin`.
 pub fn start_service<T: ComposeTable, F: Folder>(
     alloc: Global,
     files: &mut ReadOnce<F>,
+    environment: &Environment,
     options: Options<'_>,
     arguments: &ServeArguments<'_>,
     allowed: Option<&[&str]>,
-) -> Result<Result<Service<T>, Outcome>, Fault>
+) -> Result<Result<(Service<T>, String), Outcome>, Fault>
     ensures kept { files.new.holds ≡ files.old.holds }
     ensures started { IfOk result
-        (λ started. IsServiceStart files.old.holds options.entry arguments.now.served
-        (allowed_names allowed.entry) started) }
+        (λ started. IsServiceStart files.old.holds environment.now options.entry
+        arguments.now.served (allowed_names allowed.entry) started) }
     ensures fault { IfErr result
-        (λ fault. FailsServe files.old.holds (map (λ name. name.now) options.entry.names.now)
-        arguments.now.served fault) }
+        (λ fault. FailsServe files.old.holds environment.now
+        (map (λ name. name.now) options.entry.names.now) arguments.now.served fault) }
 {
-    let read = ServiceFiles::read(files, alloc, options.names, arguments)?;
+    let noted = NotedFiles::read(files, alloc, environment, options.names, arguments)?;
+    let NotedFiles { read, notes } = noted;
     match read.begin_allowing::<T>(alloc, allowed) {
-        Ok(service) => Ok(Ok(service)),
+        Ok(service) => Ok(Ok((service, notes))),
         Err(fault) => {
             let key_names = allowed.unwrap_or(&[]);
             let answered = start_answer(fault);
             let outcome = start_outcome::<T, F>(
-                alloc, files, options, arguments, key_names, answered,
+                alloc,
+                files,
+                environment,
+                options,
+                arguments,
+                key_names,
+                answered,
             )?;
-            Ok(Err(outcome))
+            Ok(Err(outcome.with_notes(notes)))
         }
     }
 }
@@ -63,23 +74,31 @@ struct ServiceFiles<'n> {
     certificate: Vec<u8>,
 }
 
-impl<'n> ServiceFiles<'n> {
-    ghost use Rattle.compose_service_runs.specs.Serving.{AreGivenFiles, AreKeptFiles, AreServiceFiles, Begins, BeginsAllowing, kept_path};
+/// The files of a service, and notes on where those of its table lie, in lines.
+#[derive(Drop)]
+struct NotedFiles<'n> {
+    read: ServiceFiles<'n>,
+    notes: String,
+}
+
+impl<'n> NotedFiles<'n> {
+    ghost use Rattle.compose_service_runs.specs.Serving.{AreGivenFiles, AreKeptFiles, AreServiceFiles, kept_path};
     ghost use Rattle.compose_service_runs.specs.ServingFaults.{FailsGiven, FailsKept};
 
     /// Reads the names, the table, the repertoire and the certificate, or the table that is kept.
     fn read<F: Folder>(
         files: &mut ReadOnce<F>,
         alloc: Global,
+        environment: &Environment,
         names: &[&'n str],
         arguments: &ServeArguments<'_>,
-    ) -> Result<ServiceFiles<'n>, Fault>
+    ) -> Result<NotedFiles<'n>, Fault>
         ensures kept { files.new.holds ≡ files.old.holds }
         ensures read { IfOk result
-            (λ read. AreServiceFiles files.old.holds (map (λ name. name.now) names.now)
-            arguments.now.served read) }
+            (λ read. AreServiceFiles files.old.holds environment.now
+            (map (λ name. name.now) names.now) arguments.now.served read) }
         ensures fault { IfErr result
-            (λ fault. FailsServe files.old.holds (map (λ name. name.now) names.now)
+            (λ fault. FailsServe files.old.holds environment.now (map (λ name. name.now) names.now)
             arguments.now.served fault) }
     {
         match arguments.served {
@@ -87,38 +106,44 @@ impl<'n> ServiceFiles<'n> {
                 table,
                 repertoire,
                 certificate,
-            } => ServiceFiles::given(files, alloc, names, table, repertoire, certificate),
-            Served::State { folder } => ServiceFiles::kept(files, alloc, folder),
+            } => {
+                let paths = (repertoire, certificate);
+                NotedFiles::given(files, alloc, environment, names, &table, paths)
+            }
+            Served::State { folder } => NotedFiles::kept(files, alloc, folder),
         }
     }
 
-    /// Reads the names, the table of the manifest, the repertoire and the certificate at these paths.
+    /// Reads the names, the table, and the repertoire and the certificate at these paths.
     fn given<F: Folder>(
         files: &mut ReadOnce<F>,
         alloc: Global,
+        environment: &Environment,
         names: &[&'n str],
-        table: &str,
-        repertoire: &str,
-        certificate: &str,
-    ) -> Result<ServiceFiles<'n>, Fault>
+        table: &TypeTable<'_>,
+        paths: (&str, &str),
+    ) -> Result<NotedFiles<'n>, Fault>
         ensures kept { files.new.holds ≡ files.old.holds }
         ensures read { IfOk result
-            (λ read. AreGivenFiles files.old.holds (map (λ name. name.now) names.now) table.now
-            repertoire.now certificate.now read) }
+            (λ read. AreGivenFiles files.old.holds environment.now (map (λ name. name.now) names.now)
+            table.now paths.entry.0.now paths.entry.1.now read) }
         ensures fault { IfErr result
-            (λ fault. FailsGiven files.old.holds (map (λ name. name.now) names.now) table.now
-            repertoire.now certificate.now fault) }
+            (λ fault. FailsGiven files.old.holds environment.now (map (λ name. name.now) names.now)
+            table.now paths.entry.0.now paths.entry.1.now fault) }
     {
-        let names = NameFiles::read(files, alloc, names)?;
-        let table = TableFiles::listed(files, alloc, "table", table)?;
+        let (repertoire, certificate) = paths;
+        let names = read_names_for(files, alloc, is_file(table), names)?;
+        let noted = read_table(alloc, files, environment, "table", table)?;
         let repertoire = read_text(files, alloc, repertoire)?;
         let certificate = read_text(files, alloc, certificate)?;
-        Ok(ServiceFiles {
+        let NotedTable { table, notes } = noted;
+        let read = ServiceFiles {
             names,
             table,
             repertoire,
             certificate,
-        })
+        };
+        Ok(NotedFiles { read, notes })
     }
 
     /// Reads the table that `update` keeps in the folder at this path, with the names that are built in and an empty repertoire.
@@ -126,7 +151,7 @@ impl<'n> ServiceFiles<'n> {
         files: &mut ReadOnce<F>,
         alloc: Global,
         folder: &str,
-    ) -> Result<ServiceFiles<'n>, Fault>
+    ) -> Result<NotedFiles<'n>, Fault>
         ensures kept { files.new.holds ≡ files.old.holds }
         ensures read { IfOk result
             (λ read. AreKeptFiles files.old.holds (kept_path folder.now) read) }
@@ -138,13 +163,19 @@ impl<'n> ServiceFiles<'n> {
         let path = format!(in alloc; "{folder}/table")?;
         let bytes = read_text(files, alloc, &path)?;
         let kept = kept_bundle(alloc, path, &bytes)?;
-        Ok(ServiceFiles {
+        let read = ServiceFiles {
             names,
             table: kept.table,
             repertoire: Vec::new(alloc),
             certificate: kept.certificate,
-        })
+        };
+        let notes = String::new(alloc);
+        Ok(NotedFiles { read, notes })
     }
+}
+
+impl<'n> ServiceFiles<'n> {
+    ghost use Rattle.compose_service_runs.specs.Serving.{Begins, BeginsAllowing};
 
     /// The service that begins with them, whose loads may list these keysyms alone as fresh, if some are given.
     fn begin_allowing<T: ComposeTable>(
@@ -280,6 +311,26 @@ fn other_paths<'a>(served: &Served<'a>) -> (&'a str, &'a str)
     }
 }
 
+/// Whether a table is given as its Compose file.
+fn is_file(table: &TypeTable<'_>) -> bool
+    ensures { result ≡ words.is_file table.now }
+{
+    match table {
+        TypeTable::Manifest(_) => false,
+        TypeTable::File(_) => true,
+    }
+}
+
+/// Whether a Compose file is served.
+fn is_of_file(served: &Served<'_>) -> bool
+    ensures { result ≡ words.is_of_file served.now }
+{
+    match served {
+        Served::Files { table, .. } => is_file(table),
+        Served::State { .. } => false,
+    }
+}
+
 /// What is answered where no service begins.
 fn start_answer(fault: BeginFault) -> Result<Answer, Refusal>
     ensures { result ≡ words.start_answer fault }
@@ -290,10 +341,19 @@ fn start_answer(fault: BeginFault) -> Result<Answer, Refusal>
     }
 }
 
+/// Whether each faulty line is told, and the keys and places of a `no`: where that is asked for, and of a refusal always where a Compose file is
+/// served.
+fn wants_details(verbose: bool, served: &Served<'_>, answered: &Result<Answer, Refusal>) -> bool
+    ensures { result ≡ words.wants_details verbose served.now answered.now }
+{
+    verbose || (is_of_file(served) && is_refused(answered))
+}
+
 /// The outcome where no service begins with the files, of what is answered then.
 fn start_outcome<T: ComposeTable, F: Folder>(
     alloc: Global,
     files: &mut ReadOnce<F>,
+    environment: &Environment,
     options: Options<'_>,
     arguments: &ServeArguments<'_>,
     key_names: &[&str],
@@ -301,42 +361,24 @@ fn start_outcome<T: ComposeTable, F: Folder>(
 ) -> Result<Outcome, Fault>
     ensures kept { files.new.holds ≡ files.old.holds }
     ensures outcome { IfOk result
-        (λ outcome. IsStartOutcome options.entry.verbose files.old.holds
-        (map (λ name. name.now) options.entry.names.now) arguments.now.served
-        (map (λ name. name.now) key_names.now) answered outcome) }
+        (λ outcome. IsStartOutcome
+        (words.wants_details options.entry.verbose arguments.now.served answered)
+        files.old.holds environment.now (map (λ name. name.now) options.entry.names.now)
+        arguments.now.served (map (λ name. name.now) key_names.now) answered outcome) }
     ensures fault { IfErr result
-        (λ fault. FailsServe files.old.holds (map (λ name. name.now) options.entry.names.now)
-        arguments.now.served fault) }
+        (λ fault. FailsServe files.old.holds environment.now
+        (map (λ name. name.now) options.entry.names.now) arguments.now.served fault) }
 {
-    if options.verbose {
-        detailed_start::<T, F>(alloc, files, options.names, arguments, key_names, answered)
+    if wants_details(options.verbose, &arguments.served, &answered) {
+        let names = options.names;
+        let again = NotedFiles::read(files, alloc, environment, names, arguments)?;
+        Ok(reported_start::<T>(alloc, arguments, key_names, &again.read, answered)?)
     } else {
         Ok(outcome_with(alloc, key_names, answered, String::new(alloc))?)
     }
 }
 
-/// The outcome with each faulty line of the files, which are read again.
-fn detailed_start<T: ComposeTable, F: Folder>(
-    alloc: Global,
-    files: &mut ReadOnce<F>,
-    names: &[&str],
-    arguments: &ServeArguments<'_>,
-    key_names: &[&str],
-    answered: Result<Answer, Refusal>,
-) -> Result<Outcome, Fault>
-    ensures kept { files.new.holds ≡ files.old.holds }
-    ensures outcome { IfOk result
-        (λ outcome. IsStartOutcome true files.old.holds (map (λ name. name.now) names.now)
-        arguments.now.served (map (λ name. name.now) key_names.now) answered outcome) }
-    ensures fault { IfErr result
-        (λ fault. FailsServe files.old.holds (map (λ name. name.now) names.now)
-        arguments.now.served fault) }
-{
-    let read = ServiceFiles::read(files, alloc, names, arguments)?;
-    Ok(reported_start::<T>(alloc, arguments, key_names, &read, answered)?)
-}
-
-/// The outcome with each faulty line of these files.
+/// The outcome with each faulty line of these files, for people where a Compose file is served.
 fn reported_start<T: ComposeTable>(
     alloc: Global,
     arguments: &ServeArguments<'_>,
@@ -358,5 +400,6 @@ fn reported_start<T: ComposeTable>(
         certificate_text: &files.certificate,
         ..listed
     };
-    outcome_of::<T>(alloc, true, &given, answered)
+    let numbered = !is_of_file(&arguments.served);
+    worded_outcome::<T>(alloc, numbered, true, &given, answered)
 }

@@ -1,6 +1,6 @@
 use Rattle.std.proofs.Common.{◌∙◌, ◌++◌, map, ap}
 use Rattle.compose_lint.specs.Lines.{LintLine, all_lines}
-use Rattle.compose_lint.specs.Findings.{when, line_findings, prefix_kinds, comment_kinds, redundant_kinds}
+use Rattle.compose_lint.specs.Findings.{when, line_findings, form_kinds, prefix_kinds, comment_kinds, redundant_kinds}
 use Rattle.compose_lint.specs.declared.finding.Kind.TheVariants.{Comment}
 use Rattle.compose_lint.proofs.OneMore.{one_more}
 use Rattle.compose_lint.proofs.kinds.push_findings.Goals as goal
@@ -17,6 +17,6 @@ loop-line-preserved c =
     ∙ ap (λ ks. ks ++ redundant_kinds included line)
     (c.in_ok-push_when.ensures
     ∙ ap (λ b. c.push_prefix_kinds.new.kinds.items ++ when b Comment) c.has_misplaced_comment-is_misplaced.ensures
-    ∙ ap (λ ks. ks ++ comment_kinds all line) (c.in_ok-push_prefix_kinds.ensures ∙ ap (λ ks. ks ++ prefix_kinds all line) c.in_ok-kinds.ensures)))
+    ∙ ap (λ ks. ks ++ comment_kinds all line) (c.in_ok-push_prefix_kinds.ensures ∙ ap (λ ks. ks ++ prefix_kinds all line) (c.in_ok-push_form_kinds.ensures ∙ ap (λ ks. ks ++ form_kinds all line) c.in_ok-kinds.ensures))))
     ∙ ap (λ (l : LintLine). found ++ each l) c.line-item.is)
     c.loop-line.invariant

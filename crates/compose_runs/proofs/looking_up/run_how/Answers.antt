@@ -10,13 +10,11 @@ pub returns-clause-outcome : goal.returns-clause-outcome
 returns-clause-outcome g c =
     let bytes = option_map (λ held. held.items) c.in_ok-repertoire.repertoire in
     record {
-      read = c.in_ok-read.read;
+      found = c.in_ok-read.read;
       is_read = c.in_ok-read.ensures.read;
       repertoire = bytes;
       is_repertoire = subst (λ f. IsGivenText f (option_copied c.args.arguments.now.repertoire) bytes) c.in_ok-read.ensures.kept c.in_ok-repertoire.ensures.read;
-      answered = c.how_answer-answered.result;
-      is = c.how_answer-answered.ensures;
-      printed = subst (λ t. IsHowOutcome c.args.arguments.now.json c.in_ok-read.read (unwrap_or (option_copied c.args.arguments.now.repertoire) []) t (map (λ word. word.now) c.args.words.now) c.how_answer-answered.result c.in_ok-how_outcome.field-0) c.held_text-text.ensures c.in_ok-how_outcome.ensures;
+      is = c.in_ok-kept_how_outcome.ensures;
     }
 
 pub returns-in_err-read-clause-fault : goal.returns-in_err-read-clause-fault
@@ -32,7 +30,7 @@ returns-in_err-repertoire-clause-fault g c =
     fails (FailsHow c.args.files.now.holds c.args.environment.now (map (λ name. name.now) c.args.names.now) c.args.arguments.now) c.from_residual-in_err-repertoire.result fault is
     (inr (inr ((c.in_ok-read.read, c.in_ok-read.ensures.read), subst (λ f. FailsAccepted f path fault) c.in_ok-read.ensures.kept c.in_err-repertoire.ensures.fault)))
 
-pub returns-in_err-how_outcome-clause-fault : goal.returns-in_err-how_outcome-clause-fault
-returns-in_err-how_outcome-clause-fault g c =
-    let is : c.from_residual-in_err-how_outcome.result ≡ Err NoMemory = search rules in
-    fails (FailsHow c.args.files.now.holds c.args.environment.now (map (λ name. name.now) c.args.names.now) c.args.arguments.now) c.from_residual-in_err-how_outcome.result NoMemory is (inl refl)
+pub returns-in_err-kept_how_outcome-clause-fault : goal.returns-in_err-kept_how_outcome-clause-fault
+returns-in_err-kept_how_outcome-clause-fault g c =
+    let is : c.from_residual-in_err-kept_how_outcome.result ≡ Err NoMemory = search rules in
+    fails (FailsHow c.args.files.now.holds c.args.environment.now (map (λ name. name.now) c.args.names.now) c.args.arguments.now) c.from_residual-in_err-kept_how_outcome.result NoMemory is (inl refl)

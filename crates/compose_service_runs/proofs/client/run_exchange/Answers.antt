@@ -7,7 +7,7 @@ use Rattle.compose_service_runs.proofs.client.run_exchange.Goals as goal
 
 pub returns : goal.returns
 returns g c =
-    let sent = c.args.sent.now in let before = g.P.Peer.turns c.args.peer.now in let replies = c.in_ok-replies.replies.items in
+    let sent = c.args.sent in let before = g.P.Peer.turns c.args.peer.now in let replies = c.in_ok-replies.replies.items in
     record {
       replies = replies;
       turns = c.in_ok-replies.ensures ∙ ap (λ (requests : List Request). then_turns before (turns_of requests replies)) c.deref.ensures.value;
@@ -15,5 +15,7 @@ returns g c =
       is_report =
           c.in_ok-report.ensures
           ∙ (ap (λ (requests : List Request). reported sent.names requests c.deref-3.result.now) c.deref-2.ensures.value ∙ ap (reported sent.names sent.requests.items) c.deref-3.ensures.value);
-      printed = c.in_ok-exchange_outcome.ensures;
+      printed = c.in_ok-printed.printed;
+      is_printed = c.in_ok-printed.ensures;
+      noted = c.with_notes.ensures;
     }

@@ -1,6 +1,6 @@
-use Rattle.std.proofs.Common.{map, [], ◌∷◌}
-use Rattle.std.specs.Prelude.{true}
-use Rattle.compose_report.specs.Outcomes.{IsReported}
+use Rattle.std.proofs.Common.{ap, map, subst, [], ◌∷◌}
+use Rattle.std.specs.Prelude.{not, true}
+use Rattle.compose_report.specs.Outcomes.{IsWorded}
 use Rattle.compose_report.proofs.Results.{ok_map}
 use Rattle.compose_service_runs.specs.Serving.{IsStartReported}
 use Rattle.compose_service_runs.proofs.serving.reported_start.Goals as goal
@@ -10,8 +10,8 @@ returns g c =
     let files = c.args.files.now in let answered = c.args.answered in let paths = c.other_paths in
     let given = record c.of-listed.result { repertoire = paths.result.0; repertoire_text = c.deref.result; certificate = paths.result.1; certificate_text = c.deref-2.result } in
     let parts = c.of-listed.ensures (files.table ∷ files.table ∷ []) (c.of.ensures, (c.of-2.ensures, tt)) in
-    ok_map (IsReported true given answered) (IsStartReported files c.args.arguments.now.served (map (λ name. name.now) c.args.key_names.now) answered) c.outcome_of.result
-    (λ outcome reported. record {
+    ok_map (IsWorded (not c.is_of_file-numbered.result) true given answered) (IsStartReported files c.args.arguments.now.served (map (λ name. name.now) c.args.key_names.now) answered) c.worded_outcome.result
+    (λ outcome worded. record {
       given = given;
       parts = record {
         headers = parts.headers;
@@ -24,5 +24,5 @@ returns g c =
         certificate_text = c.deref-2.ensures.value;
         all = parts.all;
       };
-      reported = reported;
-    }) c.outcome_of.ensures
+      worded = subst (λ numbered. IsWorded numbered true given answered outcome) (ap not c.is_of_file-numbered.ensures) worded;
+    }) c.worded_outcome.ensures

@@ -6,7 +6,7 @@ use Rattle.compose_runs.proofs.Failing.{fails}
 use Rattle.compose_runs.specs.Stored.{IsDamaged}
 use Rattle.compose_service_runs.specs.Serving.{kept_path}
 use Rattle.compose_service_runs.specs.ServingFaults.{FailsKept, place_words}
-use Rattle.compose_service_runs.proofs.serving.ServiceFiles.kept.Goals as goal
+use Rattle.compose_service_runs.proofs.serving.NotedFiles.kept.Goals as goal
 
 pub returns-in_err-bytes-clause-fault : goal.returns-in_err-bytes-clause-fault
 returns-in_err-bytes-clause-fault g c =

@@ -1,0 +1,28 @@
+-- The report of the lines that are left out of tables.
+use Rattle.std.proofs.Common.{◌≡◌, ◌∙◌, ◌+◌, ap, sym, ℕ, List, [], ◌∷◌, ◌++◌, length, append-nil, arith, length-append}
+use Rattle.compose_read.specs.declared.ReadFault.{ReadFault}
+use Rattle.compose_input.specs.declared.tables.TableFiles.{TableFiles}
+use Rattle.compose_skipped.specs.Kept.{skipped_faults}
+use Rattle.compose_skipped.specs.Reported.{Reported, count_line, fault_lines, nothing, report_of, report_text, with_faults}
+
+zero_count : (n : ℕ) → 0 + n ≡ n
+zero_count n = omega arith
+
+-- of two
+pub two_report : (header : List ℕ) (old new : TableFiles)
+    → report_of (with_faults (with_faults nothing old (skipped_faults header old)) new (skipped_faults header new)) ≡ report_text header (old ∷ new ∷ [])
+two_report header old new =
+    let before = skipped_faults header old in let after = skipped_faults header new in let lines = fault_lines old before in
+    ap (λ (count : ℕ). (lines ++ fault_lines new after) ++ count_line (count + length after)) (zero_count (length before))
+    ∙ ap (λ (more : List ℕ). (lines ++ more) ++ count_line (length before + length after)) (sym (append-nil (fault_lines new after)))
+    ∙ ap (λ (count : ℕ). (lines ++ (fault_lines new after ++ [])) ++ count_line count)
+    (sym (length-append before after) ∙ ap (λ (more : List ReadFault). length (before ++ more)) (sym (append-nil after)))
+
+-- the report after both tables are added to one of nothing
+pub two_said : (header : List ℕ) (old new : TableFiles) (first second : List ℕ) (r0 r1 r2 : Reported) (text : List ℕ) → first ≡ header → second ≡ header
+    → r0 ≡ nothing → r1 ≡ with_faults r0 old (skipped_faults first old) → r2 ≡ with_faults r1 new (skipped_faults second new)
+    → text ≡ report_of r2 → text ≡ report_text header (old ∷ new ∷ [])
+two_said header old new first second r0 r1 r2 text is_first is_second at0 at1 at2 said =
+    let before = at1 ∙ (ap (λ (h : List ℕ). with_faults r0 old (skipped_faults h old)) is_first ∙ ap (λ (r : Reported). with_faults r old (skipped_faults header old)) at0) in
+    let after = at2 ∙ (ap (λ (h : List ℕ). with_faults r1 new (skipped_faults h new)) is_second ∙ ap (λ (r : Reported). with_faults r new (skipped_faults header new)) before) in
+    said ∙ (ap report_of after ∙ two_report header old new)

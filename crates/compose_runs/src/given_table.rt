@@ -1,0 +1,90 @@
+//! A table that is given as its manifest or as its Compose file, and the names beside it.
+ghost use Rattle.std.specs.Prelude.{◌≡◌, [], map, IfOk, IfErr, string_bytes};
+ghost use Rattle.compose_input.specs.Faults.{FailNames, FailsListed};
+ghost use Rattle.compose_input.specs.Names.{AreNames};
+ghost use Rattle.compose_runs.specs.GivenTable.{FailsGivenTable, FailsSystemTable, IsGivenTable, IsListedTable, IsSystemTable, names_for};
+
+use crate::differing::read_names;
+use crate::environment::Environment;
+use crate::one_table::{NotedTable, chosen_table, places_of};
+use compose_arguments::{TableArguments, TypeTable};
+use compose_folder::{Folder, ReadOnce};
+use compose_input::{Fault, NameFiles, TableFiles};
+use std::alloc::Global;
+
+/// The files of the table that is given: those that its manifest lists, or those of the Compose file as it lies on the system, with notes on those
+/// that lie outside of its tree of tables. A fault of a source that a manifest lists names this part. O(bytes), and of a Compose file at the cost of
+/// `find_files`.
+pub fn read_table<F: Folder>(
+    alloc: Global,
+    files: &mut ReadOnce<F>,
+    environment: &Environment,
+    part: &'static str,
+    given: &TypeTable<'_>,
+) -> Result<NotedTable, Fault>
+    ensures kept { files.new.holds ≡ files.old.holds }
+    ensures read { IfOk result
+        (λ read. IsGivenTable files.old.holds environment.now given.now read) }
+    ensures fault { IfErr result
+        (λ fault. FailsGivenTable files.old.holds environment.now part.now given.now fault) }
+{
+    match given {
+        TypeTable::Manifest(path) => listed_table(alloc, files, part, path),
+        TypeTable::File(arguments) => system_table(alloc, files, environment, arguments),
+    }
+}
+
+/// The table of the manifest at this path, of which nothing is noted.
+fn listed_table<F: Folder>(
+    alloc: Global,
+    files: &mut ReadOnce<F>,
+    part: &'static str,
+    path: &str,
+) -> Result<NotedTable, Fault>
+    ensures kept { files.new.holds ≡ files.old.holds }
+    ensures read { IfOk result (λ read. IsListedTable files.old.holds path.now read) }
+    ensures fault { IfErr result (λ fault. FailsListed files.old.holds part.now path.now fault) }
+{
+    let table = TableFiles::listed(files, alloc, part, path)?;
+    let notes = String::new(alloc);
+    Ok(NotedTable { table, notes })
+}
+
+/// The table of a Compose file as it lies on the system.
+fn system_table<F: Folder>(
+    alloc: Global,
+    files: &mut ReadOnce<F>,
+    environment: &Environment,
+    arguments: &TableArguments<'_>,
+) -> Result<NotedTable, Fault>
+    ensures kept { files.new.holds ≡ files.old.holds }
+    ensures read { IfOk result
+        (λ read. IsSystemTable files.old.holds environment.now arguments.now read) }
+    ensures fault { IfErr result
+        (λ fault. FailsSystemTable files.old.holds environment.now arguments.now fault) }
+{
+    let places = places_of(environment, arguments)?;
+    chosen_table(alloc, files, environment, places, arguments)
+}
+
+/// The files of names; of Compose files the names that are built in, where none are given. O(bytes).
+pub fn read_names_for<'n, F: Folder>(
+    files: &mut ReadOnce<F>,
+    alloc: Global,
+    are_files: bool,
+    names: &[&'n str],
+) -> Result<NameFiles<'n>, Fault>
+    ensures kept { files.new.holds ≡ files.old.holds }
+    ensures read { IfOk result
+        (λ read. AreNames files.old.holds (names_for are_files (map (λ name. name.now) names.now))
+        read) }
+    ensures fault { IfErr result
+        (λ fault. FailNames files.old.holds (names_for are_files (map (λ name. name.now) names.now))
+        fault) }
+{
+    if are_files {
+        read_names(files, alloc, names)
+    } else {
+        NameFiles::read(files, alloc, names)
+    }
+}

@@ -1,0 +1,140 @@
+//! The report of lines that are left out.
+ghost use Rattle.std.specs.Prelude.{◌≡◌, ◌++◌, flat_map, map, OnOk, string_bytes};
+ghost use Rattle.compose_skipped.specs.Reported as words;
+ghost use Rattle.compose_skipped.specs.Kept as kept_words;
+
+use crate::kept::others_by;
+use compose_input::TableFiles;
+use compose_messages::{FileMessage, fault_position, read_message};
+use compose_read::{ReadFault, Sources};
+use std::alloc::{AllocError, Global};
+use std::fmt::Write;
+use std::marker::Model;
+
+/// The report of lines that are left out: a line for each, and how many they are.
+#[derive(Drop)]
+pub struct Report {
+    lines: String,
+    count: usize,
+}
+
+impl Model for Report {
+    ghost use Rattle.std.specs.Prelude.{string_bytes};
+    ghost use Rattle.compose_skipped.specs.Reported as words;
+
+    ghost Value = { words.Reported };
+
+    ghost view = { λ r. record { lines = string_bytes r.lines; count = r.count } };
+}
+
+impl Report {
+    ghost use Rattle.std.specs.Prelude.{◌≡◌, IfOk, OnOk, string_bytes};
+    ghost use Rattle.compose_skipped.specs.Reported as words;
+    ghost use Rattle.compose_skipped.specs.Kept as kept_words;
+
+    /// No line is left out.
+    pub fn new(alloc: Global) -> Report
+        ensures { result ≡ words.nothing }
+    {
+        Report {
+            lines: String::new(alloc),
+            count: 0,
+        }
+    }
+
+    /// Adds these faults of a table.
+    pub(crate) fn add(&mut self, table: &TableFiles, faults: &[ReadFault]) -> Result<(), AllocError>
+        ensures { OnOk result (self.new ≡ words.with_faults self.old table.now faults.now) }
+    {
+        push_faults(&mut self.lines, &table.sources, &table.paths, faults)?;
+        match self.count.checked_add(faults.len()) {
+            Some(count) => self.count = count,
+            None => return Err(AllocError),
+        }
+        Ok(())
+    }
+
+    /// Adds the faulty lines of a table by the names of this header; none, where the header is refused. O(bytes).
+    pub fn push(
+        &mut self,
+        alloc: Global,
+        header: &[u8],
+        table: &TableFiles,
+    ) -> Result<(), AllocError>
+        ensures { OnOk result
+            (self.new
+            ≡ words.with_faults self.old table.now
+            (kept_words.skipped_faults header.now table.now)) }
+    {
+        match others_by(alloc, header, &table.sources)? {
+            Some(others) => self.add(table, &others.faults),
+            None => self.add(table, &[]),
+        }
+    }
+
+    /// The lines, and a last one that counts them.
+    pub fn into_text(self) -> Result<String, AllocError>
+        ensures { IfOk result (λ text. string_bytes text ≡ words.report_of self) }
+    {
+        let count = self.count;
+        let mut text = self.lines;
+        match count {
+            1 => text.push_str("1 faulty line left out\n")?,
+            _ => writeln!(text, "{count} faulty lines left out")?,
+        }
+        Ok(text)
+    }
+}
+
+/// Adds a line for each of these faults.
+fn push_faults(
+    lines: &mut String,
+    sources: &Sources,
+    paths: &[String],
+    faults: &[ReadFault],
+) -> Result<(), AllocError>
+    ensures { OnOk result
+        (string_bytes lines.new
+        ≡ string_bytes lines.old
+        ++ flat_map (words.skipped_line sources.now (map string_bytes paths.now)) faults.now) }
+{
+    for fault in faults {
+        push_fault(lines, sources, paths, fault)?;
+    }
+    Ok(())
+}
+
+/// Adds the line of a fault.
+fn push_fault(
+    lines: &mut String,
+    sources: &Sources,
+    paths: &[String],
+    fault: &ReadFault,
+) -> Result<(), AllocError>
+    ensures { OnOk result
+        (string_bytes lines.new
+        ≡ string_bytes lines.old
+        ++ words.skipped_line sources.now (map string_bytes paths.now) fault.now) }
+{
+    let message = read_message(sources, fault);
+    let Some((source, position)) = fault_position(sources, fault) else {
+        return Ok(());
+    };
+    let told = FileMessage {
+        path: path_of(paths, source),
+        position: Some(position),
+        message,
+    };
+    writeln!(lines, "{told}")?;
+    Ok(())
+}
+
+/// The path of the file of the source with this index; nothing where there is none.
+fn path_of(paths: &[String], source: usize) -> &str
+    ensures { result.now ≡ words.path_of (map string_bytes paths.now) source }
+{
+    match paths.get(source) {
+        Some(path) => path,
+        None => "",
+    }
+}
