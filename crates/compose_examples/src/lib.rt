@@ -50,6 +50,8 @@ mod paging;
 #[cfg(test)]
 mod places;
 #[cfg(test)]
+mod result_keysyms;
+#[cfg(test)]
 mod rows;
 #[cfg(test)]
 mod sources;

@@ -18,7 +18,7 @@ words_between part = filter is_word (slice_split (λ b. b == 9) part)
 abbrev pub words_in : List ℕ → List (List ℕ)
 words_in line = flat_map words_between (slice_split (λ b. b == 32) line)
 
--- the number of the line that has the key with this index, where each line has so many
+-- the number of the line that has the key with this index, by the number of keys in each line
 abbrev pub line_from : ℕ → List ℕ → ℕ → ℕ
 line_from line [] index = line
 line_from line (count ∷ counts) index = if nat_lt index count then line else line_from (1 + line) counts (index - count)

@@ -46,7 +46,7 @@ fn push_note(
     push_count(notes, &table.path, count)
 }
 
-/// Adds the note on a table at this path of which so many lines are lost.
+/// Adds the note on the table at this path, with the number of its lines that are lost.
 fn push_count(notes: &mut String, path: &str, count: usize) -> Result<(), AllocError>
     ensures { OnOk result
         (string_bytes notes.new ≡ string_bytes notes.old ++ words.count_note path.now count) }

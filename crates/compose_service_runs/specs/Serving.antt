@@ -130,7 +130,7 @@ service_given files served fresh = record (parts_of files.names fresh (files.tab
   certificate_text = files.certificate.items;
 }
 
--- each faulty line is told, and the keys and places of a `no`: where that is asked for, and of a refusal always where a Compose file is served
+-- each faulty line is printed, and the keys and places of a `no`: if that is asked for, and of a refusal always if a Compose file is served
 abbrev pub wants_details : Bool → Served → Result Answer Refusal → Bool
 wants_details verbose served answered = verbose || (is_of_file served && is_refused answered)
 

@@ -219,7 +219,7 @@ fn keys_outcome<T: ComposeTable>(
     worded_outcome::<T>(alloc, !are_files, detailed, &given, Err(refusal))
 }
 
-/// Whether each faulty line of a refusal is told: where that is asked for, and with `--files` always.
+/// Whether each faulty line of a refusal is printed: if that is asked for, and with `--files` always.
 fn tells_lines(verbose: bool, are_files: bool) -> bool
     ensures { result ≡ verbose || are_files }
 {

@@ -341,7 +341,7 @@ fn start_answer(fault: BeginFault) -> Result<Answer, Refusal>
     }
 }
 
-/// Whether each faulty line is told, and the keys and places of a `no`: where that is asked for, and of a refusal always where a Compose file is
+/// Whether each faulty line is printed, and the keys and places of a `no`: if that is asked for, and of a refusal always if a Compose file is
 /// served.
 fn wants_details(verbose: bool, served: &Served<'_>, answered: &Result<Answer, Refusal>) -> bool
     ensures { result ≡ words.wants_details verbose served.now answered.now }
